@@ -1,0 +1,2 @@
+pub mod Automata
+pub mod Bearing

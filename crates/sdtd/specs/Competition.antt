@@ -1,0 +1,61 @@
+-- Document 01, "Competition"; source document 000, definition 4, calls its absence restrained competition.
+use mathlib.Core.Path.{_≡_}
+use mathlib.Core.List.{List, [], _∷_, _++_}
+use Prim.Native.Nat.{ℕ, _+_, _*_, _/_, _%_, _≤_, _<_, min, max}
+use lib.ListN.{length}
+use Rattle.sdtd.specs.Limits.{mostWord}
+use Rattle.sdtd.specs.Schema.{Schema, blockOf, tagOf, Word}
+use Rattle.sdtd.specs.Trim.{Bears, AllBear, Reached}
+
+-- A word of a's automaton over tree-bearing types that begins with w and then j; the rest may be empty.
+pub record GoesOn (S : Schema) (a : ℕ) (w : List ℕ) (j : ℕ) : Type 0 where
+  pub rest : List ℕ
+  pub word : Word (blockOf S a) (w ++ (j ∷ rest))
+  pub bear : AllBear S (w ++ (j ∷ rest))
+
+-- "Types J < K of one tag compete in a reached type A, which bears a tree, after a word beginning w, if A's automaton has words w J u and
+-- w K v over tree-bearing types. w, u and v may be empty."
+pub record Compete (S : Schema) (a : ℕ) (w : List ℕ) (j k : ℕ) : Type 0 where
+  pub reached : Reached S a
+  pub bears : Bears S a
+  pub order : j < k
+  pub one-tag : tagOf S j ≡ tagOf S k
+  pub goes-on-j : GoesOn S a w j
+  pub goes-on-k : GoesOn S a w k
+
+-- two types compete in the type a
+pub record CompeteIn (S : Schema) (a : ℕ) : Type 0 where
+  pub word : List ℕ
+  pub first : ℕ
+  pub second : ℕ
+  pub compete : Compete S a word first second
+
+-- "Is there no competition?" No:
+pub record Competition (S : Schema) : Type 0 where
+  pub type : ℕ
+  pub compete-in : CompeteIn S type
+
+-- "The search goes over unordered pairs of states: for p ≥ q the pair has number p(p+1)/2 + q": the larger state is p.
+abbrev pub pairNumber : ℕ → ℕ → ℕ
+pairNumber s t = max s t * (max s t + 1) / 2 + min s t
+
+-- "The witness has byte A, byte J, byte K, the length n of w in two bytes, low byte first, then w, one byte a type, from byte 5 on."
+abbrev pub witnessBytes : ℕ → ℕ → ℕ → List ℕ → List ℕ
+witnessBytes a j k w = a ∷ j ∷ k ∷ length w % 256 ∷ length w / 256 ∷ w
+
+-- The bytes are a witness of S: "A is the smallest type in which two compete. J, K and w are free as long as they compete in A."
+-- "w has at most 527 types."
+pub record Witness (S : Schema) (bytes : List ℕ) : Type 0 where
+  pub type : ℕ
+  pub first : ℕ
+  pub second : ℕ
+  pub word : List ℕ
+  pub compete : Compete S type word first second
+  pub smallest : (a : ℕ) → CompeteIn S a → type ≤ a
+  pub short : length word ≤ mostWord
+  pub written : bytes ≡ witnessBytes type first second word
+
+-- The schema passes document 01's questions 8 and 9: "Does the root type bear a tree?" "Is there no competition?"
+pub record Accepted (S : Schema) : Type 0 where
+  pub bears : Bears S (S .root)
+  pub no-competition : ¬ Competition S

@@ -1,0 +1,85 @@
+-- Documents: document 01, "Schemas and valid trees", from "The tag stream of a tree" on.
+use mathlib.Core.Path.{_≡_}
+use mathlib.Core.Logic.{_≢_}
+use mathlib.Core.List.{List, [], _∷_, _++_}
+use Prim.Native.Nat.{ℕ, zero, suc}
+use lib.ListN.{getD}
+use Rattle.sdtd.specs.Schema.{Schema}
+use Rattle.sdtd.specs.Tree.{Tree, Forest, node, empty, more, preorder, Typing}
+
+-- One event. The number is a tag; in the stream of a tree over types it is a type.
+pub data Event : Type 0 where
+  opening : ℕ → Event
+  closing : ℕ → Event
+  finish : Event
+
+-- "the opening of its root, the streams of its children in order, the root's closing"
+abbrev mutual
+  pub stream : Tree → List Event
+  stream (node a f) = opening a ∷ (streams f ++ (closing a ∷ []))
+
+  pub streams : Forest → List Event
+  streams empty = []
+  streams (more t f) = stream t ++ streams f
+
+-- "The tag stream of a tree is the opening of its root, the streams of its children in order, the root's closing, and after the whole a
+-- finish." "A document is the tag stream of a tree".
+abbrev pub document : Tree → List Event
+document t = stream t ++ (finish ∷ [])
+
+-- "it is valid if the tree is, and its typings are the tree's"
+pub record Valid (S : Schema) (d : List Event) : Type 0 where
+  pub tree : Tree
+  pub is-document : document tree ≡ d
+  pub typing : Typing S tree
+
+-- how many elements the events open
+abbrev pub openings : List Event → ℕ
+openings [] = 0
+openings (opening g ∷ e) = suc (openings e)
+openings (closing g ∷ e) = openings e
+openings (finish ∷ e) = openings e
+
+-- the types that a document's typing gives its elements, in the order of their openings
+abbrev pub typesOf : {S : Schema} {d : List Event} → Valid S d → List ℕ
+typesOf v = preorder (v .typing .typed)
+
+-- the type that a document's typing gives the element with n openings before its own
+abbrev pub typeAt : {S : Schema} {d : List Event} → Valid S d → ℕ → ℕ
+typeAt v n = getD (typesOf v) n 0
+
+-- "A list of events begins a document if it is the document's first events or the whole of it."
+pub record BeginningOf (e d : List Event) : Type 0 where
+  pub rest : List Event
+  pub splits : d ≡ e ++ rest
+
+-- some valid document, of any depth, begins with the events
+pub record Begins (S : Schema) (e : List Event) : Type 0 where
+  pub whole : List Event
+  pub valid : Valid S whole
+  pub beginning : BeginningOf e whole
+
+-- "Two documents agree in every event through an opening if both are the same list up to and with that opening": an opening of g after e.
+pub record AgreeThrough (e : List Event) (g : ℕ) (d₁ d₂ : List Event) : Type 0 where
+  pub first : BeginningOf (e ++ (opening g ∷ [])) d₁
+  pub second : BeginningOf (e ++ (opening g ∷ [])) d₂
+
+-- "They differ in that element's type if their two typings give the element that it opens different types."
+abbrev pub DifferAt : {S : Schema} {d₁ d₂ : List Event} → List Event → Valid S d₁ → Valid S d₂ → Type 0
+DifferAt e v₁ v₂ = typeAt v₁ (openings e) ≢ typeAt v₂ (openings e)
+
+-- Demand 3: "two valid documents, perhaps the same one, each with a typing, agree in every event through some opening tag and differ in
+-- that element's type".
+pub record Ambiguous (S : Schema) : Type 0 where
+  pub document₁ : List Event
+  pub document₂ : List Event
+  pub valid₁ : Valid S document₁
+  pub valid₂ : Valid S document₂
+  pub before : List Event
+  pub tag : ℕ
+  pub agree : AgreeThrough before tag document₁ document₂
+  pub differ : DifferAt before valid₁ valid₂
+
+-- Demand 3: "the type that every typing of every valid document with that beginning gives there" is j, for an opening of g after e.
+abbrev pub EveryTypingGives : Schema → List Event → ℕ → ℕ → Type 0
+EveryTypingGives S e g j = (d : List Event) (v : Valid S d) → BeginningOf (e ++ (opening g ∷ [])) d → typeAt v (openings e) ≡ j

@@ -1,0 +1,81 @@
+-- Document 01, "A reading": questions 11 to 18 for the events taken and one more, and what a right answer is. Under a schema in which types
+-- compete an opening may have no right answer; under one with no competition each call has exactly one.
+use mathlib.Core.Path.{_≡_}
+use mathlib.Core.List.{List, [], _∷_, _++_, List·Memᴰ, map, tail}
+use Prim.Native.Nat.{ℕ, zero, suc, pred, max, _<_}
+use lib.ListN.{length, getD}
+use Rattle.sdtd.specs.Limits.{mostLevels}
+use Rattle.sdtd.specs.Schema.{Schema, blockOf, Word}
+use Rattle.sdtd.specs.Document.{Event, opening, closing, finish, openings, Valid, typeAt, BeginningOf, Begins, EveryTypingGives}
+use Rattle.sdtd.specs.Answer.{Question, Answer, typed, taken, ask, Ordered}
+
+-- An element that is open after some events: its tag, its place, which is the number of openings before its own, and the places of its
+-- children so far, in order.
+pub record OpenElement : Type 0 where
+  pub tag : ℕ
+  pub place : ℕ
+  pub children : List ℕ
+
+-- the innermost of the open elements has one child more, at the place n
+abbrev pub withChild : ℕ → List OpenElement → List OpenElement
+withChild n [] = []
+withChild n (x ∷ xs) = record { tag = x .tag; place = x .place; children = x .children ++ (n ∷ []) } ∷ xs
+
+-- the elements that are open, innermost first, after n openings, the open elements xs and then the events
+abbrev pub openAfter : ℕ → List OpenElement → List Event → List OpenElement
+openAfter n xs [] = xs
+openAfter n xs (opening g ∷ e) = openAfter (suc n) (record { tag = g; place = n; children = [] } ∷ withChild n xs) e
+openAfter n xs (closing g ∷ e) = openAfter n (tail xs) e
+openAfter n xs (finish ∷ e) = openAfter n xs e
+
+-- the elements that are open after the events, innermost first
+abbrev pub openElements : List Event → List OpenElement
+openElements e = openAfter 0 [] e
+
+-- how many elements are open
+abbrev pub depth : List Event → ℕ
+depth e = length (openElements e)
+
+-- the innermost open element; it is asked for only where one is open
+abbrev pub innermost : List Event → OpenElement
+innermost e = getD (openElements e) 0 (record { tag = 0; place = 0; children = [] })
+
+-- 11: "is the document not yet finished?"
+abbrev pub NotFinished : List Event → Type 0
+NotFinished e = ¬ List·Memᴰ finish e
+
+-- 17: "Do its children form a word of its automaton?", by the types that every typing of every valid document with that beginning gives
+-- the innermost element and its children
+abbrev pub ChildrenFormWord : Schema → List Event → Type 0
+ChildrenFormWord S e =
+    (d : List Event) (v : Valid S d) → BeginningOf e d
+    → Word (blockOf S (typeAt v (innermost e .place))) (map (λ n. typeAt v n) (innermost e .children))
+
+-- 18: "has the root been opened and closed?"
+pub record RootClosed (e : List Event) : Type 0 where
+  pub opened : 0 < openings e
+  pub closed : depth e ≡ 0
+
+-- The questions for the call x after the events e, in order.
+abbrev pub questions : Schema → List Event → Event → List (Question Answer)
+questions S e (opening g) =
+    ask 11 (NotFinished e) ∷ ask 12 (g < S .tags) ∷ ask 13 (Begins S (e ++ (opening g ∷ []))) ∷ ask 14 (depth e < mostLevels) ∷ []
+questions S e (closing g) =
+    ask 11 (NotFinished e) ∷ ask 12 (g < S .tags) ∷ ask 15 (0 < depth e) ∷ ask 16 (innermost e .tag ≡ g) ∷ ask 17 (ChildrenFormWord S e) ∷ []
+questions S e finish = ask 11 (NotFinished e) ∷ ask 18 (RootClosed e) ∷ []
+
+-- An opening of g after e is answered the type that every typing of every valid document with that beginning gives there.
+pub record TypeAnswered (S : Schema) (e : List Event) (g : ℕ) (a : Answer) : Type 0 where
+  pub type : ℕ
+  pub answer : a ≡ typed type
+  pub given : EveryTypingGives S e g type
+
+-- what a call that is taken answers
+abbrev pub TakenAnswer : Schema → List Event → Event → Answer → Type 0
+TakenAnswer S e (opening g) a = TypeAnswered S e g a
+TakenAnswer S e (closing g) a = a ≡ taken
+TakenAnswer S e finish a = a ≡ taken
+
+-- The answer a to the call x after the events e is right.
+abbrev pub Right : Schema → List Event → Event → Answer → Type 0
+Right S e x a = Ordered (questions S e x) (TakenAnswer S e x) a

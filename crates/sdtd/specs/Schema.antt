@@ -1,0 +1,83 @@
+-- Schemas, content automata and their words: document 01, "Schemas and valid trees"; source document 000, definitions 1 and 2.
+use mathlib.Core.List.{List, [], _∷_, List·Memᴰ}
+use Prim.Native.Nat.{ℕ, zero, _+_, _≤_, _<_}
+use lib.ListN.{length, getD}
+use Rattle.sdtd.specs.Limits.{mostTags, mostTypes, mostStates, mostSteps}
+
+-- "steps (from state, type, to state)"
+pub record Step : Type 0 where
+  pub from : ℕ
+  pub by : ℕ
+  pub to : ℕ
+
+-- "Each type has one tag and one content automaton: 1 to 32 states, start state 0, some accepting states, steps".
+-- The list of steps may hold several from one state that carry one type.
+pub record Block : Type 0 where
+  pub tag : ℕ
+  pub states : ℕ
+  pub accepting : List ℕ
+  pub steps : List Step
+
+-- "A schema has 1 to 32 tags, 1 to 64 types and one root type. Both are numbered from 0": a type's number is its place in `blocks`,
+-- and `tags` is the number of tags.
+pub record Schema : Type 0 where
+  pub tags : ℕ
+  pub blocks : List Block
+  pub root : ℕ
+
+-- what stands for the block of a number that is no type: it has no word
+abbrev pub noBlock : Block
+noBlock = record { tag = 0; states = 0; accepting = []; steps = [] }
+
+-- the block of the type a
+abbrev pub blockOf : Schema → ℕ → Block
+blockOf S a = getD (S .blocks) a noBlock
+
+-- the tag of the type a
+abbrev pub tagOf : Schema → ℕ → ℕ
+tagOf S a = (blockOf S a) .tag
+
+-- The types of the list lead, step by step, from the state p to the state q.
+pub data Leads (b : Block) : ℕ → List ℕ → ℕ → Type 0 where
+  stay : {p : ℕ} → Leads b p [] p
+  go : {p j q r : ℕ} {w : List ℕ} → List·Memᴰ (record { from = p; by = j; to = q }) (b .steps) → Leads b q w r → Leads b p (j ∷ w) r
+
+-- The types of w lead from the state p to an accepting state.
+pub record Accepts (b : Block) (p : ℕ) (w : List ℕ) : Type 0 where
+  pub last : ℕ
+  pub leads : Leads b p w last
+  pub accepting : List·Memᴰ last (b .accepting)
+
+-- "A word is a list of types; an automaton's words lead from state 0 to an accepting state."
+abbrev pub Word : Block → List ℕ → Type 0
+Word b w = Accepts b 0 w
+
+-- the number of all steps
+abbrev pub stepsIn : List Block → ℕ
+stepsIn [] = 0
+stepsIn (b ∷ bs) = length (b .steps) + stepsIn bs
+
+-- A step's states are below the state count and its type is below the number of types.
+pub record StepWithin (states types : ℕ) (s : Step) : Type 0 where
+  pub from : s .from < states
+  pub by : s .by < types
+  pub to : s .to < states
+
+-- A type's tag, its state count and its states and steps are inside document 01's limits.
+pub record BlockWithin (S : Schema) (b : Block) : Type 0 where
+  pub tag : b .tag < S .tags
+  pub states-least : 1 ≤ b .states
+  pub states-most : b .states ≤ mostStates
+  pub accepting : (q : ℕ) → List·Memᴰ q (b .accepting) → q < b .states
+  pub steps : (s : Step) → List·Memᴰ s (b .steps) → StepWithin (b .states) (length (S .blocks)) s
+
+-- The schema's part of "are the counts in the schema [..] inside this paper's limits, and is each tag, type and state in their used
+-- entries [..] below its count?"
+pub record WithinLimits (S : Schema) : Type 0 where
+  pub tags-least : 1 ≤ S .tags
+  pub tags-most : S .tags ≤ mostTags
+  pub types-least : 1 ≤ length (S .blocks)
+  pub types-most : length (S .blocks) ≤ mostTypes
+  pub steps-most : stepsIn (S .blocks) ≤ mostSteps
+  pub root : S .root < length (S .blocks)
+  pub blocks : (b : Block) → List·Memᴰ b (S .blocks) → BlockWithin S b

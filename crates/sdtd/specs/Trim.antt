@@ -1,0 +1,63 @@
+-- Document 01, "Trimming". "Useless types stay in the file and keep their numbers": nothing here renumbers.
+use mathlib.Core.Path.{_≡_}
+use mathlib.Core.Logic.{_↔_}
+use mathlib.Core.List.{List, [], _∷_, List·Memᴰ}
+use Prim.Native.Nat.{ℕ}
+use lib.ListN.{length}
+use Rattle.sdtd.specs.Schema.{Step, Schema, blockOf, tagOf, Accepts, Word}
+use Rattle.sdtd.specs.Tree.{Tree, label, IsRoot, Derived}
+use Rattle.sdtd.specs.Document.{Event, Valid, typesOf}
+
+-- "A type bears a tree if some finite tree is typed with it at its root." The field calls such a type productive.
+pub record Bears (S : Schema) (a : ℕ) : Type 0 where
+  pub tree : Tree
+  pub at-root : label tree ≡ a
+  pub derived : Derived S tree
+
+-- every number of the list has the property
+pub data All (P : ℕ → Type 0) : List ℕ → Type 0 where
+  none : All P []
+  both : {j : ℕ} {w : List ℕ} → P j → All P w → All P (j ∷ w)
+
+-- "Only steps by such types count from here on": a list of tree-bearing types
+abbrev pub AllBear : Schema → List ℕ → Type 0
+AllBear S w = All (Bears S) w
+
+-- "A state is live if an accepting state can be reached from it": the state q of the type a.
+pub record Live (S : Schema) (a q : ℕ) : Type 0 where
+  pub word : List ℕ
+  pub accepts : Accepts (blockOf S a) q word
+  pub bear : AllBear S word
+
+-- "A type is reached if it is the root type, or stands in a word of a reached type."
+pub data Reached (S : Schema) : ℕ → Type 0 where
+  root : {a : ℕ} → IsRoot S a → Reached S a
+  child : {a j : ℕ} {w : List ℕ} → Reached S a → Word (blockOf S a) w → AllBear S w → List·Memᴰ j w → Reached S j
+
+-- The type is used: some typing of some valid document gives it to an element.
+pub record Used (S : Schema) (a : ℕ) : Type 0 where
+  pub whole : List Event
+  pub valid : Valid S whole
+  pub given : List·Memᴰ a (typesOf valid)
+
+-- a type whose block trimming keeps
+abbrev pub Useful : Schema → ℕ → Type 0
+Useful S a = Reached S a × Bears S a
+
+-- a step of the type a that trimming keeps: by a tree-bearing type, between live states, in a useful type
+pub record KeptStep (S : Schema) (a : ℕ) (s : Step) : Type 0 where
+  pub given : List·Memᴰ s (blockOf S a .steps)
+  pub useful : Useful S a
+  pub by-bearing : Bears S (s .by)
+  pub from-live : Live S a (s .from)
+  pub to-live : Live S a (s .to)
+
+-- S′ is S trimmed: the same tags, types and root; a block that is unreached or bears no tree is emptied, and of the others just the steps
+-- by tree-bearing types between live states are kept.
+pub record Trimmed (S S′ : Schema) : Type 0 where
+  pub tags : S′ .tags ≡ S .tags
+  pub types : length (S′ .blocks) ≡ length (S .blocks)
+  pub root : S′ .root ≡ S .root
+  pub own-tags : (a : ℕ) → tagOf S′ a ≡ tagOf S a
+  pub accepting : (a q : ℕ) → List·Memᴰ q (blockOf S′ a .accepting) ↔ (List·Memᴰ q (blockOf S a .accepting) × Useful S a)
+  pub steps : (a : ℕ) (s : Step) → List·Memᴰ s (blockOf S′ a .steps) ↔ KeptStep S a s
