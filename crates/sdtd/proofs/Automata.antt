@@ -10,9 +10,9 @@ module _ {P : ℕ → Type 0} where
   all-append none b = b
   all-append (both p a) b = both p (all-append a b)
 
-  pub all-front : (v : List ℕ) {w : List ℕ} → All P (v ++ w) → All P v
-  all-front [] a = none
-  all-front (j ∷ v) (both p a) = both p (all-front v a)
+  pub all-front : (v w : List ℕ) → All P (v ++ w) → All P v
+  all-front [] w a = none
+  all-front (j ∷ v) w (both p a) = both p (all-front v w a)
 
   pub all-back : (v : List ℕ) {w : List ℕ} → All P (v ++ w) → All P w
   all-back [] a = a

@@ -1,0 +1,168 @@
+-- Document 01, "Samples from the boot wall": the starred samples, as schemas and lists of calls, and one statement over the group.
+use mathlib.Core.List.{List, [], _∷_}
+use Prim.Native.Nat.{ℕ}
+use Rattle.sdtd.specs.Schema.{Step, Block, Schema}
+use Rattle.sdtd.specs.Document.{Event, opening, closing, finish}
+use Rattle.sdtd.specs.Trim.{Bears}
+use Rattle.sdtd.specs.Competition.{Witness, Accepted}
+use Rattle.sdtd.specs.Answer.{Answer, refused, typed, taken}
+use Rattle.sdtd.specs.Calls.{Exchange, RightCalls}
+
+-- what a sample says of its schema
+pub data Sample : Type 0 where
+  accepts : Schema → Sample
+  refuses-8 : Schema → Sample
+  refuses-9 : Schema → List ℕ → Sample
+  answers : Schema → List Exchange → Sample
+
+-- accepted; 8; 9 with the witness; accepted, and the calls of the list, from a fresh reading, get these answers
+abbrev pub Holds : Sample → Type 0
+Holds (accepts S) = Accepted S
+Holds (refuses-8 S) = ¬ Bears S (S .root)
+Holds (refuses-9 S bytes) = Bears S (S .root) × Witness S bytes
+Holds (answers S xs) = Accepted S × RightCalls S xs
+
+abbrev pub HoldAll : List Sample → Type 0
+HoldAll [] = Unit
+HoldAll (s ∷ ss) = Holds s × HoldAll ss
+
+abbrev step : ℕ → ℕ → ℕ → Step
+step p j q = record { from = p; by = j; to = q }
+
+-- a type whose only word is the empty one
+abbrev leaf : ℕ → Block
+leaf g = record { tag = g; states = 1; accepting = 0 ∷ []; steps = [] }
+
+abbrev says : Event → Answer → Exchange
+says x a = record { call = x; answer = a }
+
+-- "R above"
+abbrev pub schemaR : Schema
+schemaR =
+    record {
+      tags = 3;
+      blocks =
+          record { tag = 0; states = 2; accepting = 1 ∷ []; steps = step 0 1 0 ∷ step 0 2 1 ∷ step 1 3 1 ∷ [] }
+          ∷ leaf 1 ∷ leaf 2 ∷ leaf 1 ∷ [];
+      root = 0;
+    }
+
+-- 000's schema a → b1 or b2, b1 → c, b2 → d, types numbered in the order a, b1, b2, c, d; the last block is d's
+abbrev choice : Block → Schema
+choice d =
+    record {
+      tags = 4;
+      blocks =
+          record { tag = 0; states = 2; accepting = 1 ∷ []; steps = step 0 1 1 ∷ step 0 2 1 ∷ [] }
+          ∷ record { tag = 1; states = 2; accepting = 1 ∷ []; steps = step 0 3 1 ∷ [] }
+          ∷ record { tag = 1; states = 2; accepting = 1 ∷ []; steps = step 0 4 1 ∷ [] }
+          ∷ leaf 2 ∷ d ∷ [];
+      root = 0;
+    }
+
+abbrev pub schemaChoice : Schema
+schemaChoice = choice (leaf 3)
+
+-- "The same, d without an accepting state"
+abbrev pub schemaNoD : Schema
+schemaNoD = choice (record { tag = 3; states = 1; accepting = []; steps = [] })
+
+-- "Type 0: steps 0-1-1, 0-1-2, 1-2-3, 2-3-3 (from-type-to), accepting 3; types 2 and 3 of one tag, types 1 to 3 leaves"
+abbrev pub schemaTwoWays : Schema
+schemaTwoWays =
+    record {
+      tags = 3;
+      blocks =
+          record { tag = 0; states = 4; accepting = 3 ∷ []; steps = step 0 1 1 ∷ step 0 1 2 ∷ step 1 2 3 ∷ step 2 3 3 ∷ [] }
+          ∷ leaf 1 ∷ leaf 2 ∷ leaf 2 ∷ [];
+      root = 0;
+    }
+
+-- "003's a1(a2 or b1)": types a1, a2, b1 after the root
+abbrev pub schemaTwoTypes : Schema
+schemaTwoTypes =
+    record {
+      tags = 3;
+      blocks =
+          record { tag = 0; states = 3; accepting = 2 ∷ []; steps = step 0 1 1 ∷ step 1 2 2 ∷ step 1 3 2 ∷ [] }
+          ∷ leaf 1 ∷ leaf 1 ∷ leaf 2 ∷ [];
+      root = 0;
+    }
+
+-- "003's (a or b)* a (a or b), one type a tag": types a, b after the root
+abbrev pub schemaLastButOne : Schema
+schemaLastButOne =
+    record {
+      tags = 3;
+      blocks =
+          record {
+            tag = 0;
+            states = 3;
+            accepting = 2 ∷ [];
+            steps = step 0 1 0 ∷ step 0 2 0 ∷ step 0 1 1 ∷ step 1 1 2 ∷ step 1 2 2 ∷ [];
+          }
+          ∷ leaf 1 ∷ leaf 2 ∷ [];
+      root = 0;
+    }
+
+-- "003's a1? b1 (b1 or c1)* a2 c1": types a1, b1, c1, a2 after the root
+abbrev pub schemaOptional : Schema
+schemaOptional =
+    record {
+      tags = 4;
+      blocks =
+          record {
+            tag = 0;
+            states = 5;
+            accepting = 4 ∷ [];
+            steps = step 0 1 1 ∷ step 0 2 2 ∷ step 1 2 2 ∷ step 2 2 2 ∷ step 2 3 2 ∷ step 2 4 3 ∷ step 3 3 4 ∷ [];
+          }
+          ∷ leaf 1 ∷ leaf 2 ∷ leaf 3 ∷ leaf 1 ∷ [];
+      root = 0;
+    }
+
+-- "Type 0 with step 0-0-1, accepting 1"
+abbrev pub schemaEndless : Schema
+schemaEndless =
+    record { tags = 1; blocks = record { tag = 0; states = 2; accepting = 1 ∷ []; steps = step 0 0 1 ∷ [] } ∷ []; root = 0 }
+
+-- The starred samples, in document 01's order. Its children are named by their tags: a, b, c are 1, 2, 3.
+abbrev pub starred : List Sample
+starred =
+    -- "R above: types 0 1 2 3"
+    answers schemaR
+    (says (opening 0) (typed 0)
+    ∷ says (opening 1) (typed 1) ∷ says (closing 1) taken
+    ∷ says (opening 2) (typed 2) ∷ says (closing 2) taken
+    ∷ says (opening 1) (typed 3) ∷ says (closing 1) taken
+    ∷ says (closing 0) taken ∷ says finish taken ∷ []
+    )
+    -- "R, events 21 00 22 00: 17"
+    ∷ answers schemaR (says (opening 0) (typed 0) ∷ says (closing 0) (refused 17) ∷ [])
+    -- "R, a second opening of tag 2: 13"
+    ∷ answers schemaR
+    (says (opening 0) (typed 0) ∷ says (opening 2) (typed 2) ∷ says (closing 2) taken ∷ says (opening 2) (refused 13) ∷ [])
+    -- "9, witness 00 01 02 00 00"
+    ∷ refuses-9 schemaChoice (0 ∷ 1 ∷ 2 ∷ 0 ∷ 0 ∷ [])
+    -- "The same, d without an accepting state: accepted."
+    ∷ accepts schemaNoD
+    -- "9, witness 00 02 03 01 00 01"
+    ∷ refuses-9 schemaTwoWays (0 ∷ 2 ∷ 3 ∷ 1 ∷ 0 ∷ 1 ∷ [])
+    -- "003's a1(a2 or b1): accepted."
+    ∷ accepts schemaTwoTypes
+    -- "accepted; one child a, then closing: 17"
+    ∷ answers schemaLastButOne
+    (says (opening 0) (typed 0) ∷ says (opening 1) (typed 1) ∷ says (closing 1) taken ∷ says (closing 0) (refused 17) ∷ [])
+    -- "children b b c b a c get b1 b1 c1 b1 a2 c1"
+    ∷ answers schemaOptional
+    (says (opening 0) (typed 0)
+    ∷ says (opening 2) (typed 2) ∷ says (closing 2) taken
+    ∷ says (opening 2) (typed 2) ∷ says (closing 2) taken
+    ∷ says (opening 3) (typed 3) ∷ says (closing 3) taken
+    ∷ says (opening 2) (typed 2) ∷ says (closing 2) taken
+    ∷ says (opening 1) (typed 4) ∷ says (closing 1) taken
+    ∷ says (opening 3) (typed 3) ∷ says (closing 3) taken
+    ∷ says (closing 0) taken ∷ says finish taken ∷ []
+    )
+    -- "8"
+    ∷ refuses-8 schemaEndless ∷ []

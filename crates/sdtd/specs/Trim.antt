@@ -59,5 +59,6 @@ pub record Trimmed (S S′ : Schema) : Type 0 where
   pub types : length (S′ .blocks) ≡ length (S .blocks)
   pub root : S′ .root ≡ S .root
   pub own-tags : (a : ℕ) → tagOf S′ a ≡ tagOf S a
+  pub states : (a : ℕ) → blockOf S′ a .states ≡ blockOf S a .states
   pub accepting : (a q : ℕ) → List·Memᴰ q (blockOf S′ a .accepting) ↔ (List·Memᴰ q (blockOf S a .accepting) × Useful S a)
   pub steps : (a : ℕ) (s : Step) → List·Memᴰ s (blockOf S′ a .steps) ↔ KeptStep S a s

@@ -1,0 +1,219 @@
+-- Live states, reached types and reached pairs of states are least fixpoints: a table that is closed under their rules holds all of them,
+-- and one that is sound too holds nothing else.
+use mathlib.Core.Path.{refl, subst}
+use mathlib.Core.Logic.{_↔_}
+use mathlib.Core.List.{List, [], _∷_, _++_, List·Memᴰ, List·Memᴰ·head, Memᴰ·append-right}
+use Prim.Native.Nat.{ℕ}
+use Rattle.sdtd.specs.Schema.{Step, Schema, blockOf, Leads, stay, go, Word}
+use Rattle.sdtd.specs.Tree.{Tree, Forest, node, empty, more, label, labels, IsRoot, Derived, DerivedAll}
+use Rattle.sdtd.specs.Trim.{Bears, All, none, both, AllBear, Live, Reached, root, child}
+use Rattle.sdtd.specs.Competition.{GoesOn}
+use Rattle.sdtd.proofs.Automata.{all-append, all-front, all-back, all-head, all-tail, around, leads-append, accepts-after}
+use Rattle.sdtd.proofs.Automata.{accepts-split, first-step}
+use Rattle.sdtd.proofs.Bearing.{word-bears, bears-word}
+
+-- P holds for each accepting state, and for the state before a step by a type with P at its start state into a state with P.
+pub record LiveClosed (S : Schema) (P : ℕ → ℕ → Type 0) : Type 0 where
+  pub accepting : (a q : ℕ) → List·Memᴰ q (blockOf S a .accepting) → P a q
+  pub step : (a : ℕ) (s : Step) → List·Memᴰ s (blockOf S a .steps) → P (s .by) 0 → P a (s .to) → P a (s .from)
+
+all-map : {P Q : ℕ → Type 0} {w : List ℕ} → ((j : ℕ) → P j → Q j) → All P w → All Q w
+all-map f none = none
+all-map f (both {j = j} p a) = both (f j p) (all-map f a)
+
+module _ {S : Schema} {P : ℕ → ℕ → Type 0} (closed : LiveClosed S P) where
+  -- from the end of a way back to its beginning
+  along : (a : ℕ) {q r : ℕ} {w : List ℕ} → Leads (blockOf S a) q w r → All (λ j. P j 0) w → P a r → P a q
+  along a stay b l = l
+  along a (go {p = p} {j = j} {q = q} s k) (both m b) l = closed .step a (record { from = p; by = j; to = q }) s m (along a k b l)
+
+  -- the start state of each type in a derived tree
+  mutual
+    tree-start : (t : Tree) → Derived S t → P (label t) 0
+    tree-start (node a f) d = along a (d .0 .leads) (forest-start f (d .1)) (closed .accepting a (d .0 .last) (d .0 .accepting))
+
+    forest-start : (f : Forest) → DerivedAll S f → All (λ j. P j 0) (labels f)
+    forest-start empty d = none
+    forest-start (more t f) d = both (tree-start t (d .0)) (forest-start f (d .1))
+
+  bears-start : (a : ℕ) → Bears S a → P a 0
+  bears-start a b = subst (λ (c : ℕ). P c 0) (b .at-root) (tree-start (b .tree) (b .derived))
+
+  -- a closed table has every live state
+  pub live-complete : (a q : ℕ) → Live S a q → P a q
+  live-complete a q l =
+      along a (l .accepts .leads) (all-map bears-start (l .bear)) (closed .accepting a (l .accepts .last) (l .accepts .accepting))
+
+-- a type bears a tree exactly if its start state is live
+pub bears-live : {S : Schema} {a : ℕ} → Bears S a ↔ Live S a 0
+bears-live {a = a} = (
+  λ b. let w = bears-word b in record { word = w .word; accepts = w .is-word; bear = w .bear },
+  λ l. word-bears a (l .accepts) (l .bear),
+)
+
+-- the live states are closed
+pub live-closed : {S : Schema} → LiveClosed S (Live S)
+live-closed =
+    record {
+      accepting = λ a q m. record { word = []; accepts = record { last = q; leads = stay; accepting = m }; bear = none };
+      step =
+          λ a s m b l.
+          record { word = s .by ∷ l .word; accepts = accepts-after (go m stay) (l .accepts); bear = both (bears-live .1 b) (l .bear) };
+    }
+
+-- a sound and closed table has exactly the live states
+pub live-exact : {S : Schema} {P : ℕ → ℕ → Type 0} → LiveClosed S P → ((a q : ℕ) → P a q → Live S a q) → (a q : ℕ) → Live S a q ↔ P a q
+live-exact closed sound a q = (live-complete closed a q, sound a q)
+
+-- a sound and closed table has exactly the start states of the tree-bearing types
+pub bears-exact : {S : Schema} {P : ℕ → ℕ → Type 0} → LiveClosed S P → ((a q : ℕ) → P a q → Live S a q) → (a : ℕ) → Bears S a ↔ P a 0
+bears-exact closed sound a = (λ b. live-complete closed a 0 (bears-live .0 b), λ p. bears-live .1 (sound a 0 p))
+
+-- The state p of the type a is reached over tree-bearing types.
+pub record Forward (S : Schema) (a p : ℕ) : Type 0 where
+  pub word : List ℕ
+  pub leads : Leads (blockOf S a) 0 word p
+  pub bear : AllBear S word
+
+-- A step by the tree-bearing type j into a live state, after the word w.
+pub record Passes (S : Schema) (a : ℕ) (w : List ℕ) (j : ℕ) : Type 0 where
+  pub from : ℕ
+  pub to : ℕ
+  pub leads : Leads (blockOf S a) 0 w from
+  pub bear : AllBear S w
+  pub step : List·Memᴰ (record { from = from; by = j; to = to }) (blockOf S a .steps)
+  pub by-bearing : Bears S j
+  pub to-live : Live S a to
+
+-- a word over tree-bearing types begins with w and then j exactly if such a step is there
+pub goes-on : {S : Schema} {a j : ℕ} {w : List ℕ} → GoesOn S a w j ↔ Passes S a w j
+goes-on {S} {a} {j} {w} = (passes, joined)
+  where
+    passes : GoesOn S a w j → Passes S a w j
+    passes g =
+        let m = accepts-split w (g .word) in
+        let f = first-step (m .back .leads) in
+        let b = all-back w (g .bear) in
+        record {
+          from = m .middle;
+          to = f .next;
+          leads = m .front;
+          bear = all-front w (j ∷ g .rest) (g .bear);
+          step = f .step;
+          by-bearing = all-head b;
+          to-live =
+              record {
+                word = g .rest;
+                accepts = record { last = m .back .last; leads = f .back; accepting = m .back .accepting };
+                bear = all-tail b;
+              };
+        }
+
+    joined : Passes S a w j → GoesOn S a w j
+    joined p =
+        record {
+          rest = p .to-live .word;
+          word = accepts-after (p .leads) (accepts-after (go (p .step) stay) (p .to-live .accepts));
+          bear = all-append (p .bear) (both (p .by-bearing) (p .to-live .bear));
+        }
+
+-- P holds for the root type, and for the type of each step in a word over tree-bearing types of a type that has it.
+pub record ReachedClosed (S : Schema) (P : ℕ → Type 0) : Type 0 where
+  pub root : (a : ℕ) → IsRoot S a → P a
+  pub step :
+      (a : ℕ) (s : Step) → P a → List·Memᴰ s (blockOf S a .steps) → Forward S a (s .from) → Bears S (s .by) → Live S a (s .to) → P (s .by)
+
+-- a type in a word over tree-bearing types, with the types before it
+record Within (S : Schema) (a j : ℕ) : Type 0 where
+  front : List ℕ
+  goes : GoesOn S a front j
+
+within : {S : Schema} {a j : ℕ} {w : List ℕ} → Word (blockOf S a) w → AllBear S w → List·Memᴰ j w → Within S a j
+within word bear m =
+    let r = around m in
+    record { front = r .front; goes = record { rest = r .back; word = rw (r .splits) at word; bear = rw (r .splits) at bear } }
+
+-- a closed table has every reached type
+pub reached-complete : {S : Schema} {P : ℕ → Type 0} → ReachedClosed S P → (a : ℕ) → Reached S a → P a
+reached-complete closed a (root e) = closed .root a e
+reached-complete closed j (child {a = a} r word bear m) =
+    let i = within word bear m in
+    let p = goes-on .0 (i .goes) in
+    closed .step a (record { from = p .from; by = j; to = p .to }) (reached-complete closed a r) (p .step)
+    (record { word = i .front; leads = p .leads; bear = p .bear }) (p .by-bearing) (p .to-live)
+
+passed : {S : Schema} {a j : ℕ} {w : List ℕ} → Reached S a → Passes S a w j → Reached S j
+passed {w = w} r p =
+    let g = goes-on .1 p in
+    child r (g .word) (g .bear) (Memᴰ·append-right w (List·Memᴰ·head refl))
+
+-- the reached types are closed
+pub reached-closed : {S : Schema} → ReachedClosed S (Reached S)
+reached-closed =
+    record {
+      root = λ a e. root e;
+      step =
+          λ a s r m f b l.
+          passed r (record { from = s .from; to = s .to; leads = f .leads; bear = f .bear; step = m; by-bearing = b; to-live = l });
+    }
+
+-- a sound and closed table has exactly the reached types
+pub reached-exact : {S : Schema} {P : ℕ → Type 0} → ReachedClosed S P → ((a : ℕ) → P a → Reached S a) → (a : ℕ) → Reached S a ↔ P a
+reached-exact closed sound a = (reached-complete closed a, sound a)
+
+-- One word over tree-bearing types leads from the start state of a both to p and to q.
+pub record PairReached (S : Schema) (a p q : ℕ) : Type 0 where
+  pub word : List ℕ
+  pub left : Leads (blockOf S a) 0 word p
+  pub right : Leads (blockOf S a) 0 word q
+  pub bear : AllBear S word
+
+-- P holds for the start state twice, and after two steps by one tree-bearing type from a pair that has it.
+pub record PairClosed (S : Schema) (a : ℕ) (P : ℕ → ℕ → Type 0) : Type 0 where
+  pub start : P 0 0
+  pub step :
+      (p q j p′ q′ : ℕ) → P p q → List·Memᴰ (record { from = p; by = j; to = p′ }) (blockOf S a .steps)
+      → List·Memᴰ (record { from = q; by = j; to = q′ }) (blockOf S a .steps) → Bears S j → P p′ q′
+
+module _ {S : Schema} {a : ℕ} {P : ℕ → ℕ → Type 0} (closed : PairClosed S a P) where
+  pair-along :
+      {p q r s : ℕ} {w : List ℕ} → Leads (blockOf S a) p w r → Leads (blockOf S a) q w s → AllBear S w → P p q → P r s
+  pair-along stay stay b h = h
+  pair-along (go {p = p} {j = j} {q = p′} m l) (go {p = q} {q = q′} n k) (both b c) h =
+      pair-along l k c (closed .step p q j p′ q′ h m n b)
+
+  -- a closed table has every reached pair
+  pub pair-complete : (p q : ℕ) → PairReached S a p q → P p q
+  pair-complete p q r = pair-along (r .left) (r .right) (r .bear) (closed .start)
+
+-- the reached pairs are closed
+pub pair-closed : {S : Schema} {a : ℕ} → PairClosed S a (PairReached S a)
+pair-closed =
+    record {
+      start = record { word = []; left = stay; right = stay; bear = none };
+      step =
+          λ p q j p′ q′ r m n b.
+          record {
+            word = r .word ++ (j ∷ []);
+            left = leads-append (r .left) (go m stay);
+            right = leads-append (r .right) (go n stay);
+            bear = all-append (r .bear) (both b none);
+          };
+    }
+
+-- a sound and closed table has exactly the reached pairs
+pub pair-exact :
+    {S : Schema} {a : ℕ} {P : ℕ → ℕ → Type 0} → PairClosed S a P → ((p q : ℕ) → P p q → PairReached S a p q)
+    → (p q : ℕ) → PairReached S a p q ↔ P p q
+pair-exact closed sound p q = (pair-complete closed p q, sound p q)
+
+-- pairs are unordered
+pub pair-swap : {S : Schema} {a p q : ℕ} → PairReached S a p q → PairReached S a q p
+pair-swap r = record { word = r .word; left = r .right; right = r .left; bear = r .bear }
+
+-- a state is reached exactly if its pair with itself is
+pub forward-pair : {S : Schema} {a p : ℕ} → Forward S a p ↔ PairReached S a p p
+forward-pair = (
+  λ f. record { word = f .word; left = f .leads; right = f .leads; bear = f .bear },
+  λ r. record { word = r .word; leads = r .left; bear = r .bear },
+)

@@ -1,0 +1,175 @@
+-- Following: a typed reading of some events, and any typed document whose tags begin with them: either types compete, or the document's
+-- typed events begin with that very reading.
+use mathlib.Core.Path.{_≡_, refl, sym, ap, subst, _∙_}
+use mathlib.Core.Logic.{_≢_, _⊎_, inl, inr, ⊎-elim}
+use mathlib.Core.List.{List, [], _∷_, _++_, append-assoc, cons≢nil, nil≢cons, head-eq-of-cons-eq, tail-eq-of-cons-eq, List·Memᴰ, Memᴰ·append-right}
+use mathlib.Core.List.{List·Memᴰ·head}
+use Prim.Native.Nat.{ℕ, _<_}
+use native.Mathlib.Omega.{arith}
+use native.Mathlib.Decide.{ℕ-discrete, decLt}
+use Rattle.sdtd.specs.Schema.{Schema, tagOf, Word}
+use Rattle.sdtd.specs.Tree.{labels}
+use Rattle.sdtd.specs.Document.{Event, opening, closing, finish}
+use Rattle.sdtd.specs.Trim.{Bears, All, none, both, AllBear, Reached, root, child}
+use Rattle.sdtd.specs.Competition.{GoesOn, Compete, Competition}
+use Rattle.sdtd.proofs.Automata.{all-append, all-back, all-head, all-tail}
+use Rattle.sdtd.proofs.Bearing.{grow, forest-bears, word-bears, bears-word}
+use Rattle.sdtd.proofs.Trees.{relabelEvent}
+use Rattle.sdtd.proofs.Machine.{Owner, top, own, content, Frame, frame, Moves, opens, closes, ends, Run, halt, move, run-append, word-is-root}
+use Rattle.sdtd.proofs.Machine.{Future, Suspended, outer, inner, run-suspended}
+use Rattle.sdtd.proofs.Typed.{tagged}
+
+-- the type j can come next after the children w: a word goes on with it, over tree-bearing types
+pub record Candidate (S : Schema) (o : Owner) (w : List ℕ) (j : ℕ) : Type 0 where
+  pub rest : List ℕ
+  pub word : Word (content S o) (w ++ (j ∷ rest))
+  pub bears : Bears S j
+  pub bear : AllBear S rest
+
+future-candidate : {S : Schema} {o : Owner} {w : List ℕ} {j : ℕ} → Future S (own j) [] → Future S o (w ++ (j ∷ [])) → Candidate S o w j
+future-candidate {S} {j = j} f g =
+    record {
+      rest = labels (g .forest);
+      word = rw append-assoc at (g .word);
+      bears = word-bears j (f .word) (forest-bears (f .forest) (f .derived));
+      bear = forest-bears (g .forest) (g .derived);
+    }
+
+pub suspended-candidate : {S : Schema} {o : Owner} {w : List ℕ} {fs : List Frame} {j : ℕ}
+    → Suspended S (frame (own j) [] ∷ frame o (w ++ (j ∷ [])) ∷ fs) → Candidate S o w j
+suspended-candidate (inner f (outer g)) = future-candidate f g
+suspended-candidate (inner f (inner g s)) = future-candidate f g
+
+pub candidate-future : {S : Schema} {o : Owner} {w : List ℕ} {j : ℕ} → Candidate S o w j → Future S o (w ++ (j ∷ []))
+candidate-future {S} {o} {w} {j} c =
+    let g = grow (c .bear) in
+    record { forest = g .forest; derived = g .derived; word = rw (append-assoc, g .at-roots) (c .word) }
+
+pub bears-future : {S : Schema} {j : ℕ} → Bears S j → Future S (own j) []
+bears-future {S} {j} b =
+    let x = bears-word b in
+    let g = grow (x .bear) in
+    record { forest = g .forest; derived = g .derived; word = rw (g .at-roots) (x .is-word) }
+
+-- a document that can be ended after w can also be ended after an opening of a candidate
+pub candidate-suspended : {S : Schema} {o : Owner} {w : List ℕ} {fs : List Frame} {j : ℕ} → Suspended S (frame o w ∷ fs) → Candidate S o w j
+    → Suspended S (frame (own j) [] ∷ frame o (w ++ (j ∷ [])) ∷ fs)
+candidate-suspended (outer f) c = inner (bears-future (c .bears)) (outer (candidate-future c))
+candidate-suspended (inner f s) c = inner (bears-future (c .bears)) (inner (candidate-future c) s)
+
+-- the owner is the outside or of a reached type
+abbrev pub Origin : Schema → Owner → Type 0
+Origin S top = Unit
+Origin S (own a) = Reached S a
+
+-- the owners are reached and their children so far bear trees
+pub data Grown (S : Schema) : List Frame → Type 0 where
+  grown-none : Grown S []
+  grown : {o : Owner} {w : List ℕ} {fs : List Frame} → Origin S o → AllBear S w → Grown S fs → Grown S (frame o w ∷ fs)
+
+-- the outside's only candidate is the root type, before any child
+pub root-candidate : {S : Schema} {w : List ℕ} {j : ℕ} → Candidate S top w j → (w ≡ []) × (j ≡ S .root)
+root-candidate {S} {w} {j} c = before w (word-is-root S (c .word))
+  where
+    before : (v : List ℕ) → v ++ (j ∷ c .rest) ≡ S .root ∷ [] → (v ≡ []) × (j ≡ S .root)
+    before [] e = (refl, head-eq-of-cons-eq e)
+    before (x ∷ []) e = absurd (cons≢nil (tail-eq-of-cons-eq e))
+    before (x ∷ y ∷ v) e = absurd (cons≢nil (tail-eq-of-cons-eq e))
+
+candidate-reached : {S : Schema} (o : Owner) {w : List ℕ} {j : ℕ} → Origin S o → AllBear S w → Candidate S o w j → Reached S j
+candidate-reached top r b c = root (root-candidate c .1)
+candidate-reached (own a) {w} r b c = child r (c .word) (all-append b (both (c .bears) (c .bear))) (Memᴰ·append-right w (List·Memᴰ·head refl))
+
+pub grown-move : {S : Schema} {fs fs′ : List Frame} {x : Event} → Grown S fs → Moves S fs x fs′ → Suspended S fs′ → Grown S fs′
+grown-move (grown {o = o} r b g) opens s =
+    let c = suspended-candidate s in
+    grown (candidate-reached o r b c) none (grown r (all-append b (both (c .bears) none)) g)
+grown-move (grown r b g) (closes w) s = g
+grown-move (grown r b g) (ends w) s = g
+
+pub candidate-goes-on : {S : Schema} {a : ℕ} {w : List ℕ} {j : ℕ} → AllBear S w → Candidate S (own a) w j → GoesOn S a w j
+candidate-goes-on b c = record { rest = c .rest; word = c .word; bear = all-append b (both (c .bears) (c .bear)) }
+
+pub goes-on-candidate : {S : Schema} {a : ℕ} {w : List ℕ} {j : ℕ} → GoesOn S a w j → Candidate S (own a) w j
+goes-on-candidate {w = w} g =
+    let b = all-back w (g .bear) in
+    record { rest = g .rest; word = g .word; bears = all-head b; bear = all-tail b }
+
+in-order : {S : Schema} {a : ℕ} {w : List ℕ} {j k : ℕ} → Reached S a → AllBear S w → Candidate S (own a) w j → Candidate S (own a) w k
+    → tagOf S j ≡ tagOf S k → j < k → Competition S
+in-order {a = a} {w = w} {j = j} {k = k} r b c d e l =
+    let x = candidate-goes-on b c in
+    record {
+      type = a;
+      compete-in =
+          record {
+            word = w;
+            first = j;
+            second = k;
+            compete =
+                record {
+                  reached = r;
+                  bears = word-bears a (x .word) (x .bear);
+                  order = l;
+                  one-tag = e;
+                  goes-on-j = x;
+                  goes-on-k = candidate-goes-on b d;
+                };
+          };
+    }
+
+-- Two candidates of one tag at one place are the same, or types compete.
+pub one-candidate : {S : Schema} (o : Owner) {w : List ℕ} {j k : ℕ} → Origin S o → AllBear S w → Candidate S o w j → Candidate S o w k
+    → tagOf S j ≡ tagOf S k → Competition S ⊎ (j ≡ k)
+one-candidate top r b c d e = inr (root-candidate c .1 ∙ sym (root-candidate d .1))
+one-candidate {S} (own a) {w} {j} {k} r b c d e = by-order (decLt j k) (decLt k j)
+  where
+    by-order : Dec (j < k) → Dec (k < j) → Competition S ⊎ (j ≡ k)
+    by-order (yes l) g = inl (in-order r b c d e l)
+    by-order (no n) (yes g) = inl (in-order r b d c (sym e) g)
+    by-order (no n) (no m) = inr (omega arith)
+
+-- two moves from the same frames are the same
+record SameMove (x y : Event) (fs gs : List Frame) : Type 0 where
+  event : x ≡ y
+  frames : fs ≡ gs
+
+-- Two moves whose tags are the same, each with a way to the end, are the same, or types compete.
+same-move : {S : Schema} {fs fs₁ fs₂ : List Frame} {x y : Event} → Grown S fs → Moves S fs x fs₁ → Suspended S fs₁ → Moves S fs y fs₂ → Suspended S fs₂
+    → relabelEvent (tagOf S) x ≡ relabelEvent (tagOf S) y → Competition S ⊎ SameMove x y fs₁ fs₂
+same-move (grown {o = o} {w = w} {fs = fs} r b g) (opens {a = j}) s (opens {a = k}) t e =
+    ⊎-elim
+    (λ c. inl c)
+    (λ p. inr (record { event = λ i. opening (p i); frames = λ i. frame (own (p i)) [] ∷ frame o (w ++ (p i ∷ [])) ∷ fs }))
+    (one-candidate o r b (suspended-candidate s) (suspended-candidate t) (cc))
+same-move (grown r b g) opens s (closes w) t e = let z : _≡_ {A = ℕ} 0 1 = cc in absurd (omega arith)
+same-move (grown r b g) opens s (ends w) t e = let z : _≡_ {A = ℕ} 0 1 = cc in absurd (omega arith)
+same-move (grown r b g) (closes v) s opens t e = let z : _≡_ {A = ℕ} 0 1 = cc in absurd (omega arith)
+same-move (grown r b g) (closes v) s (closes w) t e = inr (record { event = refl; frames = refl })
+same-move (grown r b g) (ends v) s opens t e = let z : _≡_ {A = ℕ} 0 1 = cc in absurd (omega arith)
+same-move (grown r b g) (ends v) s (ends w) t e = inr (record { event = refl; frames = refl })
+
+-- the typed events τ₂ begin with τ and go on from the frames fs
+pub record Follows (S : Schema) (τ τ₂ : List Event) (fs : List Frame) : Type 0 where
+  pub rest : List Event
+  pub splits : τ₂ ≡ τ ++ rest
+  pub run : Run S fs rest []
+
+pub follow : {S : Schema} {fs fs′ : List Frame} {τ ρ τ₂ : List Event} → Run S fs τ fs′ → Run S fs′ ρ [] → Grown S fs → Run S fs τ₂ []
+    → (r : List Event) → tagged S τ ++ r ≡ tagged S τ₂ → Competition S ⊎ Follows S τ τ₂ fs′
+follow {τ₂ = τ₂} halt k g l r e = inr (record { rest = τ₂; splits = refl; run = l })
+follow (move m h) k g halt r e = absurd (cons≢nil e)
+follow {S} (move {fs′ = gs} {fs″ = hs} {x = x} {τ = τ} m h) k g (move {fs′ = ks} {x = y} {τ = σ} n l) r e =
+    let s = run-suspended (run-append h k) .suspended in
+    ⊎-elim
+    (λ c. inl c)
+    (λ (p : SameMove x y gs ks).
+    ⊎-elim
+    (λ c. inl c)
+    (λ (q : Follows S τ σ hs). inr (record { rest = q .rest; splits = λ i. sym (p .event) i ∷ q .splits i; run = q .run }))
+    (follow h k (grown-move g m s) (subst (λ (zs : List Frame). Run S zs σ []) (sym (p .frames)) l) r (tail-eq-of-cons-eq e)))
+    (same-move g m s n (run-suspended l .suspended) (head-eq-of-cons-eq e))
+
+pub grown-run : {S : Schema} {fs fs′ : List Frame} {τ ρ : List Event} → Run S fs τ fs′ → Run S fs′ ρ [] → Grown S fs → Grown S fs′
+grown-run halt k g = g
+grown-run (move m h) k g = grown-run h k (grown-move g m (run-suspended (run-append h k) .suspended))
