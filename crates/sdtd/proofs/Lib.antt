@@ -1,3 +1,4 @@
+-- The theory, from the bottom up.
 pub mod Automata
 pub mod Bearing
 pub mod Fixpoint
@@ -13,9 +14,13 @@ pub mod Follow
 pub mod Position
 pub mod Unique
 pub mod Next
+pub mod Ambiguity
 pub mod Elements
 pub mod Questions
 pub mod Answers
 pub mod Depth
 pub mod Calls
-pub mod Ambiguity
+pub mod Tests
+pub mod Decide
+pub mod Candidates
+pub mod SampleSchemas
