@@ -24,7 +24,7 @@ use Rattle.sdtd.proofs.Unique.{one-typing}
 use Rattle.sdtd.proofs.Questions.{TagsBelow, begins-unfinished, opening-tag, closing-begins, finish-begins, finish-whole}
 
 -- The property holds of each call and the events taken before it, where e are taken before the list.
-abbrev Each : (List Event → Exchange → Type 0) → List Event → List Exchange → Type 0
+abbrev pub Each : (List Event → Exchange → Type 0) → List Event → List Exchange → Type 0
 Each P e [] = Unit
 Each P e (x ∷ xs) = P e x × Each P (e ++ ifTaken (x .answer) (x .call)) xs
 
@@ -32,7 +32,7 @@ Each P e (x ∷ xs) = P e x × Each P (e ++ ifTaken (x .answer) (x .call)) xs
 abbrev AtEachPlace : (List Event → Exchange → Type 0) → List Event → List Exchange → Type 0
 AtEachPlace P e xs = (before after : List Exchange) (x : Exchange) → xs ≡ before ++ (x ∷ after) → P (e ++ eventsTaken before) x
 
-each-of-places : (P : List Event → Exchange → Type 0) (e : List Event) (xs : List Exchange) → AtEachPlace P e xs → Each P e xs
+pub each-of-places : (P : List Event → Exchange → Type 0) (e : List Event) (xs : List Exchange) → AtEachPlace P e xs → Each P e xs
 each-of-places P e [] h = tt
 each-of-places P e (x ∷ xs) h =
     let here : P e x = rw append-nil at (h [] xs x refl) in
@@ -43,7 +43,7 @@ place-of-each : (P : List Event → Exchange → Type 0) (e : List Event) (befor
 place-of-each P e [] after x c = rw append-nil (c .0)
 place-of-each P e (y ∷ before) after x c = rw append-assoc at (place-of-each P _ before after x (c .1))
 
-places-of-each : (P : List Event → Exchange → Type 0) (e : List Event) (xs : List Exchange) → Each P e xs → AtEachPlace P e xs
+pub places-of-each : (P : List Event → Exchange → Type 0) (e : List Event) (xs : List Exchange) → Each P e xs → AtEachPlace P e xs
 places-of-each P e xs c before after x p = place-of-each P e before after x (subst (Each P e) p c)
 
 -- An answer that is no refusal from 11 on refuses no question.
@@ -164,7 +164,7 @@ module _ {S : Schema} (no-competition : ¬ Competition S) (below : TagsBelow S) 
       }
 
 -- the answer of the call is right after the events taken before it
-abbrev RightAt : Schema → List Event → Exchange → Type 0
+abbrev pub RightAt : Schema → List Event → Exchange → Type 0
 RightAt S e x = Right S e (x .call) (x .answer)
 
 abbrev MeetsAt : Schema → List Event → Exchange → Type 0

@@ -24,3 +24,5 @@ pub mod Tests
 pub mod Decide
 pub mod Candidates
 pub mod SampleSchemas
+pub mod Model
+pub mod Samples

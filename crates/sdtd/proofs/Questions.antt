@@ -75,7 +75,7 @@ last-move {S} e x b =
     let t = run-split (c .front) (subst (λ (τ : List Event). Run S start τ (position b .frames)) (c .splits) (p .run)) in
     one-move (c .back) (t .front) (c .front-tags) (t .back) (c .back-tags) (p .suspended)
 
-position-unfinished : {S : Schema} {e : List Event} {f : Frame} {fs : List Frame} → Position S e (f ∷ fs) → NotFinished e
+pub position-unfinished : {S : Schema} {e : List Event} {f : Frame} {fs : List Frame} → Position S e (f ∷ fs) → NotFinished e
 position-unfinished p = subst NotFinished (p .tags) (run-unfinished (p .run))
 
 -- Whatever comes next, the document is not yet finished.
@@ -106,17 +106,17 @@ elements-of {S} {e} {fs} p n {ts} r q =
     (λ m. ⊎-elim (λ x. x) (λ f. absurd (m (f .0))) (elements-run [] r (p .run) q outside)) n
 
 -- what the innermost open element is where the innermost frame is an element's
-record Innermost (S : Schema) (ts : List ℕ) (xs : List OpenElement) (a : ℕ) (w : List ℕ) : Type 0 where
-  is-open : 0 < length xs
-  tag : getD xs 0 (record { tag = 0; place = 0; children = [] }) .tag ≡ tagOf S a
-  type : getD ts (getD xs 0 (record { tag = 0; place = 0; children = [] }) .place) 0 ≡ a
-  children : map (λ (n : ℕ). getD ts n 0) (getD xs 0 (record { tag = 0; place = 0; children = [] }) .children) ≡ w
+pub record Innermost (S : Schema) (ts : List ℕ) (xs : List OpenElement) (a : ℕ) (w : List ℕ) : Type 0 where
+  pub is-open : 0 < length xs
+  pub tag : getD xs 0 (record { tag = 0; place = 0; children = [] }) .tag ≡ tagOf S a
+  pub type : getD ts (getD xs 0 (record { tag = 0; place = 0; children = [] }) .place) 0 ≡ a
+  pub children : map (λ (n : ℕ). getD ts n 0) (getD xs 0 (record { tag = 0; place = 0; children = [] }) .children) ≡ w
 
-innermost-of : {S : Schema} {ts : List ℕ} {xs : List OpenElement} {a : ℕ} {w : List ℕ} {fs : List Frame} → Elements S ts xs (frame (own a) w ∷ fs)
+pub innermost-of : {S : Schema} {ts : List ℕ} {xs : List OpenElement} {a : ℕ} {w : List ℕ} {fs : List Frame} → Elements S ts xs (frame (own a) w ∷ fs)
     → Innermost S ts xs a w
 innermost-of (element g t c m) = record { is-open = omega arith; tag = g; type = t; children = c }
 
-nothing-open : {S : Schema} {ts : List ℕ} {xs : List OpenElement} {w : List ℕ} {fs : List Frame} → Elements S ts xs (frame top w ∷ fs) → xs ≡ []
+pub nothing-open : {S : Schema} {ts : List ℕ} {xs : List OpenElement} {w : List ℕ} {fs : List Frame} → Elements S ts xs (frame top w ∷ fs) → xs ≡ []
 nothing-open outside = refl
 
 -- Question 17, by the types of the innermost frame.
@@ -143,7 +143,7 @@ pub record ClosingAsked (S : Schema) (e : List Event) (g : ℕ) : Type 0 where
   pub word : ChildrenFormWord S e
 
 -- the types that the position itself gives
-own-elements : {S : Schema} {e : List Event} {fs : List Frame} (p : Position S e fs) → NotFinished e → Elements S (opened (p .events)) (openElements e) fs
+pub own-elements : {S : Schema} {e : List Event} {fs : List Frame} (p : Position S e fs) → NotFinished e → Elements S (opened (p .events)) (openElements e) fs
 own-elements p n = elements-of p n [] (sym (append-nil (opened (p .events))))
 
 asked-begins : {S : Schema} → ¬ Competition S → {e : List Event} {g : ℕ} {fs : List Frame} {ts : List ℕ} {xs : List OpenElement} → Elements S ts xs fs

@@ -3,8 +3,8 @@ use mathlib.Core.Path.{_≡_, refl, sym, subst}
 use mathlib.Core.Logic.{_↔_, _⊎_, inl, inr, ⊎-elim}
 use mathlib.Core.Bool.{Bool, true, false, _&&_, _||_}
 use mathlib.Core.List.{List, [], _∷_, List·Memᴰ, List·Memᴰ·head, List·Memᴰ·tail, List·Memᴰ·cases-cons, List·Memᴰ·not-nil, Memᴰ·cast}
-use Prim.Native.Nat.{ℕ}
-use lib.Dec.{T, eqb, eqb→eq, eqb-refl}
+use Prim.Native.Nat.{ℕ, _<_}
+use lib.Dec.{T, eqb, eqb→eq, eqb-refl, ltb, ltb→lt, lt→ltb}
 
 -- The test passes exactly if the statement holds.
 pub record Means (b : Bool) (A : Type 0) : Type 0 where
@@ -19,6 +19,9 @@ itself b = record { says = λ t. t; passes = λ t. t }
 
 pub eq-means : (m n : ℕ) → Means (eqb m n) (m ≡ n)
 eq-means m n = record { says = eqb→eq m n; passes = λ e. subst (λ (k : ℕ). T (eqb m k)) e (eqb-refl m) }
+
+pub lt-means : (m n : ℕ) → Means (ltb m n) (m < n)
+lt-means m n = record { says = ltb→lt m n; passes = lt→ltb m n }
 
 pub and-means : {a b : Bool} {A B : Type 0} → Means a A → Means b B → Means (a && b) (A × B)
 and-means {a = true} m n = record { says = λ t. (m .says tt, n .says t); passes = λ p. n .passes (p .1) }

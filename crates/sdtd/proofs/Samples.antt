@@ -1,0 +1,34 @@
+-- The starred samples of document 01 hold.
+use mathlib.Core.List.{List, []}
+use lib.Dec.{T}
+use Rattle.sdtd.specs.Schema.{Schema}
+use Rattle.sdtd.specs.Competition.{Accepted}
+use Rattle.sdtd.specs.Calls.{Exchange}
+use Rattle.sdtd.specs.Samples.{answers, Holds, HoldAll, starred}
+use Rattle.sdtd.proofs.Machine.{start}
+use Rattle.sdtd.proofs.Decide.{LiveTable, LiveExact}
+use Rattle.sdtd.proofs.Model.{agrees, calls-agree}
+use Rattle.sdtd.proofs.SampleSchemas.{exactR, acceptedR, acceptedNoD, acceptedTwoTypes, exactLastButOne, acceptedLastButOne}
+use Rattle.sdtd.proofs.SampleSchemas.{exactOptional, acceptedOptional, refusedChoice, refusedTwoWays, bearsNoneEndless}
+
+infixr 25 _&_
+_&_ : {A B : Type 0} → A → B → A × B
+a & b = (a, b)
+
+answers-hold : {S : Schema} {L : LiveTable} → Accepted S → LiveExact S L → (xs : List Exchange) → T (agrees S L [] start xs)
+    → Holds (answers S xs)
+answers-hold a x xs t = (a, calls-agree a x xs t)
+
+pub starred-hold : HoldAll starred
+starred-hold =
+    answers-hold acceptedR exactR _ tt
+    & answers-hold acceptedR exactR _ tt
+    & answers-hold acceptedR exactR _ tt
+    & refusedChoice
+    & acceptedNoD
+    & refusedTwoWays
+    & acceptedTwoTypes
+    & answers-hold acceptedLastButOne exactLastButOne _ tt
+    & answers-hold acceptedOptional exactOptional _ tt
+    & bearsNoneEndless
+    & tt
