@@ -6,7 +6,7 @@ use Prim.Native.Nat.{ℕ, suc, _≤_, _<_}
 use native.Mathlib.Nat.{add-zero}
 use native.Mathlib.Omega.{arith}
 use lib.ListN.{length, drop}
-use lib.Seq.{drop-cons, drop-length}
+use lib.Seq.{drop-cons}
 use Rattle.sdtd.specs.Limits.{mostLevels}
 use Rattle.sdtd.specs.Schema.{Schema}
 use Rattle.sdtd.specs.Tree.{Tree, node}
@@ -14,7 +14,7 @@ use Rattle.sdtd.specs.Document.{Event, opening, closing, finish, stream,
 use Rattle.sdtd.specs.Competition.{Competition}
 use Rattle.sdtd.specs.Answer.{Answer, refused, typed, taken}
 use Rattle.sdtd.specs.Reading.{questions, TypeAnswered, TakenAnswer, Right}
-use Rattle.sdtd.specs.Calls.{Exchange, IsTaken, ifTaken, eventsTaken, typeIn, typesGiven, calls, deepest}
+use Rattle.sdtd.specs.Calls.{Exchange, IsTaken, ifTaken, eventsTaken, calls, answersOf, answersBy, deepest}
 use Rattle.sdtd.specs.Calls.{RightCalls, CallMeets, ListMeets, TakenWhole, ValidWithin, WholeMeets}
 use Rattle.sdtd.proofs.Answers.{AllHold, RefusesNone, ordered-taken, ordered-accepted}
 use Rattle.sdtd.proofs.Depth.{deepest-opening, deepest-closing, deepest-finish, deepest-beginning, deepest-document}
@@ -226,9 +226,9 @@ taken-all S e (x ∷ xs) m f =
     (right-taken S e (x .call) (x .answer) (m .0 .right) t .1, taken-all S _ xs later g)
 
 module _ {S : Schema} {d : List Event} (v : Valid S d) where
-  -- The types given out from the call x after e on are the typing's from its place on, if those given out after it are.
-  types-step : (e : List Event) (x : Event) (f : List Event) (a : Answer) (later : List ℕ) → TakenAnswer S e x a → d ≡ e ++ (x ∷ f)
-      → later ≡ drop (openings (e ++ (x ∷ []))) (typesOf v) → typeIn a ++ later ≡ drop (openings e) (typesOf v)
+  -- The answers from the call x after e on give the typing's types from its place on, if those after it do.
+  types-step : (e : List Event) (x : Event) (f : List Event) (a : Answer) (later : List Answer) → TakenAnswer S e x a → d ≡ e ++ (x ∷ f)
+      → later ≡ answersBy f (drop (openings (e ++ (x ∷ []))) (typesOf v)) → a ∷ later ≡ answersBy (x ∷ f) (drop (openings e) (typesOf v))
   types-step e (opening g) f a later t p q =
       let one-more : openings (e ++ (opening g ∷ [])) ≡ suc (openings e) = omega (arith, openings-append e (opening g ∷ [])) in
       let inside : openings e < length (typesOf v) = omega (arith, openings-append e (opening g ∷ f), ap openings p, openings-types v) in
@@ -237,12 +237,11 @@ module _ {S : Schema} {d : List Event} (v : Valid S d) where
   types-step e (closing g) f a later t p q = rw (t, q, openings-append e (closing g ∷ []), add-zero)
   types-step e finish f a later t p q = rw (t, q, openings-append e (finish ∷ []), add-zero)
 
-  types-from : (e : List Event) (xs : List Exchange) → TakenAll S e xs → d ≡ e ++ calls xs → typesGiven xs ≡ drop (openings e) (typesOf v)
-  types-from e [] t p =
-      let n : openings e ≡ length (typesOf v) = ap openings (rw append-nil at (sym p)) ∙ openings-types v in
-      rw (n, drop-length)
+  types-from : (e : List Event) (xs : List Exchange) → TakenAll S e xs → d ≡ e ++ calls xs
+      → answersOf xs ≡ answersBy (calls xs) (drop (openings e) (typesOf v))
+  types-from e [] t p = refl
   types-from e (x ∷ xs) t p =
-      types-step e (x .call) (calls xs) (x .answer) (typesGiven xs) (t .0) p (types-from _ xs (t .1) (rw append-assoc p))
+      types-step e (x .call) (calls xs) (x .answer) (answersOf xs) (t .0) p (types-from _ xs (t .1) (rw append-assoc p))
 
 valid-within : {S : Schema} {d : List Event} → Valid S d → deepest d ≤ mostLevels → ValidWithin S d
 valid-within v w =
@@ -283,7 +282,7 @@ module _ {S : Schema} (xs : List Exchange) (m : Each (MeetsAt S) [] xs) where
         through-finish = sym (v .is-document);
       }
 
-  types-given : TakenWhole xs → (v : Valid S (calls xs)) → typesGiven xs ≡ typesOf v
+  types-given : TakenWhole xs → (v : Valid S (calls xs)) → answersOf xs ≡ answersBy (calls xs) (typesOf v)
   types-given w v = types-from v [] xs (taken-all S [] xs m (whole-begins v, calls-sound w .within)) refl
 
 pub calls-meet-whole : {S : Schema} → ¬ Competition S → TagsBelow S → (xs : List Exchange) → RightCalls S xs → WholeMeets S xs

@@ -5,7 +5,7 @@ use Prim.Native.Nat.{ℕ, suc, _+_, _*_, _/_, _≤_, _<_, min, max}
 use native.Mathlib.Nat.{min-comm, max-comm, mul-le-mul, le-antisymm}
 use native.Mathlib.Decide.{ℕ-discrete, decLe}
 use native.Mathlib.Omega.{arith}
-use Rattle.sdtd.specs.Limits.{mostStates, mostPairs}
+use Rattle.sdtd.specs.Limits.{mostStates, mostPairs, mostWord, leastWitness}
 use Rattle.sdtd.specs.Competition.{pairNumber}
 
 -- for m < n, the numbers of the pairs whose larger state is m are below those of the pairs whose larger state is n
@@ -41,5 +41,11 @@ pair-one-number s t s′ t′ e =
     let large : max s t ≡ max s′ t′ = le-antisymm (larger s t s′ t′ e) (larger s′ t′ s t (sym e)) in
     same-pair s t s′ t′ large (omega (arith, ap (λ (m : ℕ). m * (m + 1) / 2) large))
 
-pub pair-samples : (pairNumber 0 0 ≡ 0) × (pairNumber 3 1 ≡ 7) × (pairNumber 31 31 ≡ 527)
-pair-samples = (refl, refl, refl)
+-- Document 01's numbers agree: 528 pairs of 32 states, words of fewer types than pairs, and 5 bytes and the longest word.
+pub numbers-agree : (mostPairs ≡ mostStates * (mostStates + 1) / 2) × (suc mostWord ≡ mostPairs) × (leastWitness ≡ 5 + mostWord)
+numbers-agree = (refl, refl, refl)
+
+-- "Pairs (0,0), (3,1), (31,31): 0, 7, 527", and two with an even larger state
+pub pair-samples :
+    (pairNumber 0 0 ≡ 0) × (pairNumber 3 1 ≡ 7) × (pairNumber 31 31 ≡ 527) × (pairNumber 1 2 ≡ 4) × (pairNumber 30 30 ≡ 495)
+pair-samples = (refl, refl, refl, refl, refl)

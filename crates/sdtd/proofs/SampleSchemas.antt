@@ -7,20 +7,21 @@ use native.Mathlib.Omega.{arith}
 use lib.ListN.{length}
 use lib.Dec.{T, lit<, lit≤}
 use Rattle.sdtd.specs.Limits.{mostWord}
-use Rattle.sdtd.specs.Schema.{Schema, blockOf, tagOf}
+use Rattle.sdtd.specs.Schema.{Schema, blockOf, tagOf, WithinLimits}
 use Rattle.sdtd.specs.Trim.{Bears, AllBear, none, both, root}
 use Rattle.sdtd.specs.Competition.{GoesOn, Accepted, Witness, witnessBytes}
 use Rattle.sdtd.specs.Samples.{schemaR, schemaChoice, schemaNoD, schemaTwoWays, schemaTwoTypes, schemaLastButOne}
-use Rattle.sdtd.specs.Samples.{schemaOptional, schemaEndless}
+use Rattle.sdtd.specs.Samples.{schemaOptional, schemaEndless, schemaNested}
 use Rattle.sdtd.proofs.Tests.{itself, and-means, every}
+use Rattle.sdtd.proofs.Within.{limitsCheck, limits-means}
 use Rattle.sdtd.proofs.Decide.{LiveTable, inTable, LiveExact, live-check, acceptsb, accepts-means, restrained, restrained-check}
 
--- the root type bears a tree and the certificate of pairs passes
+-- inside the limits, the root type bears a tree and the certificate of pairs passes
 accepted : {S : Schema} {L : LiveTable} → LiveExact S L → (pairs : List (List (ℕ × ℕ)))
-    → T (inTable L (S .root) 0 && restrained S L pairs) → Accepted S
+    → T (limitsCheck S && inTable L (S .root) 0 && restrained S L pairs) → Accepted S
 accepted {S} {L} x pairs t =
-    let r = and-means (x .bears (S .root)) (itself (restrained S L pairs)) .says t in
-    record { bears = r .0; no-competition = restrained-check x pairs (r .1) }
+    let r = and-means (and-means (limits-means S) (x .bears (S .root))) (itself (restrained S L pairs)) .says t in
+    record { within = r .0 .0; bears = r .0 .1; no-competition = restrained-check x pairs (r .1) }
 
 abbrev pub liveR : LiveTable
 liveR = (0, 0) ∷ (0, 1) ∷ (1, 0) ∷ (2, 0) ∷ (3, 0) ∷ []
@@ -79,15 +80,16 @@ goes-on {S} {L} x a w j u t =
     let r = and-means (accepts-means (blockOf S a) (w ++ (j ∷ u))) (itself (every (λ k. inTable L k 0) (w ++ (j ∷ u)))) .says t in
     record { rest = u; word = r .0; bear = all-bear x (w ++ (j ∷ u)) (r .1) }
 
--- the root type 0 bears a tree, and j and k compete in it after w, before u and v
+-- inside the limits, the root type 0 bears a tree, and j and k compete in it after w, before u and v
 root-witness : {S : Schema} {L : LiveTable} → LiveExact S L → (j k : ℕ) (w u v : List ℕ)
     → S .root ≡ 0 → j < k → tagOf S j ≡ tagOf S k → length w ≤ mostWord
-    → T (inTable L (S .root) 0 && (goesOn S L (S .root) w j u && goesOn S L (S .root) w k v))
-    → Bears S (S .root) × Witness S (witnessBytes 0 j k w)
+    → T (limitsCheck S && inTable L (S .root) 0 && (goesOn S L (S .root) w j u && goesOn S L (S .root) w k v))
+    → WithinLimits S × Bears S (S .root) × Witness S (witnessBytes 0 j k w)
 root-witness {S} {L} x j k w u v e order one-tag short t =
     let goes = and-means (itself (goesOn S L (S .root) w j u)) (itself (goesOn S L (S .root) w k v)) in
-    let r = and-means (x .bears (S .root)) goes .says t in (
-      r .0,
+    let r = and-means (and-means (limits-means S) (x .bears (S .root))) goes .says t in (
+      r .0 .0,
+      r .0 .1,
       record {
         type = S .root;
         first = j;
@@ -96,7 +98,7 @@ root-witness {S} {L} x j k w u v e order one-tag short t =
         compete =
             record {
               reached = root refl;
-              bears = r .0;
+              bears = r .0 .1;
               order = order;
               one-tag = one-tag;
               goes-on-j = goes-on x (S .root) w j u (r .1 .0);
@@ -108,17 +110,23 @@ root-witness {S} {L} x j k w u v e order one-tag short t =
       },
     )
 
-pub refusedChoice : Bears schemaChoice (schemaChoice .root) × Witness schemaChoice (0 ∷ 1 ∷ 2 ∷ 0 ∷ 0 ∷ [])
+pub refusedChoice : WithinLimits schemaChoice × Bears schemaChoice (schemaChoice .root) × Witness schemaChoice (0 ∷ 1 ∷ 2 ∷ 0 ∷ 0 ∷ [])
 refusedChoice =
     root-witness
     (live-check schemaChoice ((0, 0) ∷ (0, 1) ∷ (1, 0) ∷ (1, 1) ∷ (2, 0) ∷ (2, 1) ∷ (3, 0) ∷ (4, 0) ∷ []) tt)
     1 2 [] [] [] refl (lit< tt) refl (lit≤ tt) tt
 
-pub refusedTwoWays : Bears schemaTwoWays (schemaTwoWays .root) × Witness schemaTwoWays (0 ∷ 2 ∷ 3 ∷ 1 ∷ 0 ∷ 1 ∷ [])
+pub refusedTwoWays : WithinLimits schemaTwoWays × Bears schemaTwoWays (schemaTwoWays .root) × Witness schemaTwoWays (0 ∷ 2 ∷ 3 ∷ 1 ∷ 0 ∷ 1 ∷ [])
 refusedTwoWays =
     root-witness
     (live-check schemaTwoWays ((0, 0) ∷ (0, 1) ∷ (0, 2) ∷ (0, 3) ∷ (1, 0) ∷ (2, 0) ∷ (3, 0) ∷ []) tt)
     2 3 (1 ∷ []) [] [] refl (lit< tt) refl (lit≤ tt) tt
 
-pub bearsNoneEndless : ¬ Bears schemaEndless (schemaEndless .root)
-bearsNoneEndless b = live-check schemaEndless ((0, 1) ∷ []) tt .bears 0 .passes b
+pub bearsNoneEndless : WithinLimits schemaEndless × (¬ Bears schemaEndless (schemaEndless .root))
+bearsNoneEndless = (limits-means schemaEndless .says tt, λ b. live-check schemaEndless ((0, 1) ∷ []) tt .bears 0 .passes b)
+
+pub exactNested : LiveExact schemaNested ((0, 0) ∷ [])
+exactNested = live-check schemaNested ((0, 0) ∷ []) tt
+
+pub acceptedNested : Accepted schemaNested
+acceptedNested = accepted exactNested [] tt

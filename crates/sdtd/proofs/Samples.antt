@@ -4,12 +4,13 @@ use lib.Dec.{T}
 use Rattle.sdtd.specs.Schema.{Schema}
 use Rattle.sdtd.specs.Competition.{Accepted}
 use Rattle.sdtd.specs.Calls.{Exchange}
-use Rattle.sdtd.specs.Samples.{answers, Holds, HoldAll, starred}
+use Rattle.sdtd.specs.Samples.{answers, Holds, HoldAll, starred, nested}
 use Rattle.sdtd.proofs.Machine.{start}
 use Rattle.sdtd.proofs.Decide.{LiveTable, LiveExact}
 use Rattle.sdtd.proofs.Model.{agrees, calls-agree}
 use Rattle.sdtd.proofs.SampleSchemas.{exactR, acceptedR, acceptedNoD, acceptedTwoTypes, exactLastButOne, acceptedLastButOne}
 use Rattle.sdtd.proofs.SampleSchemas.{exactOptional, acceptedOptional, refusedChoice, refusedTwoWays, bearsNoneEndless}
+use Rattle.sdtd.proofs.SampleSchemas.{exactNested, acceptedNested}
 
 infixr 25 _&_
 _&_ : {A B : Type 0} → A → B → A × B
@@ -32,3 +33,7 @@ starred-hold =
     & answers-hold acceptedOptional exactOptional _ tt
     & bearsNoneEndless
     & tt
+
+-- 64 levels are opened, and no 65th.
+pub nested-holds : Holds nested
+nested-holds = answers-hold acceptedNested exactNested _ tt

@@ -6,15 +6,10 @@ use mathlib.Core.List.{List, [], _∷_, List·Memᴰ, List·Memᴰ·head, List·
 use Prim.Native.Nat.{ℕ}
 use Rattle.sdtd.specs.Schema.{Schema, blockOf, tagOf, Leads, stay, go, Word}
 use Rattle.sdtd.specs.Tree.{Tree, Forest, node, empty, more, label, labels, relabel, preorder, preorders, Derived, DerivedAll, IsTyping}
-use Rattle.sdtd.specs.Document.{Event, document, Valid}
+use Rattle.sdtd.specs.Document.{Event, document, Valid, SomeValid}
 use Rattle.sdtd.specs.Trim.{Bears, All, none, both, AllBear, Reached, root, child, Used, Useful, KeptStep, Trimmed}
 use Rattle.sdtd.proofs.Automata.{all-append, all-mem, all-head, all-tail}
 use Rattle.sdtd.proofs.Bearing.{tree-bears, forest-bears}
-
--- some document is valid
-pub record SomeValid (S : Schema) : Type 0 where
-  pub whole : List Event
-  pub valid : Valid S whole
 
 -- the root type bears a tree exactly when some document is valid
 pub root-bears : {S : Schema} → Bears S (S .root) ↔ SomeValid S

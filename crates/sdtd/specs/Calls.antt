@@ -32,19 +32,21 @@ abbrev pub eventsTaken : List Exchange → List Event
 eventsTaken [] = []
 eventsTaken (x ∷ xs) = ifTaken (x .answer) (x .call) ++ eventsTaken xs
 
--- the type that an answer gives out, if it gives one
-abbrev pub typeIn : Answer → List ℕ
-typeIn (refused n) = []
-typeIn (typed j) = j ∷ []
-typeIn taken = []
-
--- the types given out, in order
-abbrev pub typesGiven : List Exchange → List ℕ
-typesGiven [] = []
-typesGiven (x ∷ xs) = typeIn (x .answer) ++ typesGiven xs
-
+-- the events that were called
 abbrev pub calls : List Exchange → List Event
 calls xs = map (λ (x : Exchange). x .call) xs
+
+-- the answers that were given
+abbrev pub answersOf : List Exchange → List Answer
+answersOf xs = map (λ (x : Exchange). x .answer) xs
+
+-- the answers that give the openings the types, in order, and answer every other event taken
+abbrev pub answersBy : List Event → List ℕ → List Answer
+answersBy [] ts = []
+answersBy (opening g ∷ e) [] = []
+answersBy (opening g ∷ e) (t ∷ ts) = typed t ∷ answersBy e ts
+answersBy (closing g ∷ e) ts = taken ∷ answersBy e ts
+answersBy (finish ∷ e) ts = taken ∷ answersBy e ts
 
 -- the deepest level that the events open, where n elements are open before them
 abbrev pub deepestFrom : ℕ → List Event → ℕ
@@ -53,6 +55,7 @@ deepestFrom n (opening g ∷ e) = deepestFrom (suc n) e
 deepestFrom n (closing g ∷ e) = max n (deepestFrom (pred n) e)
 deepestFrom n (finish ∷ e) = deepestFrom n e
 
+-- the deepest level that the events open
 abbrev pub deepest : List Event → ℕ
 deepest e = deepestFrom 0 e
 
@@ -97,5 +100,5 @@ pub record ValidWithin (S : Schema) (d : List Event) : Type 0 where
 -- most 64 deep; the types given out are then that tree's typing", and the tree has no other.
 pub record WholeMeets (S : Schema) (xs : List Exchange) : Type 0 where
   pub exactly : TakenWhole xs ↔ ValidWithin S (calls xs)
-  pub types : TakenWhole xs → (v : Valid S (calls xs)) → typesGiven xs ≡ typesOf v
+  pub types : TakenWhole xs → (v : Valid S (calls xs)) → answersOf xs ≡ answersBy (calls xs) (typesOf v)
   pub only-typing : (tree : Tree) (t₁ t₂ : Typing S tree) → t₁ .typed ≡ t₂ .typed

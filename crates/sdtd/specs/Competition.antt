@@ -1,10 +1,10 @@
 -- Document 01, "Competition"; source document 000, definition 4, calls its absence restrained competition.
 use mathlib.Core.Path.{_≡_}
-use mathlib.Core.List.{List, [], _∷_, _++_}
+use mathlib.Core.List.{List, _∷_, _++_}
 use Prim.Native.Nat.{ℕ, _+_, _*_, _/_, _%_, _≤_, _<_, min, max}
 use lib.ListN.{length}
 use Rattle.sdtd.specs.Limits.{mostWord}
-use Rattle.sdtd.specs.Schema.{Schema, blockOf, tagOf, Word}
+use Rattle.sdtd.specs.Schema.{Schema, blockOf, tagOf, Word, WithinLimits}
 use Rattle.sdtd.specs.Trim.{Bears, AllBear, Reached}
 
 -- A word of a's automaton over tree-bearing types that begins with w and then j; the rest may be empty.
@@ -55,7 +55,9 @@ pub record Witness (S : Schema) (bytes : List ℕ) : Type 0 where
   pub short : length word ≤ mostWord
   pub written : bytes ≡ witnessBytes type first second word
 
--- The schema passes document 01's questions 8 and 9: "Does the root type bear a tree?" "Is there no competition?"
+-- An accepted schema: it is inside the limits, which document 01's questions 1 to 7 see to, and passes questions 8 and 9: "Does the root
+-- type bear a tree?" "Is there no competition?"
 pub record Accepted (S : Schema) : Type 0 where
+  pub within : WithinLimits S
   pub bears : Bears S (S .root)
   pub no-competition : ¬ Competition S

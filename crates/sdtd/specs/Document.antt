@@ -2,12 +2,12 @@
 use mathlib.Core.Path.{_≡_}
 use mathlib.Core.Logic.{_≢_}
 use mathlib.Core.List.{List, [], _∷_, _++_}
-use Prim.Native.Nat.{ℕ, zero, suc}
+use Prim.Native.Nat.{ℕ, suc}
 use lib.ListN.{getD}
 use Rattle.sdtd.specs.Schema.{Schema}
 use Rattle.sdtd.specs.Tree.{Tree, Forest, node, empty, more, preorder, Typing}
 
--- One event. The number is a tag; in the stream of a tree over types it is a type.
+-- One event: an opening or a closing of a tag, or the finish.
 pub data Event : Type 0 where
   opening : ℕ → Event
   closing : ℕ → Event
@@ -33,6 +33,11 @@ pub record Valid (S : Schema) (d : List Event) : Type 0 where
   pub is-document : document tree ≡ d
   pub typing : Typing S tree
 
+-- Demand 3: "at least one document is valid under it".
+pub record SomeValid (S : Schema) : Type 0 where
+  pub whole : List Event
+  pub valid : Valid S whole
+
 -- how many elements the events open
 abbrev pub openings : List Event → ℕ
 openings [] = 0
@@ -48,7 +53,7 @@ typesOf v = preorder (v .typing .typed)
 abbrev pub typeAt : {S : Schema} {d : List Event} → Valid S d → ℕ → ℕ
 typeAt v n = getD (typesOf v) n 0
 
--- "A list of events begins a document if it is the document's first events or the whole of it."
+-- "A list of events begins a document if it is the document's first events or the whole of it": e is a prefix of d.
 pub record BeginningOf (e d : List Event) : Type 0 where
   pub rest : List Event
   pub splits : d ≡ e ++ rest

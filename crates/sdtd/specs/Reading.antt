@@ -1,8 +1,8 @@
 -- Document 01, "A reading": questions 11 to 18 for the events taken and one more, and what a right answer is. Under a schema in which types
--- compete an opening may have no right answer; under one with no competition each call has exactly one.
+-- compete an opening may have no right answer; under an accepted one each call after right answers has exactly one.
 use mathlib.Core.Path.{_≡_}
 use mathlib.Core.List.{List, [], _∷_, _++_, List·Memᴰ, map, tail}
-use Prim.Native.Nat.{ℕ, zero, suc, pred, max, _<_}
+use Prim.Native.Nat.{ℕ, suc, _<_}
 use lib.ListN.{length, getD}
 use Rattle.sdtd.specs.Limits.{mostLevels}
 use Rattle.sdtd.specs.Schema.{Schema, blockOf, Word}
@@ -45,7 +45,7 @@ abbrev pub NotFinished : List Event → Type 0
 NotFinished e = ¬ List·Memᴰ finish e
 
 -- 17: "Do its children form a word of its automaton?", by the types that every typing of every valid document with that beginning gives
--- the innermost element and its children
+-- the innermost element and its children. With no competition all of them give the same. It is asked only after 15 and 16.
 abbrev pub ChildrenFormWord : Schema → List Event → Type 0
 ChildrenFormWord S e =
     (d : List Event) (v : Valid S d) → BeginningOf e d

@@ -1,7 +1,9 @@
 -- Document 01, "Samples from the boot wall": the starred samples, as schemas and lists of calls, and one statement over the group.
-use mathlib.Core.List.{List, [], _∷_}
+use mathlib.Core.List.{List, [], _∷_, _++_}
 use Prim.Native.Nat.{ℕ}
-use Rattle.sdtd.specs.Schema.{Step, Block, Schema}
+use lib.ListN.{replicate}
+use Rattle.sdtd.specs.Limits.{mostLevels}
+use Rattle.sdtd.specs.Schema.{Step, Block, Schema, WithinLimits}
 use Rattle.sdtd.specs.Document.{Event, opening, closing, finish}
 use Rattle.sdtd.specs.Trim.{Bears}
 use Rattle.sdtd.specs.Competition.{Witness, Accepted}
@@ -18,14 +20,16 @@ pub data Sample : Type 0 where
 -- accepted; 8; 9 with the witness; accepted, and the calls of the list, from a fresh reading, get these answers
 abbrev pub Holds : Sample → Type 0
 Holds (accepts S) = Accepted S
-Holds (refuses-8 S) = ¬ Bears S (S .root)
-Holds (refuses-9 S bytes) = Bears S (S .root) × Witness S bytes
+Holds (refuses-8 S) = WithinLimits S × (¬ Bears S (S .root))
+Holds (refuses-9 S bytes) = WithinLimits S × Bears S (S .root) × Witness S bytes
 Holds (answers S xs) = Accepted S × RightCalls S xs
 
+-- every sample of the list holds
 abbrev pub HoldAll : List Sample → Type 0
 HoldAll [] = Unit
 HoldAll (s ∷ ss) = Holds s × HoldAll ss
 
+-- a step as document 01 writes it, from-type-to
 abbrev step : ℕ → ℕ → ℕ → Step
 step p j q = record { from = p; by = j; to = q }
 
@@ -33,6 +37,7 @@ step p j q = record { from = p; by = j; to = q }
 abbrev leaf : ℕ → Block
 leaf g = record { tag = g; states = 1; accepting = 0 ∷ []; steps = [] }
 
+-- a call and its answer
 abbrev says : Event → Answer → Exchange
 says x a = record { call = x; answer = a }
 
@@ -60,6 +65,7 @@ choice d =
       root = 0;
     }
 
+-- d with the empty word
 abbrev pub schemaChoice : Schema
 schemaChoice = choice (leaf 3)
 
@@ -126,7 +132,16 @@ abbrev pub schemaEndless : Schema
 schemaEndless =
     record { tags = 1; blocks = record { tag = 0; states = 2; accepting = 1 ∷ []; steps = step 0 0 1 ∷ [] } ∷ []; root = 0 }
 
--- The starred samples, in document 01's order. Its children are named by their tags: a, b, c are 1, 2, 3.
+-- "Type 0 with step 0-0-0, accepting 0"
+abbrev pub schemaNested : Schema
+schemaNested =
+    record { tags = 1; blocks = record { tag = 0; states = 1; accepting = 0 ∷ []; steps = step 0 0 0 ∷ [] } ∷ []; root = 0 }
+
+-- "64 openings taken, the next 14": not starred, stated beside the group for the number of levels
+abbrev pub nested : Sample
+nested = answers schemaNested (replicate mostLevels (says (opening 0) (typed 0)) ++ (says (opening 0) (refused 14) ∷ []))
+
+-- The starred samples, in document 01's order. Where a sample names elements a, b, c their tags are 1, 2, 3; the root's is 0.
 abbrev pub starred : List Sample
 starred =
     -- "R above: types 0 1 2 3"
@@ -137,7 +152,7 @@ starred =
     ∷ says (opening 1) (typed 3) ∷ says (closing 1) taken
     ∷ says (closing 0) taken ∷ says finish taken ∷ []
     )
-    -- "R, events 21 00 22 00: 17"
+    -- "R, events `21 00 22 00`: 17 at 2." The place is the event file's.
     ∷ answers schemaR (says (opening 0) (typed 0) ∷ says (closing 0) (refused 17) ∷ [])
     -- "R, a second opening of tag 2: 13"
     ∷ answers schemaR

@@ -1,6 +1,6 @@
 -- Schemas, content automata and their words: document 01, "Schemas and valid trees"; source document 000, definitions 1 and 2.
 use mathlib.Core.List.{List, [], _∷_, List·Memᴰ}
-use Prim.Native.Nat.{ℕ, zero, _+_, _≤_, _<_}
+use Prim.Native.Nat.{ℕ, _+_, _≤_, _<_}
 use lib.ListN.{length, getD}
 use Rattle.sdtd.specs.Limits.{mostTags, mostTypes, mostStates, mostSteps}
 
@@ -37,7 +37,7 @@ blockOf S a = getD (S .blocks) a noBlock
 abbrev pub tagOf : Schema → ℕ → ℕ
 tagOf S a = (blockOf S a) .tag
 
--- The types of the list lead, step by step, from the state p to the state q.
+-- The types of the list lead, step by step, from the state p to the state q: a run of the automaton.
 pub data Leads (b : Block) : ℕ → List ℕ → ℕ → Type 0 where
   stay : {p : ℕ} → Leads b p [] p
   go : {p j q r : ℕ} {w : List ℕ} → List·Memᴰ (record { from = p; by = j; to = q }) (b .steps) → Leads b q w r → Leads b p (j ∷ w) r

@@ -1,8 +1,8 @@
--- Trees, typings and tag streams: document 01, "Schemas and valid trees"; source document 000, definition 2: a tree is valid if it is the
+-- Trees and typings: document 01, "Schemas and valid trees"; source document 000, definition 2: a tree is valid if it is the
 -- image, tag by tag, of a tree over types that the grammar derives.
 use mathlib.Core.Path.{_≡_}
 use mathlib.Core.List.{List, [], _∷_, _++_}
-use Prim.Native.Nat.{ℕ, zero, suc, max}
+use Prim.Native.Nat.{ℕ, suc, max}
 use Rattle.sdtd.specs.Schema.{Schema, blockOf, tagOf, Word}
 
 -- A tree of elements, each with a number: its tag, or its type. A forest is the children of an element in order.
@@ -14,9 +14,11 @@ mutual
     empty : Forest
     more : Tree → Forest → Forest
 
+-- the number of the root
 abbrev pub label : Tree → ℕ
 label (node a f) = a
 
+-- the numbers of the roots, in order
 abbrev pub labels : Forest → List ℕ
 labels empty = []
 labels (more t f) = label t ∷ labels f

@@ -23,13 +23,13 @@ pub data All (P : ℕ → Type 0) : List ℕ → Type 0 where
 abbrev pub AllBear : Schema → List ℕ → Type 0
 AllBear S w = All (Bears S) w
 
--- "A state is live if an accepting state can be reached from it": the state q of the type a.
+-- "A state is live if an accepting state can be reached from it": the state q of the type a. The field calls such a state coaccessible.
 pub record Live (S : Schema) (a q : ℕ) : Type 0 where
   pub word : List ℕ
   pub accepts : Accepts (blockOf S a) q word
   pub bear : AllBear S word
 
--- "A type is reached if it is the root type, or stands in a word of a reached type."
+-- "A type is reached if it is the root type, or stands in a word of a reached type." The field calls such a type reachable.
 pub data Reached (S : Schema) : ℕ → Type 0 where
   root : {a : ℕ} → IsRoot S a → Reached S a
   child : {a j : ℕ} {w : List ℕ} → Reached S a → Word (blockOf S a) w → AllBear S w → List·Memᴰ j w → Reached S j
@@ -52,7 +52,7 @@ pub record KeptStep (S : Schema) (a : ℕ) (s : Step) : Type 0 where
   pub from-live : Live S a (s .from)
   pub to-live : Live S a (s .to)
 
--- S′ is S trimmed: the same tags, types and root; a block that is unreached or bears no tree is emptied, and of the others just the steps
+-- S′ is S trimmed, by the words of the requirement that trimming loses no document: the same tags, types and root; a block that is unreached or bears no tree is emptied, and of the others just the steps
 -- by tree-bearing types between live states are kept.
 pub record Trimmed (S S′ : Schema) : Type 0 where
   pub tags : S′ .tags ≡ S .tags

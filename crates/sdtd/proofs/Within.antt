@@ -1,0 +1,73 @@
+-- The limits as a check that antt computes; and what follows from them.
+use mathlib.Core.Logic.{_↔_}
+use mathlib.Core.Bool.{Bool, _&&_}
+use mathlib.Core.List.{List·Memᴰ}
+use Prim.Native.Nat.{ℕ, _≤_, _<_}
+use lib.Dec.{T, leb, ltb, leb→le, le→leb}
+use lib.ListN.{length}
+use Rattle.sdtd.specs.Limits.{mostTags, mostTypes, mostStates, mostSteps}
+use Rattle.sdtd.specs.Schema.{Step, Block, Schema, stepsIn, StepWithin, BlockWithin, WithinLimits}
+use Rattle.sdtd.proofs.Tests.{Means, means-iff, and-means, lt-means, every, every-means}
+use Rattle.sdtd.proofs.Questions.{TagsBelow}
+
+le-means : (m n : ℕ) → Means (leb m n) (m ≤ n)
+le-means m n = record { says = leb→le m n; passes = le→leb m n }
+
+abbrev stepCheck : ℕ → ℕ → Step → Bool
+stepCheck states types s = ltb (s .from) states && ltb (s .by) types && ltb (s .to) states
+
+step-means : (states types : ℕ) (s : Step) → Means (stepCheck states types s) (StepWithin states types s)
+step-means states types s =
+    means-iff (and-means (and-means (lt-means (s .from) states) (lt-means (s .by) types)) (lt-means (s .to) states))
+    (λ w. ((w .from, w .by), w .to), λ p. record { from = p .0 .0; by = p .0 .1; to = p .1 })
+
+abbrev blockCheck : Schema → Block → Bool
+blockCheck S b =
+    ltb (b .tag) (S .tags) && leb 1 (b .states) && leb (b .states) mostStates && every (λ q. ltb q (b .states)) (b .accepting)
+    && every (stepCheck (b .states) (length (S .blocks))) (b .steps)
+
+block-means : (S : Schema) (b : Block) → Means (blockCheck S b) (BlockWithin S b)
+block-means S b =
+    let counts = and-means (and-means (lt-means (b .tag) (S .tags)) (le-means 1 (b .states))) (le-means (b .states) mostStates) in
+    let states = and-means counts (every-means (λ q. lt-means q (b .states)) (b .accepting)) in
+    means-iff (and-means states (every-means (step-means (b .states) (length (S .blocks))) (b .steps))) (
+      λ w. ((((w .tag, w .states-least), w .states-most), w .accepting), w .steps),
+      λ p.
+          record {
+            tag = p .0 .0 .0 .0;
+            states-least = p .0 .0 .0 .1;
+            states-most = p .0 .0 .1;
+            accepting = p .0 .1;
+            steps = p .1;
+          },
+    )
+
+-- the schema is inside the limits
+abbrev pub limitsCheck : Schema → Bool
+limitsCheck S =
+    leb 1 (S .tags) && leb (S .tags) mostTags && leb 1 (length (S .blocks)) && leb (length (S .blocks)) mostTypes
+    && leb (stepsIn (S .blocks)) mostSteps && ltb (S .root) (length (S .blocks)) && every (blockCheck S) (S .blocks)
+
+pub limits-means : (S : Schema) → Means (limitsCheck S) (WithinLimits S)
+limits-means S =
+    let n = length (S .blocks) in
+    let tags = and-means (le-means 1 (S .tags)) (le-means (S .tags) mostTags) in
+    let types = and-means (and-means tags (le-means 1 n)) (le-means n mostTypes) in
+    let counts = and-means (and-means types (le-means (stepsIn (S .blocks)) mostSteps)) (lt-means (S .root) n) in
+    means-iff (and-means counts (every-means (block-means S) (S .blocks))) (
+      λ w. ((((((w .tags-least, w .tags-most), w .types-least), w .types-most), w .steps-most), w .root), w .blocks),
+      λ p.
+          record {
+            tags-least = p .0 .0 .0 .0 .0 .0;
+            tags-most = p .0 .0 .0 .0 .0 .1;
+            types-least = p .0 .0 .0 .0 .1;
+            types-most = p .0 .0 .0 .1;
+            steps-most = p .0 .0 .1;
+            root = p .0 .1;
+            blocks = p .1;
+          },
+    )
+
+-- inside the limits each block's tag is below the count
+pub within-tags : {S : Schema} → WithinLimits S → TagsBelow S
+within-tags w b m = w .blocks b m .tag
