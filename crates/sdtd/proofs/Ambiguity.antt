@@ -21,7 +21,8 @@ use Rattle.sdtd.proofs.Follow.{Candidate, bears-future, candidate-futur
 use Rattle.sdtd.proofs.Position.{Position, position, Onward, onward, onward-types, place-of}
 
 -- the types of w are read as the innermost owner's first children
-read-word : {S : Schema} {o : Owner} {w : List ℕ} (fs : List Frame) → AllBear S w → (τ : List Event) × Run S (frame o [] ∷ fs) τ (frame o w ∷ fs)
+read-word : {S : Schema} {o : Owner} {w : List ℕ} (fs : List Frame) → AllBear S w
+    → (τ : List Event) × Run S (frame o [] ∷ fs) τ (frame o w ∷ fs)
 read-word {S} {o} {w} fs b =
     let g = grow b in
     (streams (g .forest), subst (λ (v : List ℕ). Run S (frame o [] ∷ fs) (streams (g .forest)) (frame o v ∷ fs)) (g .at-roots) (forest-run (g .forest) (g .derived) o [] fs))
@@ -84,7 +85,8 @@ record Branch (S : Schema) (τ : List Event) (j : ℕ) : Type 0 where
   rest : List Event
   run : Run S start (τ ++ (opening j ∷ rest)) []
 
-branch-valid : {S : Schema} {τ : List Event} {j : ℕ} (x : Branch S τ j) → ValidTyped S (tagged S (τ ++ (opening j ∷ x .rest))) (opened (τ ++ (opening j ∷ x .rest)))
+branch-valid : {S : Schema} {τ : List Event} {j : ℕ} (x : Branch S τ j)
+    → ValidTyped S (tagged S (τ ++ (opening j ∷ x .rest))) (opened (τ ++ (opening j ∷ x .rest)))
 branch-valid x = run-valid (x .run)
 
 branch-begins : {S : Schema} {τ : List Event} {j : ℕ} (x : Branch S τ j)
@@ -96,7 +98,8 @@ branch-type {S} {τ} {j} x =
     rw (branch-valid x .types, opened-append)
     (getD-at (opened τ) j (opened (x .rest)) 0 (openings (tagged S τ)) (length-opened τ ∙ sym (openings-relabel (tagOf S) τ)))
 
-branch : {S : Schema} {a j : ℕ} {w : List ℕ} (x : Context S a) {τ : List Event} → Run S (frame (own a) [] ∷ x .frames) τ (frame (own a) w ∷ x .frames) → GoesOn S a w j
+branch : {S : Schema} {a j : ℕ} {w : List ℕ} (x : Context S a) {τ : List Event}
+    → Run S (frame (own a) [] ∷ x .frames) τ (frame (own a) w ∷ x .frames) → GoesOn S a w j
     → Branch S (x .events ++ τ) j
 branch {S} {w = w} x {τ} r g =
     let c = goes-on-candidate g in

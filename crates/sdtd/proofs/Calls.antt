@@ -174,7 +174,7 @@ fresh : (S : Schema) → Sound S []
 fresh S = record { begins = inl refl; within = omega arith }
 
 sound-next : {S : Schema} (e : List Event) → Sound S e → (x : Event) (a : Answer) → CallMeets S e x a → Sound S (e ++ ifTaken a x)
-sound-next e s x (refused n) m = rw append-nil s
+sound-next {S} e s x (refused n) m = subst (Sound S) (sym (append-nil e)) s
 sound-next e s x (typed j) m = let f = m .taken-exactly .0 tt in record { begins = inr (f .0); within = f .1 }
 sound-next e s x taken m = let f = m .taken-exactly .0 tt in record { begins = inr (f .0); within = f .1 }
 

@@ -34,7 +34,8 @@ next-place : (past : List ℕ) (j : ℕ) (later : List ℕ) {ts : List ℕ} → 
 next-place past j later e = rw e (getD-append-seam past j later 0)
 
 -- Through a run, with the types of the openings before it and after it.
-pub elements-run : {S : Schema} {ts : List ℕ} {xs : List OpenElement} {fs fs′ : List Frame} {τ : List Event} (past later : List ℕ) → Run S fs τ fs′
+pub elements-run : {S : Schema} {ts : List ℕ} {xs : List OpenElement} {fs fs′ : List Frame} {τ : List Event} (past later : List ℕ)
+    → Run S fs τ fs′
     → ts ≡ past ++ (opened τ ++ later) → Elements S ts xs fs
     → Elements S ts (openAfter (length past) xs (tagged S τ)) fs′ ⊎ Finished (tagged S τ) fs′
 elements-run past later halt e m = inl m

@@ -135,7 +135,8 @@ record SameMove (x y : Event) (fs gs : List Frame) : Type 0 where
   frames : fs ≡ gs
 
 -- Two moves whose tags are the same, each with a way to the end, are the same, or types compete.
-same-move : {S : Schema} {fs fs₁ fs₂ : List Frame} {x y : Event} → Grown S fs → Moves S fs x fs₁ → Suspended S fs₁ → Moves S fs y fs₂ → Suspended S fs₂
+same-move : {S : Schema} {fs fs₁ fs₂ : List Frame} {x y : Event} → Grown S fs → Moves S fs x fs₁ → Suspended S fs₁ → Moves S fs y fs₂
+    → Suspended S fs₂
     → relabelEvent (tagOf S) x ≡ relabelEvent (tagOf S) y → Competition S ⊎ SameMove x y fs₁ fs₂
 same-move (grown {o = o} {w = w} {fs = fs} r b g) (opens {a = j}) s (opens {a = k}) t e =
     ⊎-elim

@@ -21,6 +21,7 @@ pub mod Answers
 pub mod Depth
 pub mod Calls
 pub mod Tests
+pub mod Trimmer
 pub mod Within
 pub mod Decide
 pub mod Candidates

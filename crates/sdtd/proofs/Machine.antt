@@ -65,7 +65,8 @@ pub root-is-word : (S : Schema) {a : ℕ} → IsRoot S a → Word (rootBlock S) 
 root-is-word S e = subst (λ (c : ℕ). Word (rootBlock S) (c ∷ [])) (sym e) (root-word S)
 
 -- what the outside's automaton reads from each of its states
-only-step : (S : Schema) {p j q : ℕ} → List·Memᴰ (record { from = p; by = j; to = q }) (rootBlock S .steps) → (p ≡ 0) × (j ≡ S .root) × (q ≡ 1)
+only-step : (S : Schema) {p j q : ℕ} → List·Memᴰ (record { from = p; by = j; to = q }) (rootBlock S .steps)
+    → (p ≡ 0) × (j ≡ S .root) × (q ≡ 1)
 only-step S (List·Memᴰ·head e) = (ap (λ (s : Step). s .from) e, ap (λ (s : Step). s .by) e, ap (λ (s : Step). s .to) e)
 
 after-root : (S : Schema) {p q : ℕ} {w : List ℕ} → p ≡ 1 → Leads (rootBlock S) p w q → w ≡ []

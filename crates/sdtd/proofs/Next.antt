@@ -47,14 +47,16 @@ pub record CandidateOf (S : Schema) (o : Owner) (w : List ℕ) (g : ℕ) : Type 
   pub tag : tagOf S type ≡ g
   pub candidate : Candidate S o w type
 
-pub opening-move : {S : Schema} {o : Owner} {w : List ℕ} {fs gs : List Frame} {y : Event} {g : ℕ} → Moves S (frame o w ∷ fs) y gs → Suspended S gs
+pub opening-move : {S : Schema} {o : Owner} {w : List ℕ} {fs gs : List Frame} {y : Event} {g : ℕ} → Moves S (frame o w ∷ fs) y gs
+    → Suspended S gs
     → relabelEvent (tagOf S) y ≡ opening g → (c : CandidateOf S o w g) × (y ≡ opening (c .type))
 opening-move (opens {a = j}) s e = (record { type = j; tag = cc; candidate = suspended-candidate s }, refl)
 opening-move (closes w) s e = let z : _≡_ {A = ℕ} 0 1 = cc in absurd (omega arith)
 opening-move (ends w) s e = let z : _≡_ {A = ℕ} 0 1 = cc in absurd (omega arith)
 
 -- Item 5, openings: e and an opening of g begin a valid document exactly when some type of the tag g can come next.
-pub opening-exactly : {S : Schema} → ¬ Competition S → {e : List Event} {o : Owner} {w : List ℕ} {fs : List Frame} → Position S e (frame o w ∷ fs)
+pub opening-exactly : {S : Schema} → ¬ Competition S → {e : List Event} {o : Owner} {w : List ℕ} {fs : List Frame}
+    → Position S e (frame o w ∷ fs)
     → (g : ℕ) → Begins S (e ++ (opening g ∷ [])) ↔ CandidateOf S o w g
 opening-exactly {S} free {e} p g = (
   λ b.
@@ -63,12 +65,14 @@ opening-exactly {S} free {e} p g = (
   λ c. subst (λ (h : ℕ). Begins S (e ++ (opening h ∷ []))) (c .tag) (position-begins (open-position p (c .candidate))),
 )
 
-one-owner : {S : Schema} {o : Owner} {w : List ℕ} {fs : List Frame} {j k : ℕ} → ¬ Competition S → Grown S (frame o w ∷ fs) → Candidate S o w j → Candidate S o w k
+one-owner : {S : Schema} {o : Owner} {w : List ℕ} {fs : List Frame} {j k : ℕ} → ¬ Competition S → Grown S (frame o w ∷ fs)
+    → Candidate S o w j → Candidate S o w k
     → tagOf S j ≡ tagOf S k → j ≡ k
 one-owner free (grown {o = o} r b g) c d e = ⊎-elim (λ x. absurd (free x)) (λ q. q) (one-candidate o r b c d e)
 
 -- .. and that type is the same for every such document and typing.
-pub opening-given : {S : Schema} → ¬ Competition S → {e : List Event} {o : Owner} {w : List ℕ} {fs : List Frame} → Position S e (frame o w ∷ fs)
+pub opening-given : {S : Schema} → ¬ Competition S → {e : List Event} {o : Owner} {w : List ℕ} {fs : List Frame}
+    → Position S e (frame o w ∷ fs)
     → {j : ℕ} → Candidate S o w j → EveryTypingGives S e (tagOf S j) j
 opening-given {S} free {e} p {j} c d v b =
     let n = next-move free p v (opening (tagOf S j)) b in
@@ -97,7 +101,8 @@ closing-move (closes x) e = (cc, x)
 
 -- Item 5, closings: e and a closing of g begin a valid document exactly when the innermost element has the tag g and its children so far
 -- are a word.
-pub closing-exactly : {S : Schema} → ¬ Competition S → {e : List Event} {a : ℕ} {w : List ℕ} {fs : List Frame} → Position S e (frame (own a) w ∷ fs)
+pub closing-exactly : {S : Schema} → ¬ Competition S → {e : List Event} {a : ℕ} {w : List ℕ} {fs : List Frame}
+    → Position S e (frame (own a) w ∷ fs)
     → (g : ℕ) → Begins S (e ++ (closing g ∷ [])) ↔ ((tagOf S a ≡ g) × Word (blockOf S a) w)
 closing-exactly {S} free {e} p g = (
   λ b. let n = next-move free p (b .valid) (closing g) (b .beginning) in closing-move (n .moves) (n .tag),
@@ -121,6 +126,7 @@ finish-move (closes x) e = let z : _≡_ {A = ℕ} 0 1 = cc in absurd (omega ari
 finish-move (ends x) e = (refl, x)
 
 -- Item 5, finish: e and a finish begin a valid document exactly when nothing is open and the root has been read.
-pub finish-exactly : {S : Schema} → ¬ Competition S → {e : List Event} {o : Owner} {w : List ℕ} {fs : List Frame} → Position S e (frame o w ∷ fs)
+pub finish-exactly : {S : Schema} → ¬ Competition S → {e : List Event} {o : Owner} {w : List ℕ} {fs : List Frame}
+    → Position S e (frame o w ∷ fs)
     → Begins S (e ++ (finish ∷ [])) → (o ≡ top) × Word (rootBlock S) w
 finish-exactly free p b = let n = next-move free p (b .valid) finish (b .beginning) in finish-move (n .moves) (n .tag)

@@ -59,18 +59,21 @@ moved {S} {y = y} p m s =
       suspended = s;
     }
 
-pub open-position : {S : Schema} {e : List Event} {o : Owner} {w : List ℕ} {fs : List Frame} {j : ℕ} → Position S e (frame o w ∷ fs) → Candidate S o w j
+pub open-position : {S : Schema} {e : List Event} {o : Owner} {w : List ℕ} {fs : List Frame} {j : ℕ} → Position S e (frame o w ∷ fs)
+    → Candidate S o w j
     → Position S (e ++ (opening (tagOf S j) ∷ [])) (frame (own j) [] ∷ frame o (w ++ (j ∷ [])) ∷ fs)
 open-position p c = moved p opens (candidate-suspended (p .suspended) c)
 
 inner-rest : {S : Schema} {a : ℕ} {w : List ℕ} {fs : List Frame} → Suspended S (frame (own a) w ∷ fs) → Suspended S fs
 inner-rest (inner f s) = s
 
-pub close-position : {S : Schema} {e : List Event} {a : ℕ} {w : List ℕ} {fs : List Frame} → Position S e (frame (own a) w ∷ fs) → Word (blockOf S a) w
+pub close-position : {S : Schema} {e : List Event} {a : ℕ} {w : List ℕ} {fs : List Frame} → Position S e (frame (own a) w ∷ fs)
+    → Word (blockOf S a) w
     → Position S (e ++ (closing (tagOf S a) ∷ [])) fs
 close-position p x = moved p (closes x) (inner-rest (p .suspended))
 
-pub end-position : {S : Schema} {e : List Event} {w : List ℕ} → Position S e (frame top w ∷ []) → Word (rootBlock S) w → Position S (e ++ (finish ∷ [])) []
+pub end-position : {S : Schema} {e : List Event} {w : List ℕ} → Position S e (frame top w ∷ []) → Word (rootBlock S) w
+    → Position S (e ++ (finish ∷ [])) []
 end-position p x = moved p (ends x) ended
 
 grown-start : {S : Schema} → Grown S start
@@ -105,7 +108,8 @@ onward {S} {e} {d} {fs} p v r q =
     (λ f. inr (from-follows p v q f))
     (follow (p .run) (suspended-run (p .suspended)) grown-start (x .run) r (rw (p .tags, ← q) (sym (x .tags))))
 
-pub onward-only : {S : Schema} → ¬ Competition S → {e d : List Event} {fs : List Frame} (p : Position S e fs) (v : Valid S d) (r : List Event) → d ≡ e ++ r
+pub onward-only : {S : Schema} → ¬ Competition S
+    → {e d : List Event} {fs : List Frame} (p : Position S e fs) (v : Valid S d) (r : List Event) → d ≡ e ++ r
     → Onward S p v r
 onward-only free p v r q = ⊎-elim (λ c. absurd (free c)) (λ o. o) (onward p v r q)
 

@@ -50,7 +50,8 @@ record LastMove (S : Schema) (e : List Event) (x : Event) : Type 0 where
   moves : Moves S (frame owner children ∷ outer-frames) event frames
   suspended : Suspended S frames
 
-one-move : {S : Schema} {e τ : List Event} {x : Event} {fs gs : List Frame} (σ : List Event) → Run S start τ fs → tagged S τ ≡ e → Run S fs σ gs → tagged S σ ≡ x ∷ []
+one-move : {S : Schema} {e τ : List Event} {x : Event} {fs gs : List Frame} (σ : List Event) → Run S start τ fs → tagged S τ ≡ e
+    → Run S fs σ gs → tagged S σ ≡ x ∷ []
     → Suspended S gs → LastMove S e x
 one-move [] h t k q s = absurd (cons≢nil (sym q))
 one-move (y ∷ z ∷ σ) h t k q s = absurd (cons≢nil (tail-eq-of-cons-eq q))
@@ -99,7 +100,8 @@ opening-tag {S} below e g b =
     subst (λ (h : ℕ). h < S .tags) (c .tag) (word-tag S below (c .type) (bears-word (c .candidate .bears) .is-word))
 
 -- The open elements at a position, by the types of any list that begins with the position's.
-elements-of : {S : Schema} {e : List Event} {fs : List Frame} (p : Position S e fs) → NotFinished e → {ts : List ℕ} (r : List ℕ) → ts ≡ opened (p .events) ++ r
+elements-of : {S : Schema} {e : List Event} {fs : List Frame} (p : Position S e fs) → NotFinished e → {ts : List ℕ} (r : List ℕ)
+    → ts ≡ opened (p .events) ++ r
     → Elements S ts (openElements e) fs
 elements-of {S} {e} {fs} p n {ts} r q =
     subst (λ (x : List Event). NotFinished x → Elements S ts (openElements x) fs) (p .tags)
@@ -112,15 +114,18 @@ pub record Innermost (S : Schema) (ts : List ℕ) (xs : List OpenElement) (a : �
   pub type : getD ts (getD xs 0 (record { tag = 0; place = 0; children = [] }) .place) 0 ≡ a
   pub children : map (λ (n : ℕ). getD ts n 0) (getD xs 0 (record { tag = 0; place = 0; children = [] }) .children) ≡ w
 
-pub innermost-of : {S : Schema} {ts : List ℕ} {xs : List OpenElement} {a : ℕ} {w : List ℕ} {fs : List Frame} → Elements S ts xs (frame (own a) w ∷ fs)
+pub innermost-of : {S : Schema} {ts : List ℕ} {xs : List OpenElement} {a : ℕ} {w : List ℕ} {fs : List Frame}
+    → Elements S ts xs (frame (own a) w ∷ fs)
     → Innermost S ts xs a w
 innermost-of (element g t c m) = record { is-open = omega arith; tag = g; type = t; children = c }
 
-pub nothing-open : {S : Schema} {ts : List ℕ} {xs : List OpenElement} {w : List ℕ} {fs : List Frame} → Elements S ts xs (frame top w ∷ fs) → xs ≡ []
+pub nothing-open : {S : Schema} {ts : List ℕ} {xs : List OpenElement} {w : List ℕ} {fs : List Frame}
+    → Elements S ts xs (frame top w ∷ fs) → xs ≡ []
 nothing-open outside = refl
 
 -- Question 17, by the types of the innermost frame.
-pub children-word : {S : Schema} → ¬ Competition S → {e : List Event} {a : ℕ} {w : List ℕ} {fs : List Frame} → Position S e (frame (own a) w ∷ fs)
+pub children-word : {S : Schema} → ¬ Competition S → {e : List Event} {a : ℕ} {w : List ℕ} {fs : List Frame}
+    → Position S e (frame (own a) w ∷ fs)
     → ChildrenFormWord S e ↔ Word (blockOf S a) w
 children-word {S} free {e} {a} {w} {fs} p = (
   λ c. let b = position-begins p in given (b .valid) (b .beginning) .0 (c (b .whole) (b .valid) (b .beginning)),
@@ -143,17 +148,20 @@ pub record ClosingAsked (S : Schema) (e : List Event) (g : ℕ) : Type 0 where
   pub word : ChildrenFormWord S e
 
 -- the types that the position itself gives
-pub own-elements : {S : Schema} {e : List Event} {fs : List Frame} (p : Position S e fs) → NotFinished e → Elements S (opened (p .events)) (openElements e) fs
+pub own-elements : {S : Schema} {e : List Event} {fs : List Frame} (p : Position S e fs) → NotFinished e
+    → Elements S (opened (p .events)) (openElements e) fs
 own-elements p n = elements-of p n [] (sym (append-nil (opened (p .events))))
 
-asked-begins : {S : Schema} → ¬ Competition S → {e : List Event} {g : ℕ} {fs : List Frame} {ts : List ℕ} {xs : List OpenElement} → Elements S ts xs fs
+asked-begins : {S : Schema} → ¬ Competition S → {e : List Event} {g : ℕ} {fs : List Frame} {ts : List ℕ} {xs : List OpenElement}
+    → Elements S ts xs fs
     → xs ≡ openElements e → Position S e fs → ClosingAsked S e g → Begins S (e ++ (closing g ∷ []))
 asked-begins free {e} outside q p c = absurd (let k = c .element-open in let z : 0 < 0 = rw (← q) at k in omega arith)
 asked-begins free {g = g} (element {x = x} {xs = xs} t m n k) q p c =
     closing-exactly free p g .1
     (sym t ∙ ap (λ (l : List OpenElement). getD l 0 (record { tag = 0; place = 0; children = [] }) .tag) q ∙ c .innermost-tag, children-word free p .0 (c .word))
 
-begins-asked : {S : Schema} → ¬ Competition S → TagsBelow S → {e : List Event} {g : ℕ} {o : Owner} {w : List ℕ} {fs gs : List Frame} {y : Event} → Position S e (frame o w ∷ fs)
+begins-asked : {S : Schema} → ¬ Competition S → TagsBelow S
+    → {e : List Event} {g : ℕ} {o : Owner} {w : List ℕ} {fs gs : List Frame} {y : Event} → Position S e (frame o w ∷ fs)
     → Moves S (frame o w ∷ fs) y gs → relabelEvent (tagOf S) y ≡ closing g → ClosingAsked S e g
 begins-asked free below p opens q = let z : _≡_ {A = ℕ} 0 1 = cc in absurd (omega arith)
 begins-asked {S} free below {g = g} p (closes {a = a} x) q =
@@ -170,7 +178,8 @@ begins-asked {S} free below {g = g} p (closes {a = a} x) q =
 begins-asked free below p (ends x) q = let z : _≡_ {A = ℕ} 0 1 = cc in absurd (omega arith)
 
 -- A closing's questions are answered yes exactly when the events with it begin a valid document.
-pub closing-begins : {S : Schema} → ¬ Competition S → TagsBelow S → (e : List Event) (g : ℕ) → Begins S e → ClosingAsked S e g ↔ Begins S (e ++ (closing g ∷ []))
+pub closing-begins : {S : Schema} → ¬ Competition S → TagsBelow S → (e : List Event) (g : ℕ) → Begins S e
+    → ClosingAsked S e g ↔ Begins S (e ++ (closing g ∷ []))
 closing-begins free below e g b = (
   λ c. let p = position b .at in asked-begins free (own-elements p (c .not-finished)) refl p c,
   λ k. let l = last-move e (closing g) k in begins-asked free below (l .at) (l .moves) (l .tag),
@@ -201,19 +210,22 @@ seen-word {S} (seen-outside {a = a} {w = w}) (outer f) =
     let v : w ≡ [] = append-nil-left w (labels (f .forest)) (tail-eq-of-cons-eq e) in
     rw v (root-is-word S (head-eq-of-cons-eq e))
 
-start-run : {S : Schema} {w : List ℕ} {fs : List Frame} {τ : List Event} → Run S start τ (frame top w ∷ fs) → 0 < openings τ → RootSeen (frame top w ∷ fs)
+start-run : {S : Schema} {w : List ℕ} {fs : List Frame} {τ : List Event} → Run S start τ (frame top w ∷ fs) → 0 < openings τ
+    → RootSeen (frame top w ∷ fs)
 start-run halt o = absurd (omega arith)
 start-run (move opens r) o = seen-run (seen-inside seen-outside) r
 start-run (move (ends w) r) o = absurd (no-run r)
 
-closed-begins : {S : Schema} {e : List Event} {fs : List Frame} {ts : List ℕ} {xs : List OpenElement} → Elements S ts xs fs → xs ≡ openElements e → Position S e fs
+closed-begins : {S : Schema} {e : List Event} {fs : List Frame} {ts : List ℕ} {xs : List OpenElement} → Elements S ts xs fs
+    → xs ≡ openElements e → Position S e fs
     → RootClosed e → Begins S (e ++ (finish ∷ []))
 closed-begins {S} outside q p c =
     let o : 0 < openings (p .events) = subst (λ (n : ℕ). 0 < n) (sym (ap openings (p .tags)) ∙ openings-relabel (tagOf S) (p .events)) (c .opened) in
     position-begins (end-position p (seen-word (start-run (p .run) o) (p .suspended)))
 closed-begins (element t m n k) q p c = absurd (let d = ap length q ∙ c .closed in omega arith)
 
-begins-closed : {S : Schema} {e : List Event} {w : List ℕ} {fs : List Frame} → Position S e (frame top w ∷ fs) → Word (rootBlock S) w → RootClosed e
+begins-closed : {S : Schema} {e : List Event} {w : List ℕ} {fs : List Frame} → Position S e (frame top w ∷ fs) → Word (rootBlock S) w
+    → RootClosed e
 begins-closed {S} p x =
     record {
       opened = subst (λ (n : ℕ). 0 < n) (sym (openings-relabel (tagOf S) (p .events)) ∙ ap openings (p .tags)) (some-opening (p .run) (word-is-root S x));
@@ -240,7 +252,8 @@ finish-begins {S} e b = (
 end-valid : {S : Schema} {e : List Event} → Position S e [] → Valid S e
 end-valid {S} p = subst (λ (d : List Event). Valid S d) (p .tags) (run-valid (p .run) .valid)
 
-ends-valid : {S : Schema} {e : List Event} {o : Owner} {w : List ℕ} {fs gs : List Frame} {y : Event} → Position S e (frame o w ∷ fs) → Moves S (frame o w ∷ fs) y gs
+ends-valid : {S : Schema} {e : List Event} {o : Owner} {w : List ℕ} {fs gs : List Frame} {y : Event} → Position S e (frame o w ∷ fs)
+    → Moves S (frame o w ∷ fs) y gs
     → relabelEvent (tagOf S) y ≡ finish → Valid S (e ++ (finish ∷ []))
 ends-valid p opens q = let z : _≡_ {A = ℕ} 0 1 = cc in absurd (omega arith)
 ends-valid p (closes x) q = let z : _≡_ {A = ℕ} 0 1 = cc in absurd (omega arith)

@@ -33,7 +33,8 @@ pub record RivalsAfter (S : Schema) (a : ℕ) (w : List ℕ) (j k : ℕ) : Type 
 
 -- rival steps after w compete there
 pub rivals-compete :
-    {S : Schema} {a p q j k : ℕ} {w : List ℕ} → Reached S a → Bears S a → Leads (blockOf S a) 0 w p → Leads (blockOf S a) 0 w q → AllBear S w
+    {S : Schema} {a p q j k : ℕ} {w : List ℕ} → Reached S a → Bears S a → Leads (blockOf S a) 0 w p → Leads (blockOf S a) 0 w q
+    → AllBear S w
     → RivalSteps S a p q j k → j < k → Compete S a w j k
 rivals-compete {p = p} {q = q} reached bears left right bear r order =
     record {

@@ -2,27 +2,23 @@
 use mathlib.Core.Path.{_≡_, refl, sym, ap, subst₂}
 use mathlib.Core.Logic.{_⊎_, inl, inr, ⊎-elim, ⊎-swap}
 use mathlib.Core.List.{List, [], _∷_, List·Memᴰ, List·Memᴰ·head, List·Memᴰ·tail, List·Memᴰ·not-nil, List·Memᴰ·cases-cons}
-use Prim.Native.Nat.{ℕ, suc, _≤_, _<_}
+use Prim.Native.Nat.{ℕ, suc, _<_}
 use native.Mathlib.Decide.{ℕ-discrete}
 use native.Mathlib.Omega.{arith}
 use lib.ListN.{length}
-use Rattle.sdtd.specs.Limits.{mostStates, mostPairs, mostWord}
-use Rattle.sdtd.specs.Schema.{Step, Block, Schema, Leads, stay, go}
+use Rattle.sdtd.specs.Limits.{mostPairs}
+use Rattle.sdtd.specs.Schema.{Step, Block, Schema, blockOf, Leads, stay, go, BlockWithin}
 use Rattle.sdtd.specs.Trim.{Bears, none, both, AllBear}
 use Rattle.sdtd.specs.Competition.{pairNumber}
+use Rattle.sdtd.proofs.Fixpoint.{PairReached}
 use Rattle.sdtd.proofs.Rounds.{Distinct, no-number, fresh, full-length}
 use Rattle.sdtd.proofs.Pairs.{SamePair, pair-one-number, pair-below-most}
 
 -- one word w over tree-bearing types that leads in b from p to p′ and from q to q′
-pub record PairWay (S : Schema) (b : Block) (p q : ℕ) (w : List ℕ) (p′ q′ : ℕ) : Type 0 where
-  pub first : Leads b p w p′
-  pub second : Leads b q w q′
-  pub bear : AllBear S w
-
--- a word over tree-bearing types that leads in b from state 0 both to p and to q
-pub record PairWord (S : Schema) (b : Block) (p q : ℕ) : Type 0 where
-  pub word : List ℕ
-  pub way : PairWay S b 0 0 word p q
+record PairWay (S : Schema) (b : Block) (p q : ℕ) (w : List ℕ) (p′ q′ : ℕ) : Type 0 where
+  first : Leads b p w p′
+  second : Leads b q w q′
+  bear : AllBear S w
 
 mem-dec : (x : ℕ) (xs : List ℕ) → Dec (List·Memᴰ x xs)
 mem-dec x [] = no List·Memᴰ·not-nil
@@ -103,28 +99,30 @@ module _ {S : Schema} {b : Block} {number : ℕ → ℕ → ℕ} {p′ q′ : �
   shorten stay stay none = inl (record { word = _; visited = _; trail = arrived; distinct = fresh List·Memᴰ·not-nil no-number })
   shorten (go m l) (go n k) (both t a) = ⊎-elim (λ f. extend m n t f) (λ f. ⊎-swap (extend n m t f)) (shorten l k a)
 
--- Where each unordered pair of b's states has a number of its own below N, a pair that a word over tree-bearing types reaches from state 0
--- is reached by such a word of fewer than N types.
-pub short-pair : {S : Schema} {b : Block} {p q : ℕ} {w : List ℕ} (N : ℕ) (number : ℕ → ℕ → ℕ)
-    → ((s : Step) → List·Memᴰ s (b .steps) → s .to < b .states) → 0 < b .states
-    → ((p q : ℕ) → p < b .states → q < b .states → number p q < N)
-    → ((p q r s : ℕ) → number p q ≡ number r s → SamePair p q r s)
-    → PairWay S b 0 0 w p q → (short : PairWord S b p q) × (length (short .word) < N)
-short-pair {S} {b} {p} {q} N number within start below one way = ⊎-elim result result (shorten one (way .first) (way .second) (way .bear))
-  where
-    result : Shortened S b number p q 0 0 → (short : PairWord S b p q) × (length (short .word) < N)
-    result f = (
-      record { word = f .word; way = trail-way (f .trail) },
-      omega (arith, trail-length (f .trail), full-length N (f .distinct) (trail-below within below (f .trail) start start)),
-    )
+-- a pair reached by a word of fewer than N types
+pub record ShortPair (S : Schema) (a p q N : ℕ) : Type 0 where
+  pub pair : PairReached S a p q
+  pub short : length (pair .word) < N
 
--- in a block of at most 32 states, a word of at most 527 types
-pub short-pair-most : {S : Schema} {b : Block} {p q : ℕ} {w : List ℕ}
-    → ((s : Step) → List·Memᴰ s (b .steps) → s .to < b .states) → 0 < b .states → b .states ≤ mostStates
-    → PairWay S b 0 0 w p q → (short : PairWord S b p q) × (length (short .word) ≤ mostWord)
-short-pair-most {b = b} within start most way =
-    let r = short-pair mostPairs pairNumber within start below pair-one-number way in
-    (r .0, omega arith)
+-- Where each unordered pair of the states of the type a has a number of its own below N, a pair that a word over tree-bearing types reaches
+-- is reached by such a word of fewer than N types.
+pub short-pair : {S : Schema} {a p q : ℕ} (N : ℕ) (number : ℕ → ℕ → ℕ)
+    → ((s : Step) → List·Memᴰ s (blockOf S a .steps) → s .to < blockOf S a .states) → 0 < blockOf S a .states
+    → ((p q : ℕ) → p < blockOf S a .states → q < blockOf S a .states → number p q < N)
+    → ((p q r s : ℕ) → number p q ≡ number r s → SamePair p q r s)
+    → PairReached S a p q → ShortPair S a p q N
+short-pair {S} {a} {p} {q} N number within start below one x = ⊎-elim result result (shorten one (x .left) (x .right) (x .bear))
   where
-    below : (p q : ℕ) → p < b .states → q < b .states → pairNumber p q < mostPairs
-    below p q h k = pair-below-most p q (omega arith) (omega arith)
+    result : Shortened S (blockOf S a) number p q 0 0 → ShortPair S a p q N
+    result f =
+        let w = trail-way (f .trail) in
+        record {
+          pair = record { word = f .word; left = w .first; right = w .second; bear = w .bear };
+          short = omega (arith, trail-length (f .trail), full-length N (f .distinct) (trail-below within below (f .trail) start start));
+        }
+
+-- inside the limits, a word of at most 527 types
+pub short-pair-most : {S : Schema} {a p q : ℕ} → BlockWithin S (blockOf S a) → PairReached S a p q → ShortPair S a p q mostPairs
+short-pair-most {S} {a} w x =
+    short-pair mostPairs pairNumber (λ s m. w .steps s m .to) (w .states-least)
+    (λ p q h k. pair-below-most p q (omega (arith, w .states-most)) (omega (arith, w .states-most))) pair-one-number x

@@ -15,7 +15,8 @@ use Rattle.sdtd.proofs.Typed.{valid-run, typedEvents}
 use Rattle.sdtd.proofs.Position.{Position, position, onward-only, onward-types, place-of}
 
 module _ {S : Schema} (free : ¬ Competition S) where
-  first-types : {e d : List Event} {fs : List Frame} (p : Position S e fs) (v : Valid S d) (b : BeginningOf e d) → take (openings e) (typesOf v) ≡ opened (p .events)
+  first-types : {e d : List Event} {fs : List Frame} (p : Position S e fs) (v : Valid S d) (b : BeginningOf e d)
+      → take (openings e) (typesOf v) ≡ opened (p .events)
   first-types {e} p v b =
       let o = onward-only free p v (b .rest) (b .splits) in
       rw (onward-types o) (take-at (opened (p .events)) (opened (o .rest)) (openings e) (place-of p))
