@@ -25,7 +25,8 @@ read-word : {S : Schema} {o : Owner} {w : List ℕ} (fs : List Frame) → AllBea
     → (τ : List Event) × Run S (frame o [] ∷ fs) τ (frame o w ∷ fs)
 read-word {S} {o} {w} fs b =
     let g = grow b in
-    (streams (g .forest), subst (λ (v : List ℕ). Run S (frame o [] ∷ fs) (streams (g .forest)) (frame o v ∷ fs)) (g .at-roots) (forest-run (g .forest) (g .derived) o [] fs))
+    let r = forest-run (g .forest) (g .derived) o [] fs in
+    (streams (g .forest), subst (λ (v : List ℕ). Run S (frame o [] ∷ fs) (streams (g .forest)) (frame o v ∷ fs)) (g .at-roots) r)
 
 -- a typed reading that has just opened an element of the type a, whose outer frames can be brought to an end
 record Context (S : Schema) (a : ℕ) : Type 0 where
@@ -128,7 +129,8 @@ competition-ambiguous {S} k =
     }
 
 -- the type at a place that the position has read
-known-type : {S : Schema} (e : List Event) (g : ℕ) {d : List Event} {fs : List Frame} {v : Valid S d} {r : List Event} (p : Position S (e ++ (opening g ∷ [])) fs) (o : Onward S p v r)
+known-type : {S : Schema} (e : List Event) (g : ℕ) {d : List Event} {fs : List Frame} {v : Valid S d} {r : List Event}
+    (p : Position S (e ++ (opening g ∷ [])) fs) (o : Onward S p v r)
     → typeAt v (openings e) ≡ getD (opened (p .events)) (openings e) 0
 known-type e g p o =
     let read : openings e < length (opened (p .events)) = omega (arith, place-of p, openings-append e (opening g ∷ [])) in
@@ -142,7 +144,11 @@ ambiguous-competition {S} a =
     let p = position (record { whole = a .document₁; valid = a .valid₁; beginning = b₁ }) .at in
     ⊎-elim
     (λ c. c)
-    (λ o₁. ⊎-elim (λ c. c) (λ o₂. absurd (a .differ (known-type (a .before) (a .tag) p o₁ ∙ sym (known-type (a .before) (a .tag) p o₂)))) (onward p (a .valid₂) (b₂ .rest) (b₂ .splits)))
+    (λ o₁.
+    ⊎-elim
+    (λ c. c)
+    (λ o₂. absurd (a .differ (known-type (a .before) (a .tag) p o₁ ∙ sym (known-type (a .before) (a .tag) p o₂))))
+    (onward p (a .valid₂) (b₂ .rest) (b₂ .splits)))
     (onward p (a .valid₁) (b₁ .rest) (b₁ .splits))
 
 -- Item 1: there is a competition exactly when two valid documents, each with a typing, agree through an opening and differ in its type.

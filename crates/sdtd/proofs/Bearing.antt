@@ -33,7 +33,8 @@ forest-bears (more t f) d = both (tree-bears t (d .0)) (forest-bears f (d .1))
 pub word-bears : {S : Schema} (a : ℕ) {w : List ℕ} → Word (blockOf S a) w → AllBear S w → Bears S a
 word-bears {S} a {w} word bear =
     let g = grow bear in
-    record { tree = node a (g .forest); at-root = refl; derived = (subst (λ (v : List ℕ). Word (blockOf S a) v) (sym (g .at-roots)) word, g .derived) }
+    let own : Word (blockOf S a) (labels (g .forest)) = subst (λ (v : List ℕ). Word (blockOf S a) v) (sym (g .at-roots)) word in
+    record { tree = node a (g .forest); at-root = refl; derived = (own, g .derived) }
 
 -- a word over tree-bearing types
 pub record BearingWord (S : Schema) (a : ℕ) : Type 0 where

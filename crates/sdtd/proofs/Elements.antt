@@ -48,5 +48,6 @@ elements-run {S} {ts} {xs} past later (move {fs″ = hs} {τ = τ} (opens {a = j
     (λ f. inr (List·Memᴰ·tail (f .0), f .1))
     (elements-run (past ++ (j ∷ [])) later r (e ∙ sym (append-assoc past (j ∷ []) (opened τ ++ later)))
     (element {x = record { tag = tagOf S j; place = length past; children = [] }} refl p refl (with-child (length past) p m)))
-elements-run past later (move (closes w) r) e (element g p c m) = ⊎-elim (λ k. inl k) (λ f. inr (List·Memᴰ·tail (f .0), f .1)) (elements-run past later r e m)
+elements-run past later (move (closes w) r) e (element g p c m) =
+    ⊎-elim (λ k. inl k) (λ f. inr (List·Memᴰ·tail (f .0), f .1)) (elements-run past later r e m)
 elements-run past later (move (ends w) halt) e m = inr (List·Memᴰ·head refl, refl)

@@ -2,7 +2,8 @@
 -- typed events begin with that very reading.
 use mathlib.Core.Path.{_≡_, refl, sym, ap, subst, _∙_}
 use mathlib.Core.Logic.{_≢_, _⊎_, inl, inr, ⊎-elim}
-use mathlib.Core.List.{List, [], _∷_, _++_, append-assoc, cons≢nil, nil≢cons, head-eq-of-cons-eq, tail-eq-of-cons-eq, List·Memᴰ, Memᴰ·append-right}
+use mathlib.Core.List.{List, [], _∷_, _++_, append-assoc, cons≢nil, nil≢cons, head-eq-of-cons-eq, tail-eq-of-cons-eq, List·Memᴰ}
+use mathlib.Core.List.{Memᴰ·append-right}
 use mathlib.Core.List.{List·Memᴰ·head}
 use Prim.Native.Nat.{ℕ, _<_}
 use native.Mathlib.Omega.{arith}
@@ -15,7 +16,8 @@ use Rattle.sdtd.specs.Competition.{GoesOn, Compete, Competition}
 use Rattle.sdtd.proofs.Automata.{all-append, all-back, all-head, all-tail}
 use Rattle.sdtd.proofs.Bearing.{grow, forest-bears, word-bears, bears-word}
 use Rattle.sdtd.proofs.Trees.{relabelEvent}
-use Rattle.sdtd.proofs.Machine.{Owner, top, own, content, Frame, frame, Moves, opens, closes, ends, Run, halt, move, run-append, word-is-root}
+use Rattle.sdtd.proofs.Machine.{Owner, top, own, content, Frame, frame, Moves, opens, closes, ends, Run, halt, move, run-append}
+use Rattle.sdtd.proofs.Machine.{word-is-root}
 use Rattle.sdtd.proofs.Machine.{Future, Suspended, outer, inner, run-suspended}
 use Rattle.sdtd.proofs.Typed.{tagged}
 

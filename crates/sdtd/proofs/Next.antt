@@ -15,8 +15,10 @@ use Rattle.sdtd.proofs.Trees.{relabelEvent, opened}
 use Rattle.sdtd.proofs.Machine.{Owner, top, own, rootBlock, root-is-word, Frame, frame, Moves, opens, closes, ends, Run, halt, move}
 use Rattle.sdtd.proofs.Machine.{Suspended, run-suspended}
 use Rattle.sdtd.proofs.Typed.{tagged}
-use Rattle.sdtd.proofs.Follow.{Candidate, suspended-candidate, root-candidate, Grown, grown, one-candidate, candidate-goes-on, goes-on-candidate}
-use Rattle.sdtd.proofs.Position.{Position, position-begins, position-grown, open-position, close-position, end-position, onward-only, onward-types, place-of}
+use Rattle.sdtd.proofs.Follow.{Candidate, suspended-candidate, root-candidate, Grown, grown, one-candidate, candidate-goes-on}
+use Rattle.sdtd.proofs.Follow.{goes-on-candidate}
+use Rattle.sdtd.proofs.Position.{Position, position-begins, position-grown, open-position, close-position, end-position}
+use Rattle.sdtd.proofs.Position.{onward-only, onward-types, place-of}
 
 -- the typed event that a document has after the position
 pub record NextMove (S : Schema) {e d : List Event} {fs : List Frame} (p : Position S e fs) (v : Valid S d) (x : Event) : Type 0 where

@@ -9,7 +9,8 @@ use Rattle.sdtd.specs.Document.{Event, opening, closing, finish, opening
 use Rattle.sdtd.specs.Trim.{none}
 use Rattle.sdtd.specs.Competition.{Competition}
 use Rattle.sdtd.proofs.Trees.{relabelEvent, opened, opened-append, opened-document, length-opened, openings-relabel}
-use Rattle.sdtd.proofs.Machine.{Owner, top, own, rootBlock, Frame, frame, Moves, opens, closes, ends, Run, halt, move, start, run-append, run-split}
+use Rattle.sdtd.proofs.Machine.{Owner, top, own, rootBlock, Frame, frame, Moves, opens, closes, ends, Run, halt, move, start}
+use Rattle.sdtd.proofs.Machine.{run-append, run-split}
 use Rattle.sdtd.proofs.Machine.{Suspended, ended, outer, inner, todo, suspended-run, run-suspended}
 use Rattle.sdtd.proofs.Typed.{tagged, typedEvents, valid-run, run-valid, tagged-cut}
 use Rattle.sdtd.proofs.Follow.{Candidate, candidate-suspended, Grown, grown, grown-none, grown-run, Follows, follow}

@@ -2,7 +2,8 @@
 -- begin a valid document.
 use mathlib.Core.Path.{_≡_, refl, sym, ap, subst, _∙_}
 use mathlib.Core.Logic.{_↔_, _⊎_, inl, inr, ⊎-elim}
-use mathlib.Core.List.{List, [], _∷_, _++_, map, append-assoc, append-nil, cons≢nil, nil≢cons, head-eq-of-cons-eq, tail-eq-of-cons-eq, List·Memᴰ}
+use mathlib.Core.List.{List, [], _∷_, _++_, map, append-assoc, append-nil, cons≢nil, nil≢cons, head-eq-of-cons-eq, tail-eq-of-cons-eq}
+use mathlib.Core.List.{List·Memᴰ}
 use mathlib.Core.List.{List·Memᴰ·head, List·Memᴰ·tail, List·Memᴰ·cases-cons}
 use Prim.Native.Nat.{ℕ, zero, suc, _<_}
 use native.Mathlib.Omega.{arith}
@@ -15,7 +16,8 @@ use Rattle.sdtd.specs.Competition.{Competition}
 use Rattle.sdtd.specs.Reading.{OpenElement, openElements, NotFinished, depth, innermost, ChildrenFormWord, RootClosed}
 use Rattle.sdtd.proofs.Bearing.{bears-word}
 use Rattle.sdtd.proofs.Trees.{relabelEvent, opened, openings-relabel}
-use Rattle.sdtd.proofs.Machine.{Owner, top, own, rootBlock, word-is-root, root-is-word, Frame, frame, Moves, opens, closes, ends, Run, halt, move, start, run-split}
+use Rattle.sdtd.proofs.Machine.{Owner, top, own, rootBlock, word-is-root, root-is-word, Frame, frame, Moves, opens, closes, ends}
+use Rattle.sdtd.proofs.Machine.{Run, halt, move, start, run-split}
 use Rattle.sdtd.proofs.Machine.{Suspended, outer, inner, suspended-run, run-suspended}
 use Rattle.sdtd.proofs.Typed.{tagged, tagged-cut, run-valid}
 use Rattle.sdtd.proofs.Position.{Position, SomePosition, position, position-begins, end-position, onward-only, onward-types}

@@ -5,7 +5,8 @@ use mathlib.Core.Logic.{_↔_}
 use mathlib.Core.List.{List, [], _∷_, List·Memᴰ, List·Memᴰ·head, List·Memᴰ·tail}
 use Prim.Native.Nat.{ℕ}
 use Rattle.sdtd.specs.Schema.{Schema, blockOf, tagOf, Leads, stay, go, Word}
-use Rattle.sdtd.specs.Tree.{Tree, Forest, node, empty, more, label, labels, relabel, preorder, preorders, Derived, DerivedAll, IsTyping}
+use Rattle.sdtd.specs.Tree.{Tree, Forest, node, empty, more, label, labels, relabel, preorder, preorders, Derived, DerivedAll}
+use Rattle.sdtd.specs.Tree.{IsTyping}
 use Rattle.sdtd.specs.Document.{Event, document, Valid, SomeValid}
 use Rattle.sdtd.specs.Trim.{Bears, All, none, both, AllBear, Reached, root, child, Used, Useful, KeptStep, Trimmed}
 use Rattle.sdtd.proofs.Automata.{all-append, all-mem, all-head, all-tail}

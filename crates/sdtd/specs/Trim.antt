@@ -52,8 +52,9 @@ pub record KeptStep (S : Schema) (a : ℕ) (s : Step) : Type 0 where
   pub from-live : Live S a (s .from)
   pub to-live : Live S a (s .to)
 
--- S′ is S trimmed, by the words of the requirement that trimming loses no document: the same tags, types and root; a block that is unreached or bears no tree is emptied, and of the others just the steps
--- by tree-bearing types between live states are kept.
+-- S′ is S trimmed: the same tags, types, numbers and root; a block that is unreached or bears no tree is emptied, and of the others just the
+-- steps by tree-bearing types between live states are kept. Source document 000 removes the useless types themselves; document 01 keeps
+-- their numbers.
 pub record Trimmed (S S′ : Schema) : Type 0 where
   pub tags : S′ .tags ≡ S .tags
   pub types : length (S′ .blocks) ≡ length (S .blocks)
