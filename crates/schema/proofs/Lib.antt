@@ -1,0 +1,17 @@
+-- Laws of the values and of what the loops compute.
+pub mod Bits
+pub mod Values
+pub mod LimitLaws
+pub mod Rounds
+pub mod SpreadLaws
+pub mod ReachLaws
+pub mod FirstTables
+pub mod TablesExact
+pub mod NextStates
+pub mod MarkLaws
+pub mod Kept
+pub mod MarkGrowth
+pub mod Queues
+pub mod Words
+pub mod Compete
+pub mod Outcome

@@ -1,0 +1,200 @@
+-- The tables that the rounds of trimming settle at are exactly the definitions.
+use mathlib.Core.Path.{refl, sym, _∙_}
+use mathlib.Core.Logic.{_↔_}
+use mathlib.Core.Bool.{Bool, true, false}
+use mathlib.Core.List.{List, [], _∷_, _++_, List·Memᴰ}
+use Prim.Native.Nat.{ℕ, _%_, _<_}
+use native.Mathlib.Omega.{arith}
+use lib.Dec.{T}
+use lib.ListN.{getD, set, replicate, length-set, List·getD-map}
+use Rattle.sdtd.specs.Schema.{Step, blockOf, WithinLimits, Leads, stay, go}
+use Rattle.sdtd.specs.Trim.{Bears, AllBear, none, both, Live, Reached}
+use Rattle.sdtd.proofs.Automata.{leads-append, all-append}
+use Rattle.sdtd.proofs.Fixpoint.{LiveClosed, live-closed, live-exact, bears-exact, Forward, ReachedClosed, reached-closed, reached-exact}
+use Rattle.schema.specs.States.{member}
+use Rattle.schema.specs.Value.{stepsOf, meaning}
+use Rattle.schema.specs.Trimming.{Exact}
+use Rattle.schema.specs.Spread.{spreadAll, reachAll, Settled, firstSets, startStates, bearing}
+use Rattle.schema.specs.declared.value.Schema.{Schema}
+use Rattle.schema.proofs.SpreadLaws.{settled-keeps, byBearing, own, Table, round-keeps, settled-takes}
+use Rattle.schema.proofs.FirstTables.{Fits, OwnStep, back, forth, turned, firstLive, firstReached, types-most, root-is, root-below}
+use Rattle.schema.proofs.FirstTables.{own-steps, own-step, own-back, accepts, first-long, first-below}
+use Rattle.schema.proofs.FirstTables.{start-only, start-below, start-in, one-only, one-in}
+use Rattle.schema.proofs.ReachLaws.{Marks, CountsIn, reach-keeps, settled-reaches}
+
+-- the three rounds
+abbrev liveRound : Schema → List ℕ → List ℕ
+liveRound v t = spreadAll (v .steps) (forth v) t 0 0 (v .types) t
+
+abbrev forwardRound : Schema → List ℕ → List ℕ → List ℕ
+forwardRound v live t = spreadAll (v .steps) (turned v) live 0 0 (v .types) t
+
+abbrev reachRound : Schema → List ℕ → List ℕ → List Bool → List Bool
+reachRound v live forward t = reachAll (v .steps) (forth v) live forward 0 0 (v .types) t
+
+-- what the tables on the way have
+abbrev LiveTable : Schema → List ℕ → Type 0
+LiveTable v = Table (firstLive v) (Live (meaning v))
+
+abbrev ForwardTable : Schema → List ℕ → Type 0
+ForwardTable v = Table startStates (Forward (meaning v))
+
+abbrev ReachedTable : Schema → List Bool → Type 0
+ReachedTable v = Marks (firstReached v) (Reached (meaning v))
+
+module _
+    {v : Schema} (fits : Fits v) (within : WithinLimits (meaning v)) {live : List ℕ}
+    (settled : Settled (liveRound v) (firstLive v) live) where
+  live-first : LiveTable v (firstLive v)
+  live-first =
+      record {
+        long = first-long fits within;
+        below = first-below fits within;
+        grown = λ a q m. m;
+        sound = λ a q m. live-closed .accepting a q (accepts fits within a q .1 m);
+      }
+
+  live-rule :
+      (t : List ℕ) → LiveTable v t → (a : ℕ) (s : Step) → a < v .types → List·Memᴰ s (own (v .steps) (forth v) a) → T (byBearing t s)
+      → Live (meaning v) a (s .to) → Live (meaning v) a (s .from)
+  live-rule t k a s l i b to =
+      let m = rw (← own-steps fits within a l) at i in
+      live-closed .step a s m (k .sound (s .by) 0 (rw (own-step fits within a s m .by) at b)) to
+
+  live-round : (t : List ℕ) → LiveTable v t → LiveTable v (liveRound v t)
+  live-round t k = round-keeps (v .steps) (forth v) (v .types) (fits .steps-long) (types-most fits within) t k (live-rule t k)
+
+  live-table : LiveTable v live
+  live-table = settled-keeps (LiveTable v) live-round live-first settled
+
+  live-rules : LiveClosed (meaning v) (λ a q. T (member q (getD live a 0)))
+  live-rules =
+      record {
+        accepting = λ a q m. live-table .grown a q (accepts fits within a q .0 m);
+        step =
+            λ a s m b to.
+            let o = own-step fits within a s m in
+            settled-takes (v .steps) (forth v) (v .types) (fits .steps-long) (types-most fits within) live live-table
+            (settled .settled) a s (o .type) (o .given) (o .from) (rw (o .by) b) to;
+      }
+
+  live-is : (a q : ℕ) → Live (meaning v) a q ↔ T (member q (getD live a 0))
+  live-is = live-exact live-rules (live-table .sound)
+
+  bears-is : (a : ℕ) → Bears (meaning v) a ↔ T (member 0 (getD live a 0))
+  bears-is = bears-exact live-rules (live-table .sound)
+
+  module _ {forward : List ℕ} (onward : Settled (forwardRound v live) startStates forward) where
+    forward-first : ForwardTable v startStates
+    forward-first =
+        record {
+          long = refl;
+          below = start-below 64;
+          grown = λ a q m. m;
+          sound = λ a q m. rw (start-only 64 a q m) (record { word = []; leads = stay; bear = none });
+        }
+
+    forward-rule :
+        (a : ℕ) (s : Step) → a < v .types → List·Memᴰ s (own (v .steps) (turned v) a) → T (byBearing live s)
+        → Forward (meaning v) a (s .to) → Forward (meaning v) a (s .from)
+    forward-rule a s l i b f =
+        let m = rw (← own-steps fits within a l) at (own-back (v .to) (v .by) (v .from) (v .steps) a s i) in
+        let c = bears-is (s .by) .1 (rw (own-step fits within a (back s) m .by) at b) in
+        record { word = f .word ++ (s .by ∷ []); leads = leads-append (f .leads) (go m stay); bear = all-append (f .bear) (both c none) }
+
+    forward-round : (t : List ℕ) → ForwardTable v t → ForwardTable v (forwardRound v live t)
+    forward-round t k = round-keeps (v .steps) (turned v) (v .types) (fits .steps-long) (types-most fits within) live k forward-rule
+
+    forward-table : ForwardTable v forward
+    forward-table = settled-keeps (ForwardTable v) forward-round forward-first onward
+
+    forward-takes :
+        (a : ℕ) (s : Step) → List·Memᴰ s (blockOf (meaning v) a .steps) → Bears (meaning v) (s .by)
+        → T (member (s .from) (getD forward a 0)) → T (member (s .to) (getD forward a 0))
+    forward-takes a s i b m =
+        let o = own-step fits within a s i in
+        settled-takes (v .steps) (turned v) (v .types) (fits .steps-long) (types-most fits within) live forward-table (onward .settled)
+        a (back s) (o .type) (own-back (v .from) (v .by) (v .to) (v .steps) a s (o .given)) (o .to)
+        (rw (o .by) (bears-is (s .by) .0 b)) m
+
+    -- from the start state on, the table has every state that children reach
+    along :
+        (a : ℕ) {p r : ℕ} {w : List ℕ} → Leads (blockOf (meaning v) a) p w r → AllBear (meaning v) w
+        → T (member p (getD forward a 0)) → T (member r (getD forward a 0))
+    along a stay b m = m
+    along a (go {p = p} {j = j} {q = q} i l) (both b c) m =
+        along a l c (forward-takes a (record { from = p; by = j; to = q }) i b m)
+
+    forward-has : (a p : ℕ) → a < v .types → Forward (meaning v) a p → T (member p (getD forward a 0))
+    forward-has a p l f =
+        let n = types-most fits within in
+        along a (f .leads) (f .bear) (forward-table .grown a 0 (start-in 64 a (omega arith)))
+
+    module _ {reached : List Bool} (ended : Settled (reachRound v live forward) (firstReached v) reached) where
+      reached-rule :
+          (a : ℕ) (s : Step) → a < v .types → Reached (meaning v) a → List·Memᴰ s (own (v .steps) (forth v) a)
+          → CountsIn live forward a s → Reached (meaning v) (s .by % 64)
+      reached-rule a s l r i c =
+          let m = rw (← own-steps fits within a l) at i in
+          let e = own-step fits within a s m .by in
+          let f = forward-table .sound a (s .from) (c .from) in
+          let b = bears-is (s .by) .1 (rw e at (c .by)) in
+          rw e (reached-closed .step a s r m f b (live-is a (s .to) .1 (c .to)))
+
+      reached-round : (t : List Bool) → ReachedTable v t → ReachedTable v (reachRound v live forward t)
+      reached-round t k =
+          reach-keeps (v .steps) (forth v) live forward (v .types) (fits .steps-long) (types-most fits within) k reached-rule
+
+      reached-first : ReachedTable v (firstReached v)
+      reached-first =
+          record {
+            long = length-set (replicate 64 false) (v .root .0) true;
+            grown = λ a m. m;
+            sound = λ a m. reached-closed .root a (one-only 64 (v .root .0) a m ∙ sym (root-is v));
+          }
+
+      reached-table : ReachedTable v reached
+      reached-table = settled-keeps (ReachedTable v) reached-round reached-first ended
+
+      counts : (a : ℕ) (s : Step) → OwnStep v a s → Forward (meaning v) a (s .from) → Bears (meaning v) (s .by)
+          → Live (meaning v) a (s .to) → CountsIn live forward a s
+      counts a s o f b l =
+          record {
+            from = forward-has a (s .from) (o .type) f;
+            by = rw (o .by) (bears-is (s .by) .0 b);
+            to = live-is a (s .to) .0 l;
+          }
+
+      reached-takes :
+          (a : ℕ) (s : Step) (o : OwnStep v a s) → T (getD reached a false) → CountsIn live forward a s → T (getD reached (s .by) false)
+      reached-takes a s o p c =
+          let e = ended .settled in
+          let n = types-most fits within in
+          let l = fits .steps-long in
+          let m = settled-reaches (v .steps) (forth v) live forward (v .types) l n reached-table e a s (o .type) p (o .given) c in
+          rw (o .by) at m
+
+      reached-rules : ReachedClosed (meaning v) (λ a. T (getD reached a false))
+      reached-rules =
+          record {
+            root = λ a e. reached-table .grown a (rw (e ∙ root-is v) (one-in 64 (v .root .0) (root-below fits within)));
+            step = λ a s p m f b l. let o = own-step fits within a s m in reached-takes a s o p (counts a s o f b l);
+          }
+
+      exact : Exact (meaning v) (record { live = live; bears = bearing live; reached = reached })
+      exact =
+          record {
+            live = λ a q. (live-is a q .1, live-is a q .0);
+            bears = λ a. rw (List·getD-map (member 0) live a 0) (bears-is a .1, bears-is a .0);
+            reached = λ a. let e = reached-exact reached-rules (reached-table .sound) a in (e .1, e .0);
+          }
+
+-- the tables that the three loops settle at
+pub tables-exact :
+    {v : Schema} {live forward : List ℕ} {reached : List Bool} → Fits v → WithinLimits (meaning v)
+    → Settled (λ t. spreadAll (v .steps) (stepsOf (v .from) (v .by) (v .to)) t 0 0 (v .types) t) (firstSets (v .types) (v .accepting)) live
+    → Settled (λ t. spreadAll (v .steps) (stepsOf (v .to) (v .by) (v .from)) live 0 0 (v .types) t) startStates forward
+    → Settled (λ t. reachAll (v .steps) (stepsOf (v .from) (v .by) (v .to)) live forward 0 0 (v .types) t)
+    (set (replicate 64 false) (v .root .0) true) reached
+    → Exact (meaning v) (record { live = live; bears = bearing live; reached = reached })
+tables-exact fits within l f r = exact fits within l f r

@@ -1,0 +1,95 @@
+-- Laws of the schema that a value states.
+use mathlib.Core.Path.{_≡_, refl, sym, ap, _∙_}
+use mathlib.Core.Logic.{_↔_, _⊎_, inl, inr}
+use mathlib.Core.List.{List, [], _∷_, map, List·Memᴰ, List·Memᴰ·head, List·Memᴰ·tail, List·Memᴰ·cases-cons, List·Memᴰ·not-nil}
+use Prim.Native.Nat.{ℕ, zero, suc, _+_, _≤_, _<_, zero-le}
+use native.Mathlib.Nat.{le-of-suc-le-suc}
+use native.Mathlib.Decide.{ℕ-discrete}
+use native.Mathlib.Omega.{arith}
+use lib.ListN.{length, getD, length-map, List·getD-eq-default}
+use Rattle.sdtd.specs.Schema.{Step, noBlock, blockOf}
+use Rattle.schema.specs.Value.{upFrom, stepAt, stepsOf, offset, blockAt, meaning}
+use Rattle.schema.specs.declared.value.Schema.{Schema}
+
+-- one step and then the others
+pub steps-cons : (from by to : List ℕ) (s n : ℕ) → stepsOf from by to s (suc n) ≡ stepAt from by to s ∷ stepsOf from by to (suc s) n
+unfolding stepsOf upFrom
+steps-cons from by to s n = refl
+
+-- the steps of a part are those at its places
+pub record AtPlace (from by to : List ℕ) (s n : ℕ) (x : Step) : Type 0 where
+  pub place : ℕ
+  pub least : s ≤ place
+  pub most : place < s + n
+  pub is : x ≡ stepAt from by to place
+
+module _ (from by to : List ℕ) (x : Step) where
+  at-place : (s n : ℕ) → List·Memᴰ x (stepsOf from by to s n) → AtPlace from by to s n x
+  unfolding stepsOf upFrom
+  at-place s zero m = absurd (List·Memᴰ·not-nil m)
+  at-place s (suc n) m = first (at-place (suc s) n) (List·Memᴰ·cases-cons m)
+    where
+      first : (List·Memᴰ x (stepsOf from by to (suc s) n) → AtPlace from by to (suc s) n x)
+          → (x ≡ stepAt from by to s) ⊎ List·Memᴰ x (stepsOf from by to (suc s) n) → AtPlace from by to s (suc n) x
+      first later (inl e) = record { place = s; least = omega arith; most = omega arith; is = e }
+      first later (inr m) =
+          let p = later m in
+          record { place = p .place; least = omega arith; most = omega arith; is = p .is }
+
+  from-place : (s n : ℕ) → AtPlace from by to s n x → List·Memᴰ x (stepsOf from by to s n)
+  unfolding stepsOf upFrom
+  from-place s zero p = absurd (omega arith)
+  from-place s (suc n) p = first (from-place (suc s) n) (ℕ-discrete s (p .place))
+    where
+      first : (AtPlace from by to (suc s) n x → List·Memᴰ x (stepsOf from by to (suc s) n)) → Dec (s ≡ p .place)
+          → List·Memᴰ x (stepAt from by to s ∷ stepsOf from by to (suc s) n)
+      first later (yes e) = List·Memᴰ·head (p .is ∙ sym (ap (stepAt from by to) e))
+      first later (no d) =
+          List·Memᴰ·tail (later (record { place = p .place; least = omega arith; most = omega arith; is = p .is }))
+
+pub steps-mem : (from by to : List ℕ) (s n : ℕ) (x : Step) → List·Memᴰ x (stepsOf from by to s n) ↔ AtPlace from by to s n x
+steps-mem from by to s n x = (at-place from by to x s n, from-place from by to x s n)
+
+-- the offset of the next type, past the end of the counts too
+pub offset-step : (steps : List ℕ) (a : ℕ) → offset steps (suc a) ≡ offset steps a + getD steps a 0
+offset-step [] zero = refl
+offset-step [] (suc a) = refl
+offset-step (n ∷ ns) zero = omega arith
+offset-step (n ∷ ns) (suc a) = omega (arith, offset-step ns a)
+
+pub offset-next : (steps : List ℕ) (a : ℕ) → a < length steps → offset steps (suc a) ≡ offset steps a + getD steps a 0
+offset-next steps a l = offset-step steps a
+
+pub offset-up : (steps : List ℕ) (a b : ℕ) → a ≤ b → offset steps a ≤ offset steps b
+offset-up steps zero b l = zero-le
+offset-up steps (suc a) zero l = absurd (omega arith)
+offset-up [] (suc a) (suc b) l = zero-le
+offset-up (n ∷ ns) (suc a) (suc b) l = omega (arith, offset-up ns a b (le-of-suc-le-suc l))
+
+up-count : (s n : ℕ) → length (upFrom s n) ≡ n
+unfolding upFrom
+up-count s zero = refl
+up-count s (suc n) = ap suc (up-count (suc s) n)
+
+-- a part has as many steps as it counts
+pub steps-count : (from by to : List ℕ) (s n : ℕ) → length (stepsOf from by to s n) ≡ n
+unfolding stepsOf
+steps-count from by to s n = length-map (upFrom s n) (stepAt from by to) ∙ up-count s n
+
+-- what a map over n numbers has at the place a
+map-up : {A : Type 0} (f : ℕ → A) (d : A) (s n a : ℕ) → a < n → getD (map f (upFrom s n)) a d ≡ f (s + a)
+unfolding upFrom
+map-up f d s zero a l = absurd (omega arith)
+map-up f d s (suc n) zero l = ap f (omega arith)
+map-up f d s (suc n) (suc a) l = map-up f d (suc s) n a (le-of-suc-le-suc l) ∙ ap f (omega arith)
+
+pub types-count : (v : Schema) → length (meaning v .blocks) ≡ v .types
+unfolding meaning
+types-count v = length-map (upFrom 0 (v .types)) (blockAt v) ∙ up-count 0 (v .types)
+
+pub block-of : (v : Schema) (a : ℕ) → a < v .types → blockOf (meaning v) a ≡ blockAt v a
+unfolding meaning
+block-of v a l = map-up (blockAt v) noBlock 0 (v .types) a l ∙ ap (blockAt v) (omega arith)
+
+pub no-block-of : (v : Schema) (a : ℕ) → v .types ≤ a → blockOf (meaning v) a ≡ noBlock
+no-block-of v a l = List·getD-eq-default (meaning v .blocks) noBlock (rw types-count l)

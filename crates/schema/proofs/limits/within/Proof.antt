@@ -1,0 +1,48 @@
+-- `schema::limits::within` meets its contract: each test is a part of `Checked`.
+use Prim.Native.Nat.{ℕ, _^_, _<_}
+use native.Mathlib.Omega.{arith}
+use borrow.Author.Needs.{needs}
+use lib.ListN.{getD}
+use mir.Syntax.{w32}
+use mir.Val.{Fits}
+use Rattle.schema.proofs.LimitLaws.{within-means}
+use Rattle.schema.proofs.limits.within.Statement.{statement}
+use Rattle.schema.proofs.limits.within.Tie as tie
+
+-- the entries of the table of sets fit
+sets : (c : tie.Start) (a : ℕ) → getD (c .args .t1 .accepting) a 0 < 2 ^ 32
+sets c a =
+    let f : Fits w32 (getD (c .args .t1 .accepting) a 0) = search needs in
+    f .fits
+
+returns : tie.Need-returns
+returns c = (λ f. absurd f, λ w. let k = within-means _ (sets (c .before)) .0 w in omega arith)
+
+returns-2 : tie.Need-returns-2
+returns-2 c = (λ f. absurd f, λ w. let k = within-means _ (sets (c .before .before)) .0 w in omega arith)
+
+returns-3 : tie.Need-returns-3
+returns-3 c = (λ f. absurd f, λ w. let k = within-means _ (sets (c .before .before .before)) .0 w in omega arith)
+
+returns-4 : tie.Need-returns-4
+returns-4 c = (λ f. absurd f, λ w. let k = within-means _ (sets (c .before .before .before .before)) .0 w in omega arith)
+
+blocks-within-requires : tie.Need-blocks-within-requires
+blocks-within-requires c κs = search needs
+
+returns-5 : tie.Need-returns-5
+returns-5 c =
+    let start = c .before .before .before .before .before .before .before .before .before .before .before .before .before in
+    let is = within-means _ (sets start) in (
+      λ t. is .1 (record {
+        tags-least = omega arith;
+        tags-most = omega arith;
+        types-most = omega arith;
+        root = omega arith;
+        blocks = c .blocks-within .ensures .0 t;
+      }),
+      λ w. c .blocks-within .ensures .1 (is .0 w .blocks),
+    )
+
+pub within-spec : {M : Type 1} → statement M
+within-spec = tie.close (tie.spec returns returns-2 returns-3 returns-4 blocks-within-requires returns-5)

@@ -1,0 +1,73 @@
+-- The entries below `i` are the same. Assumes nothing.
+use Prim.Native.Nat.{ℕ, _-_, _≤_, _<_}
+use mathlib.Core.Path.{_≡_, refl, sym, ap}
+use mathlib.Core.Bool.{Bool, true, false, not, Bool·beq}
+use native.Mathlib.Omega.{arith}
+use borrow.Author.Count.{below-none, below-more}
+use borrow.Author.Needs.{needs}
+use lib.ListN.{length, getD}
+use lib.Seq.{ext-getD}
+use Rattle.schema.proofs.reach.same_flags.Statement.{statement}
+use Rattle.schema.proofs.reach.same_flags.Tie as tie
+
+differ : (x y : Bool) → not (Bool·beq x y) ≡ true → x ≡ y → ⊥
+differ true true e q = let z : _≡_ {A = ℕ} 0 1 = cc in omega arith
+differ true false e q = let z : _≡_ {A = ℕ} 0 1 = cc in omega arith
+differ false true e q = let z : _≡_ {A = ℕ} 0 1 = cc in omega arith
+differ false false e q = let z : _≡_ {A = ℕ} 0 1 = cc in omega arith
+
+same : (x y : Bool) → not (Bool·beq x y) ≡ false → x ≡ y
+same true true e = refl
+same true false e = e
+same false true e = sym e
+same false false e = refl
+
+abbrev Inv-loop : tie.InvT-loop
+Inv-loop x y i₀ i = (i ≤ 64) × ((k : ℕ) → k < i → getD x k false ≡ getD y k false)
+
+abbrev μ-loop : tie.MeasureT-loop
+μ-loop x y i₀ i = 64 - i
+
+loop-holds : tie.Need-loop-holds Inv-loop μ-loop
+loop-holds c = (omega arith, below-none _)
+
+array-read-if1 : tie.Need-array-read-if1 Inv-loop μ-loop
+array-read-if1 c = search needs
+
+array-read-if1-2 : tie.Need-array-read-if1-2 Inv-loop μ-loop
+array-read-if1-2 c = search needs
+
+returns : tie.Need-returns Inv-loop μ-loop
+returns c = (λ t. absurd t, λ e. differ _ _ (c .if1 .taken) (ap (λ t. getD t (c .before .before .loop .i) false) e))
+
+add-i : tie.Need-add-i Inv-loop μ-loop
+add-i c = search needs
+
+loop-less : tie.Need-loop-less Inv-loop μ-loop
+loop-less c = search needs
+
+loop-again : tie.Need-loop-again Inv-loop μ-loop
+loop-again c = (omega arith, below-more _ _ (c .before .before .loop .inv .1) (same _ _ (c .if1 .left)))
+
+returns-2 : tie.Need-returns-2 Inv-loop μ-loop
+returns-2 c =
+    let a = c .before .before .args in
+    let l : length (a .t1) ≡ 64 = search needs in
+    let m : length (a .t2) ≡ 64 = search needs in
+    let all = c .before .loop .inv .1 in
+    (λ t. ext-getD false (a .t1) (a .t2) (omega arith) (λ k h. all k (omega arith)), λ e. tt)
+
+pub same-flags-spec : {M : Type 1} → statement M
+same-flags-spec =
+    tie.close
+    (tie.spec
+    Inv-loop
+    μ-loop
+    loop-holds
+    array-read-if1
+    array-read-if1-2
+    returns
+    add-i
+    loop-less
+    loop-again
+    returns-2)

@@ -1,0 +1,110 @@
+-- What is left of the round, over what has grown so far, gives what the whole round gives. Assumes nothing.
+use Prim.Native.Nat.{ℕ, suc, _+_, _-_, _≤_, _<_}
+use mathlib.Core.Path.{_≡_, refl}
+use mathlib.Core.List.{List}
+use native.Mathlib.Numerals.{add-one}
+use native.Mathlib.Omega.{arith}
+use borrow.Author.Needs.{needs}
+use lib.ListN.{getD, set}
+use Rattle.sdtd.specs.Schema.{Step}
+use Rattle.schema.specs.Spread.{spreadSet, spreadAll}
+use Rattle.schema.specs.Value.{stepsOf, offset}
+use Rattle.schema.proofs.Rounds.{offset-more, steps-fit}
+use Rattle.schema.proofs.spread.spread_all.Statement.{statement}
+use Rattle.schema.proofs.spread.spread_all.Tie as tie
+
+-- a turn takes the first of the types left
+turn : (steps : List ℕ) (part : ℕ → ℕ → List Step) (bears : List ℕ) (a s types x : ℕ) (t y : List ℕ) → a < types
+    → x ≡ spreadSet bears (part s (getD steps a 0)) (getD t a 0) → spreadAll steps part bears a s (types - a) t ≡ y
+    → spreadAll steps part bears (a + 1) (s + getD steps a 0) (types - (a + 1)) (set t a x) ≡ y
+unfolding spreadAll
+turn steps part bears a s types x t y l e h =
+    let q : types - a ≡ suc (types - (a + 1)) = omega arith in
+    rw (e, add-one a) (rw (q, add-one a) at h)
+
+-- at the end none is left
+done : (steps : List ℕ) (part : ℕ → ℕ → List Step) (bears : List ℕ) (a s types : ℕ) (t y : List ℕ) → types ≤ a
+    → spreadAll steps part bears a s (types - a) t ≡ y → t ≡ y
+unfolding spreadAll
+done steps part bears a s types t y l h = let q : types - a ≡ 0 = omega arith in rw q at h
+
+abbrev Inv-loop : tie.InvT-loop
+Inv-loop add by when steps types bears grown₀ start₀ a₀ grown start a =
+    (a ≤ types) × (start ≡ offset steps a)
+    × (spreadAll steps (stepsOf add by when) bears a start (types - a) grown
+    ≡ spreadAll steps (stepsOf add by when) bears 0 0 types grown₀)
+
+abbrev μ-loop : tie.MeasureT-loop
+μ-loop add by when steps types bears grown₀ start₀ a₀ grown start a = types - a
+
+-- the steps of the type a lie inside the tables
+fit : (c : tie.In-loop Inv-loop μ-loop) → c .before .loop .start + getD (c .before .before .args .steps .now) (c .before .loop .a) 0 ≤ 1024
+fit c =
+    let s = c .before .before .args in
+    omega (arith, steps-fit (s .steps .now) (c .before .loop .a) (s .types) (c .loop-test .taken))
+
+loop-holds : tie.Need-loop-holds Inv-loop μ-loop
+loop-holds c = let e : c .args .types - 0 ≡ c .args .types = omega arith in (omega arith, refl, rw e)
+
+mul-n : tie.Need-mul-n Inv-loop μ-loop
+mul-n c = search needs
+
+element-copy-out-n : tie.Need-element-copy-out-n Inv-loop μ-loop
+element-copy-out-n c = search needs
+
+cast-n : tie.Need-cast-n Inv-loop μ-loop
+cast-n c = omega (arith, fit (c .before))
+
+mul-spread-set : tie.Need-mul-spread-set Inv-loop μ-loop
+mul-spread-set c = search needs
+
+array-read-spread-set : tie.Need-array-read-spread-set Inv-loop μ-loop
+array-read-spread-set c = search needs
+
+spread-set-requires : tie.Need-spread-set-requires Inv-loop μ-loop
+spread-set-requires c κs = omega (arith, fit (c .before))
+
+mul-grown : tie.Need-mul-grown Inv-loop μ-loop
+mul-grown c = search needs
+
+array-write-grown : tie.Need-array-write-grown Inv-loop μ-loop
+array-write-grown c = search needs
+
+add-start : tie.Need-add-start Inv-loop μ-loop
+add-start c = omega (arith, fit (c .before .before))
+
+add-a : tie.Need-add-a Inv-loop μ-loop
+add-a c = search needs
+
+loop-less : tie.Need-loop-less Inv-loop μ-loop
+loop-less c = search needs
+
+loop-again : tie.Need-loop-again Inv-loop μ-loop
+loop-again c =
+    let k = c .before .before in
+    let o = offset-more (k .before .before .args .steps .now) (k .before .loop .a) _ (k .before .loop .inv .1) in
+    (omega arith, o, turn _ _ _ _ _ _ _ _ _ (k .loop-test .taken) (c .spread-set .ensures) (k .before .loop .inv .2))
+
+returns : tie.Need-returns Inv-loop μ-loop
+returns c = done _ _ _ _ _ _ _ _ (c .loop-test .left) (c .before .loop .inv .2)
+
+pub spread-all-spec : {M : Type 1} → statement M
+spread-all-spec =
+    tie.close
+    (tie.spec
+    Inv-loop
+    μ-loop
+    loop-holds
+    mul-n
+    element-copy-out-n
+    cast-n
+    mul-spread-set
+    array-read-spread-set
+    spread-set-requires
+    mul-grown
+    array-write-grown
+    add-start
+    add-a
+    loop-less
+    loop-again
+    returns)

@@ -1,0 +1,64 @@
+-- The live states so far are those after some rounds; each round that changes them leaves fewer states absent. Assumes nothing.
+use Prim.Native.Nat.{ℕ}
+use borrow.Author.Needs.{needs}
+use lib.ListN.{getD}
+use mir.Val.{Fits}
+use mir.Syntax.{w32}
+use Rattle.schema.specs.Spread.{spreadAll}
+use Rattle.schema.specs.Value.{stepsOf}
+use Rattle.schema.proofs.Bits.{absentIn}
+use Rattle.schema.proofs.Rounds.{Sets, Turn, turn-first, turn-again, turn-less, turn-last, all-growth, growth-falls}
+use Rattle.schema.proofs.tables.live_states.Statement.{statement}
+use Rattle.schema.proofs.tables.live_states.Tie as tie
+
+abbrev Inv-loop : tie.InvT-loop
+Inv-loop from by to steps types live₀ live = Turn Sets (λ t. spreadAll steps (stepsOf from by to) t 0 0 types t) live₀ live
+
+abbrev μ-loop : tie.MeasureT-loop
+μ-loop from by to steps types live₀ live = absentIn live
+
+first-sets-requires : tie.Need-first-sets-requires Inv-loop μ-loop
+first-sets-requires c κs = search needs
+
+loop-holds : tie.Need-loop-holds Inv-loop μ-loop
+loop-holds c =
+    let below : (a : ℕ) → Fits w32 (getD (c .first-sets .result) a 0) = λ a. search needs in
+    turn-first _ _ _ (record { long = search needs; below = λ a. below a .fits })
+
+spread-all-requires : tie.Need-spread-all-requires Inv-loop μ-loop
+spread-all-requires c κs = search needs
+
+same-sets-requires : tie.Need-same-sets-requires Inv-loop μ-loop
+same-sets-requires c κs = search needs
+
+returns : tie.Need-returns Inv-loop μ-loop
+returns c =
+    let k = c .before .before in
+    let q = c .before .same-sets .ensures .0 (rw (c .if1 .taken) tt) in
+    let s = turn-last _ _ _ _ _ (k .spread-all .ensures) (k .before .before .loop .inv) q in
+    rw (k .before .before .before .first-sets .ensures) at s
+
+loop-less : tie.Need-loop-less Inv-loop μ-loop
+loop-less c =
+    let k = c .before .before in
+    turn-less _ _ absentIn (λ t h d. growth-falls t _ h (all-growth _ _ t 0 0 _ t h) d)
+    _ _ _ (k .spread-all .ensures) (k .before .before .loop .inv) (λ q. rw (c .if1 .left) at (c .before .same-sets .ensures .1 q))
+
+loop-again : tie.Need-loop-again Inv-loop μ-loop
+loop-again c =
+    let k = c .before .before in
+    turn-again _ _ (λ t h. all-growth _ _ t 0 0 _ t h .sets) _ _ _ (k .spread-all .ensures) (k .before .before .loop .inv)
+
+pub live-states-spec : {M : Type 1} → statement M
+live-states-spec =
+    tie.close
+    (tie.spec
+    Inv-loop
+    μ-loop
+    first-sets-requires
+    loop-holds
+    spread-all-requires
+    same-sets-requires
+    returns
+    loop-less
+    loop-again)

@@ -1,0 +1,26 @@
+-- What the tables of a trimming say: document 01, "Trimming".
+use mathlib.Core.Path.{_≡_}
+use mathlib.Core.Bool.{false}
+use mathlib.Core.Logic.{_↔_}
+use Prim.Native.Nat.{ℕ}
+use lib.Dec.{T}
+use lib.ListN.{getD, replicate}
+use Rattle.sdtd.specs.Schema.{Schema, WithinLimits}
+use Rattle.sdtd.specs.Trim.{Bears, Live, Reached}
+use Rattle.schema.specs.States.{member}
+use Rattle.schema.specs.declared.tables.Trimming.{Trimming}
+
+-- each table is exactly the definition
+pub record Exact (S : Schema) (t : Trimming) : Type 0 where
+  pub live : (a q : ℕ) → T (member q (getD (t .live) a 0)) ↔ Live S a q
+  pub bears : (a : ℕ) → T (getD (t .bears) a false) ↔ Bears S a
+  pub reached : (a : ℕ) → T (getD (t .reached) a false) ↔ Reached S a
+
+-- tables of nothing
+abbrev pub nothing : Trimming
+nothing = record { live = replicate 64 0; bears = replicate 64 false; reached = replicate 64 false }
+
+-- exactly the definitions inside the limits, and nothing outside them
+pub record TrimMeans (S : Schema) (t : Trimming) : Type 0 where
+  pub inside : WithinLimits S → Exact S t
+  pub outside : ¬ WithinLimits S → t ≡ nothing

@@ -1,0 +1,33 @@
+// Sets of states.
+ghost use mathlib.Core.Path.{_≡_};
+ghost use Rattle.schema.specs.States.{member, insert};
+
+// A set of states below 32, a bit each.
+pub struct StateSet(pub u32);
+
+impl StateSet {
+    // the set of no states
+    pub const NONE: StateSet = StateSet(0);
+    // the set of only state 0
+    pub const START: StateSet = StateSet(1);
+
+    // Is the state in the set? No state of 32 or more is.
+    pub fn has(self, state: u8) -> bool
+        ensures { λ r. ⌜ r ≡ member state (self .0) ⌝ }
+    {
+        if 32 <= state {
+            return false;
+        }
+        self.0 >> (state as u32) & 1 == 1
+    }
+
+    // The set with the state; unchanged for a state of 32 or more.
+    pub fn with(self, state: u8) -> StateSet
+        ensures { λ r. ⌜ r .0 ≡ insert state (self .0) ⌝ }
+    {
+        if 32 <= state {
+            return self;
+        }
+        StateSet(self.0 | 1 << (state as u32))
+    }
+}

@@ -1,0 +1,169 @@
+// Trimming: which states are live, which types bear a tree, which types are reached.
+use crate::limits::within;
+use crate::reach::reach_all;
+use crate::reach::same_flags;
+use crate::spread::same_sets;
+use crate::spread::spread_all;
+use crate::state_set::StateSet;
+use crate::value::STEPS;
+use crate::value::Schema;
+use crate::value::TYPES;
+ghost use mathlib.Core.Path.{_≡_};
+ghost use Prim.Native.Nat.{_≤_, _<_};
+ghost use lib.ListN.{set, replicate};
+ghost use Rattle.schema.specs.Value.{stepsOf, offset, meaning};
+ghost use Rattle.schema.specs.Spread.{spreadAll, reachAll, Settled, firstSets, startStates, bearing};
+ghost use Rattle.schema.specs.Trimming.{TrimMeans};
+ghost use mathlib.Core.Bool.{true, false};
+
+// Entry a: the live states of the type a as a set, whether it bears a tree, whether it is reached.
+pub struct Trimming {
+    pub live: [u32; TYPES],
+    pub bears: [bool; TYPES],
+    pub reached: [bool; TYPES],
+}
+
+// The first `types` entries, and nothing in the others.
+fn first_sets(sets: [u32; TYPES], types: usize) -> [u32; TYPES]
+    requires { ⌜ types ≤ 64 ⌝ }
+    ensures { λ r. ⌜ r ≡ firstSets types sets ⌝ }
+{
+    let mut kept = [0u32; TYPES];
+    let mut a = 0;
+    while a < types {
+        kept[a] = sets[a];
+        a += 1;
+    }
+    kept
+}
+
+// The live states: those before a step by a tree-bearing type to a live state are added, round by round, to the accepting ones.
+pub(crate) fn live_states<'a>(
+    from: &'a [u8; STEPS],
+    by: &'a [u8; STEPS],
+    to: &'a [u8; STEPS],
+    steps: &'a [u16; TYPES],
+    types: usize,
+    accepting: [u32; TYPES],
+) -> [u32; TYPES]
+    requires { ⌜ (types ≤ 64) × (offset (now steps) types ≤ 1024) ⌝ }
+    ensures { λ r. ⌜ Settled (λ t. spreadAll (now (steps .entry)) (stepsOf (now (from .entry)) (now (by .entry)) (now (to .entry))) t 0 0 types t) (firstSets types accepting) r ⌝ }
+{
+    let mut live = first_sets(accepting, types);
+    loop {
+        let bears = live;
+        let next = spread_all(from, by, to, steps, types, &bears, live);
+        if same_sets(next, live) {
+            return live;
+        }
+        live = next;
+    }
+}
+
+// The states that tree-bearing types lead to from the start states, round by round.
+fn forward_states<'a>(
+    from: &'a [u8; STEPS],
+    by: &'a [u8; STEPS],
+    to: &'a [u8; STEPS],
+    steps: &'a [u16; TYPES],
+    types: usize,
+    live: &'a [u32; TYPES],
+) -> [u32; TYPES]
+    requires { ⌜ (types ≤ 64) × (offset (now steps) types ≤ 1024) ⌝ }
+    ensures { λ r. ⌜ Settled (λ t. spreadAll (now (steps .entry)) (stepsOf (now (to .entry)) (now (by .entry)) (now (from .entry))) (now (live .entry)) 0 0 types t) startStates r ⌝ }
+{
+    let mut forward = [1u32; TYPES];
+    loop {
+        let next = spread_all(to, by, from, steps, types, live, forward);
+        if same_sets(next, forward) {
+            return forward;
+        }
+        forward = next;
+    }
+}
+
+// The reached types, round by round from the root type.
+fn reached_types<'a>(
+    from: &'a [u8; STEPS],
+    by: &'a [u8; STEPS],
+    to: &'a [u8; STEPS],
+    steps: &'a [u16; TYPES],
+    types: usize,
+    live: &'a [u32; TYPES],
+    forward: &'a [u32; TYPES],
+    root: usize,
+) -> [bool; TYPES]
+    requires { ⌜ (types ≤ 64) × (offset (now steps) types ≤ 1024) × (root < 64) ⌝ }
+    ensures { λ r. ⌜ Settled (λ t. reachAll (now (steps .entry)) (stepsOf (now (from .entry)) (now (by .entry)) (now (to .entry))) (now (live .entry)) (now (forward .entry)) 0 0 types t) (set (replicate 64 false) root true) r ⌝ }
+{
+    let mut reached = [false; TYPES];
+    reached[root] = true;
+    loop {
+        let next = reach_all(from, by, to, steps, types, live, forward, reached);
+        if same_flags(next, reached) {
+            return reached;
+        }
+        reached = next;
+    }
+}
+
+// Which types have a live start state.
+fn bearing_types(live: [u32; TYPES]) -> [bool; TYPES]
+    ensures { λ r. ⌜ r ≡ bearing live ⌝ }
+{
+    let mut bears = [false; TYPES];
+    let mut a = 0;
+    while a < TYPES {
+        bears[a] = StateSet(live[a]).has(0);
+        a += 1;
+    }
+    bears
+}
+
+// The tables of a schema inside the limits; tables of nothing for any other.
+pub fn trim(schema: Schema) -> Trimming
+    ensures { λ r. ⌜ TrimMeans (meaning schema) r ⌝ }
+{
+    if !within(schema) {
+        return Trimming {
+            live: [0u32; TYPES],
+            bears: [false; TYPES],
+            reached: [false; TYPES],
+        };
+    }
+    let types = schema.types as usize;
+    let root = schema.root.0 as usize;
+    let accepting = schema.accepting;
+    let live = live_states(
+        &schema.from,
+        &schema.by,
+        &schema.to,
+        &schema.steps,
+        types,
+        accepting,
+    );
+    let forward = forward_states(
+        &schema.from,
+        &schema.by,
+        &schema.to,
+        &schema.steps,
+        types,
+        &live,
+    );
+    let reached = reached_types(
+        &schema.from,
+        &schema.by,
+        &schema.to,
+        &schema.steps,
+        types,
+        &live,
+        &forward,
+        root,
+    );
+    let bears = bearing_types(live);
+    Trimming {
+        live,
+        bears,
+        reached,
+    }
+}

@@ -1,0 +1,22 @@
+// A schema as a file states it. Nothing here is derived from something else here.
+use sdtd::TypeNo;
+
+// "1 to 64 types"
+pub const TYPES: usize = 64;
+// "At most 1,024 steps in all."
+pub const STEPS: usize = 1024;
+
+// The table entries are bare numbers: a tag in `tag`, a set of states in `accepting`, a type in `by`, a state in `from` and `to`.
+// The steps stand in the order of their types, `steps[a]` of them for the type a.
+pub struct Schema {
+    pub tags: u8,
+    pub types: u8,
+    pub root: TypeNo,
+    pub tag: [u8; TYPES],
+    pub states: [u8; TYPES],
+    pub accepting: [u32; TYPES],
+    pub steps: [u16; TYPES],
+    pub from: [u8; STEPS],
+    pub by: [u8; STEPS],
+    pub to: [u8; STEPS],
+}
