@@ -3,10 +3,7 @@ use mathlib.Core.Path.{_≡_}
 use mathlib.Core.Bool.{Bool, true, false, cond}
 use mathlib.Core.List.{List}
 use Prim.Native.Nat.{ℕ}
-use Rattle.schema.specs.Marks.{Marks}
-
-abbrev pub marks : List Bool → List ℕ → ℕ → Marks
-marks reached queue count = record { reached = reached; queue = queue; count = count }
+use Rattle.schema.specs.Marks.{Marks, marks}
 
 -- Where the arms of a test meet, the marks r, q, n are those that the arm left: x where the test held, the old ones where it failed.
 pub when-held : {t b : Bool} {r r′ : List Bool} {q q′ : List ℕ} {n n′ : ℕ} {x : Marks} (m : Marks) → t ≡ b → t ≡ true

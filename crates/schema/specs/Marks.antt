@@ -16,6 +16,9 @@ pub record Marks : Type 0 where
   pub queue : List ℕ
   pub count : ℕ
 
+abbrev pub marks : List Bool → List ℕ → ℕ → Marks
+marks reached queue count = record { reached = reached; queue = queue; count = count }
+
 -- the type and the place of an entry, as one number
 abbrev pub linkOf : ℕ → ℕ → ℕ
 linkOf by at = by + 64 * at

@@ -68,7 +68,8 @@ fn block_within<'a>(
     types: u8,
 ) -> bool
     requires { ⌜ start + n ≤ 1024 ⌝ }
-    ensures { λ r. ⌜ T r ↔ BlockFits tag states accepting (stepsOf (now (from .entry)) (now (by .entry)) (now (to .entry)) start n) tags types ⌝ }
+    ensures { λ r. ⌜ T r
+        ↔ BlockFits tag states accepting (stepsOf (now (from .entry)) (now (by .entry)) (now (to .entry)) start n) tags types ⌝ }
 {
     if tags <= tag {
         return false;
@@ -98,7 +99,9 @@ fn blocks_within<'a>(
     types: u8,
 ) -> bool
     requires { ⌜ types ≤ 64 ⌝ }
-    ensures { λ r. ⌜ T r ↔ BlocksFit (now (tag .entry)) (now (states .entry)) (now (accepting .entry)) (now (steps .entry)) (stepsOf (now (from .entry)) (now (by .entry)) (now (to .entry))) tags types 0 0 types ⌝ }
+    ensures { λ r. ⌜ T r
+        ↔ BlocksFit (now (tag .entry)) (now (states .entry)) (now (accepting .entry)) (now (steps .entry))
+        (stepsOf (now (from .entry)) (now (by .entry)) (now (to .entry))) tags types 0 0 types ⌝ }
 {
     let mut start = 0;
     let mut a: usize = 0;

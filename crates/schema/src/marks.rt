@@ -5,7 +5,7 @@ use crate::state_set::StateSet;
 use crate::value::TYPES;
 ghost use mathlib.Core.Path.{_≡_};
 ghost use Prim.Native.Nat.{_<_, _≤_};
-ghost use Rattle.schema.specs.Marks.{Marks, markOf, markRow, markProduct, markTypes, markStep};
+ghost use Rattle.schema.specs.Marks.{marks, markOf, markRow, markProduct, markTypes, markStep};
 
 // Entries of the table of next states: 32 states by 64 types.
 pub const NEXT: usize = 2048;
@@ -20,7 +20,8 @@ fn mark<'a>(
     link: u32,
 ) -> usize
     requires { ⌜ (p < 32) × (q < 32) × (link < 65536) ⌝ }
-    ensures { λ r. ⌜ _≡_ {A = Marks} (record { reached = now (reached .exit); queue = now (queue .exit); count = r }) (markOf (record { reached = now (reached .entry); queue = now (queue .entry); count = count }) p q link) ⌝ }
+    ensures { λ r. ⌜ marks (now (reached .exit)) (now (queue .exit)) r
+        ≡ markOf (marks (now (reached .entry)) (now (queue .entry)) count) p q link ⌝ }
 {
     let n = number(p, q);
     if reached[n] {
@@ -44,7 +45,8 @@ fn mark_row<'a>(
     link: u32,
 ) -> usize
     requires { ⌜ (p < 32) × (link < 65536) ⌝ }
-    ensures { λ r. ⌜ _≡_ {A = Marks} (record { reached = now (reached .exit); queue = now (queue .exit); count = r }) (markRow p right link 0 32 (record { reached = now (reached .entry); queue = now (queue .entry); count = count })) ⌝ }
+    ensures { λ r. ⌜ marks (now (reached .exit)) (now (queue .exit)) r
+        ≡ markRow p right link 0 32 (marks (now (reached .entry)) (now (queue .entry)) count) ⌝ }
 {
     let mut found = count;
     let mut q: u8 = 0;
@@ -67,7 +69,8 @@ fn mark_product<'a>(
     link: u32,
 ) -> usize
     requires { ⌜ link < 65536 ⌝ }
-    ensures { λ r. ⌜ _≡_ {A = Marks} (record { reached = now (reached .exit); queue = now (queue .exit); count = r }) (markProduct left right link 0 32 (record { reached = now (reached .entry); queue = now (queue .entry); count = count })) ⌝ }
+    ensures { λ r. ⌜ marks (now (reached .exit)) (now (queue .exit)) r
+        ≡ markProduct left right link 0 32 (marks (now (reached .entry)) (now (queue .entry)) count) ⌝ }
 {
     let mut found = count;
     let mut p: u8 = 0;
@@ -93,7 +96,9 @@ fn mark_types<'a>(
     q: usize,
 ) -> usize
     requires { ⌜ (types ≤ 64) × (at < 528) × (p < 32) × (q < 32) ⌝ }
-    ensures { λ r. ⌜ _≡_ {A = Marks} (record { reached = now (reached .exit); queue = now (queue .exit); count = r }) (markTypes (now (next .entry)) (now (bears .entry)) p q at 0 types (record { reached = now (reached .entry); queue = now (queue .entry); count = count })) ⌝ }
+    ensures { λ r. ⌜ marks (now (reached .exit)) (now (queue .exit)) r
+        ≡ markTypes (now (next .entry)) (now (bears .entry)) p q at 0 types
+        (marks (now (reached .entry)) (now (queue .entry)) count) ⌝ }
 {
     let mut found = count;
     let mut j = 0;
@@ -130,7 +135,8 @@ pub(crate) fn search_step(
     at: usize,
 ) -> Stepped
     requires { ⌜ (types ≤ 64) × (at < 528) ⌝ }
-    ensures { λ r. ⌜ _≡_ {A = Marks} (record { reached = r .reached; queue = now (queue .exit); count = r .count }) (markStep (now (next .entry)) (now (bears .entry)) types at (record { reached = reached; queue = now (queue .entry); count = count })) ⌝ }
+    ensures { λ r. ⌜ marks (r .reached) (now (queue .exit)) (r .count)
+        ≡ markStep (now (next .entry)) (now (bears .entry)) types at (marks reached (now (queue .entry)) count) ⌝ }
 {
     let mut marked = reached;
     let entry = queue[at];

@@ -49,7 +49,9 @@ fn reach_steps<'a>(
     reached: [bool; TYPES],
 ) -> [bool; TYPES]
     requires { ⌜ start + n ≤ 1024 ⌝ }
-    ensures { λ r. ⌜ r ≡ reachSteps (now (live .entry)) forward own (stepsOf (now (from .entry)) (now (by .entry)) (now (to .entry)) start n) reached ⌝ }
+    ensures { λ r. ⌜ r
+        ≡ reachSteps (now (live .entry)) forward own (stepsOf (now (from .entry)) (now (by .entry)) (now (to .entry)) start n)
+        reached ⌝ }
 {
     let end = start + n;
     let mut next = reached;
@@ -74,7 +76,9 @@ pub(crate) fn reach_all<'a>(
     reached: [bool; TYPES],
 ) -> [bool; TYPES]
     requires { ⌜ (types ≤ 64) × (offset (now steps) types ≤ 1024) ⌝ }
-    ensures { λ r. ⌜ r ≡ reachAll (now (steps .entry)) (stepsOf (now (from .entry)) (now (by .entry)) (now (to .entry))) (now (live .entry)) (now (forward .entry)) 0 0 types reached ⌝ }
+    ensures { λ r. ⌜ r
+        ≡ reachAll (now (steps .entry)) (stepsOf (now (from .entry)) (now (by .entry)) (now (to .entry))) (now (live .entry))
+        (now (forward .entry)) 0 0 types reached ⌝ }
 {
     let mut next = reached;
     let mut start = 0;

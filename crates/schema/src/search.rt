@@ -53,7 +53,8 @@ fn next_states<'a>(
     n: usize,
 ) -> [u32; NEXT]
     requires { ⌜ start + n ≤ 1024 ⌝ }
-    ensures { λ r. ⌜ r ≡ nextSteps (stepsOf (now (from .entry)) (now (by .entry)) (now (to .entry)) start n) (replicate 2048 0) ⌝ }
+    ensures { λ r. ⌜ r
+        ≡ nextSteps (stepsOf (now (from .entry)) (now (by .entry)) (now (to .entry)) start n) (replicate 2048 0) ⌝ }
 {
     let mut next = [0u32; NEXT];
     let end = start + n;
@@ -116,7 +117,8 @@ fn search_at<'a>(
     queue: &mut [u32; PAIRS],
 ) -> Found
     requires { ⌜ (start + n ≤ 1024) × (types ≤ 64) × (a < 64) ⌝ }
-    ensures { λ r. ⌜ SearchedAt (nextSteps (stepsOf (now (from .entry)) (now (by .entry)) (now (to .entry)) start n) (replicate 2048 0)) (now (live .entry)) (now (tag .entry)) (now (reached .entry)) types a (now (queue .exit)) r ⌝ }
+    ensures { λ r. ⌜ SearchedAt (nextSteps (stepsOf (now (from .entry)) (now (by .entry)) (now (to .entry)) start n) (replicate 2048 0))
+        (now (live .entry)) (now (tag .entry)) (now (reached .entry)) types a (now (queue .exit)) r ⌝ }
 {
     if !reached[a] {
         return Found::Nowhere;
@@ -148,7 +150,8 @@ fn first_competing<'a>(
     queue: &mut [u32; PAIRS],
 ) -> Competing
     requires { ⌜ (types ≤ 64) × (offset (now steps) types ≤ 1024) ⌝ }
-    ensures { λ r. ⌜ CompetingMeans (stepsOf (now (from .entry)) (now (by .entry)) (now (to .entry))) (now (steps .entry)) (now (live .entry)) (now (tag .entry)) (now (reached .entry)) types (now (queue .exit)) r ⌝ }
+    ensures { λ r. ⌜ CompetingMeans (stepsOf (now (from .entry)) (now (by .entry)) (now (to .entry))) (now (steps .entry)) (now (live .entry))
+        (now (tag .entry)) (now (reached .entry)) types (now (queue .exit)) r ⌝ }
 {
     let mut start = 0;
     let mut a = 0;

@@ -35,7 +35,8 @@ fn spread_set<'a>(
     set: u32,
 ) -> u32
     requires { ⌜ start + n ≤ 1024 ⌝ }
-    ensures { λ r. ⌜ r ≡ spreadSet (now (bears .entry)) (stepsOf (now (add .entry)) (now (by .entry)) (now (when .entry)) start n) set ⌝ }
+    ensures { λ r. ⌜ r
+        ≡ spreadSet (now (bears .entry)) (stepsOf (now (add .entry)) (now (by .entry)) (now (when .entry)) start n) set ⌝ }
 {
     let end = start + n;
     let mut grown = set;
@@ -58,7 +59,9 @@ pub(crate) fn spread_all<'a>(
     sets: [u32; TYPES],
 ) -> [u32; TYPES]
     requires { ⌜ (types ≤ 64) × (offset (now steps) types ≤ 1024) ⌝ }
-    ensures { λ r. ⌜ r ≡ spreadAll (now (steps .entry)) (stepsOf (now (add .entry)) (now (by .entry)) (now (when .entry))) (now (bears .entry)) 0 0 types sets ⌝ }
+    ensures { λ r. ⌜ r
+        ≡ spreadAll (now (steps .entry)) (stepsOf (now (add .entry)) (now (by .entry)) (now (when .entry))) (now (bears .entry)) 0 0
+        types sets ⌝ }
 {
     let mut grown = sets;
     let mut start = 0;

@@ -47,7 +47,9 @@ pub(crate) fn live_states<'a>(
     accepting: [u32; TYPES],
 ) -> [u32; TYPES]
     requires { ⌜ (types ≤ 64) × (offset (now steps) types ≤ 1024) ⌝ }
-    ensures { λ r. ⌜ Settled (λ t. spreadAll (now (steps .entry)) (stepsOf (now (from .entry)) (now (by .entry)) (now (to .entry))) t 0 0 types t) (firstSets types accepting) r ⌝ }
+    ensures { λ r. ⌜ Settled
+        (λ t. spreadAll (now (steps .entry)) (stepsOf (now (from .entry)) (now (by .entry)) (now (to .entry))) t 0 0 types t)
+        (firstSets types accepting) r ⌝ }
 {
     let mut live = first_sets(accepting, types);
     loop {
@@ -70,7 +72,9 @@ fn forward_states<'a>(
     live: &'a [u32; TYPES],
 ) -> [u32; TYPES]
     requires { ⌜ (types ≤ 64) × (offset (now steps) types ≤ 1024) ⌝ }
-    ensures { λ r. ⌜ Settled (λ t. spreadAll (now (steps .entry)) (stepsOf (now (to .entry)) (now (by .entry)) (now (from .entry))) (now (live .entry)) 0 0 types t) startStates r ⌝ }
+    ensures { λ r. ⌜ Settled
+        (λ t. spreadAll (now (steps .entry)) (stepsOf (now (to .entry)) (now (by .entry)) (now (from .entry))) (now (live .entry)) 0 0 types t)
+        startStates r ⌝ }
 {
     let mut forward = [1u32; TYPES];
     loop {
@@ -94,7 +98,9 @@ fn reached_types<'a>(
     root: usize,
 ) -> [bool; TYPES]
     requires { ⌜ (types ≤ 64) × (offset (now steps) types ≤ 1024) × (root < 64) ⌝ }
-    ensures { λ r. ⌜ Settled (λ t. reachAll (now (steps .entry)) (stepsOf (now (from .entry)) (now (by .entry)) (now (to .entry))) (now (live .entry)) (now (forward .entry)) 0 0 types t) (set (replicate 64 false) root true) r ⌝ }
+    ensures { λ r. ⌜ Settled
+        (λ t. reachAll (now (steps .entry)) (stepsOf (now (from .entry)) (now (by .entry)) (now (to .entry))) (now (live .entry)) (now (forward .entry)) 0 0 types t)
+        (set (replicate 64 false) root true) r ⌝ }
 {
     let mut reached = [false; TYPES];
     reached[root] = true;

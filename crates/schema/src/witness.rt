@@ -50,7 +50,9 @@ fn write_head(witness: &mut [u8], a: u8, j: u8, k: u8, n: usize)
 // The whole witness: the word goes to the part of the buffer that starts at byte 5.
 fn write_witness(witness: &mut [u8], a: u8, j: u8, k: u8, queue: &[u32; PAIRS], at: usize)
     requires { ⌜ (at < 528) × Linked (now queue) at × (532 ≤ length (now witness)) ⌝ }
-    ensures { λ _. ⌜ now (witness .exit) ≡ witnessBytes a j k (wordTo at (now (queue .entry)) at) ++ drop (5 + length (wordTo at (now (queue .entry)) at)) (now (witness .entry)) ⌝ }
+    ensures { λ _. ⌜ now (witness .exit)
+        ≡ witnessBytes a j k (wordTo at (now (queue .entry)) at) ++ drop (5 + length (wordTo at (now (queue .entry)) at))
+        (now (witness .entry)) ⌝ }
 {
     let n = word_length(queue, at);
     write_head(witness, a, j, k, n);
@@ -67,7 +69,9 @@ pub(crate) fn write_rivals(
     at: usize,
 )
     requires { ⌜ (a < 64) × (j < 64) × (k < 64) × (at < 528) × Linked (now queue) at × (532 ≤ length (now witness)) ⌝ }
-    ensures { λ _. ⌜ now (witness .exit) ≡ witnessBytes a (min j k) (max j k) (wordTo at (now (queue .entry)) at) ++ drop (5 + length (wordTo at (now (queue .entry)) at)) (now (witness .entry)) ⌝ }
+    ensures { λ _. ⌜ now (witness .exit)
+        ≡ witnessBytes a (min j k) (max j k) (wordTo at (now (queue .entry)) at) ++ drop
+        (5 + length (wordTo at (now (queue .entry)) at)) (now (witness .entry)) ⌝ }
 {
     if j < k {
         write_witness(witness, a as u8, j as u8, k as u8, queue, at);

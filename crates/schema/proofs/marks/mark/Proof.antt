@@ -7,7 +7,7 @@ use borrow.Author.Needs.{needs}
 use borrow.Author.Tests.{lt-ltb, le-ltb}
 use Rattle.sdtd.specs.Competition.{pairNumber}
 use Rattle.schema.specs.Marks.{Marks, markOf, entryOf}
-use Rattle.schema.proofs.MarkLaws.{marks}
+use Rattle.schema.specs.Marks.{marks}
 use Rattle.schema.proofs.marks.mark.Statement.{statement}
 use Rattle.schema.proofs.marks.mark.Tie as tie
 

@@ -8,7 +8,8 @@ use native.Mathlib.Omega.{arith}
 use borrow.Author.Needs.{needs}
 use Rattle.schema.specs.States.{member}
 use Rattle.schema.specs.Marks.{Marks, markRow, markProduct}
-use Rattle.schema.proofs.MarkLaws.{marks, when-held, when-failed}
+use Rattle.schema.specs.Marks.{marks}
+use Rattle.schema.proofs.MarkLaws.{when-held, when-failed}
 use Rattle.schema.proofs.marks.mark_product.Statement.{statement}
 use Rattle.schema.proofs.marks.mark_product.Tie as tie
 

@@ -11,7 +11,8 @@ use lib.ListN.{getD}
 use borrow.Author.Needs.{needs}
 use Rattle.schema.specs.States.{member}
 use Rattle.schema.specs.Marks.{Marks, linkOf, markProduct, markTypes}
-use Rattle.schema.proofs.MarkLaws.{marks, when-held, when-failed}
+use Rattle.schema.specs.Marks.{marks}
+use Rattle.schema.proofs.MarkLaws.{when-held, when-failed}
 use Rattle.schema.proofs.marks.mark_types.Statement.{statement}
 use Rattle.schema.proofs.marks.mark_types.Tie as tie
 

@@ -4,7 +4,7 @@ use Prim.Native.Nat.{_-_}
 use native.Mathlib.Numerals.{add-one}
 use native.Mathlib.Omega.{arith}
 use borrow.Author.Needs.{needs}
-use Rattle.schema.proofs.MarkLaws.{marks}
+use Rattle.schema.specs.Marks.{marks}
 use Rattle.schema.proofs.Queues.{SearchInv, search-first, search-next, search-done, search-found}
 use Rattle.schema.proofs.search.search_type.Statement.{statement}
 use Rattle.schema.proofs.search.search_type.Tie as tie
