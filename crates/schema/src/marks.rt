@@ -72,6 +72,9 @@ fn mark_product<'a>(
     ensures { λ r. ⌜ marks (now (reached .exit)) (now (queue .exit)) r
         ≡ markProduct left right link 0 32 (marks (now (reached .entry)) (now (queue .entry)) count) ⌝ }
 {
+    if left == 0 {
+        return count;
+    }
     let mut found = count;
     let mut p: u8 = 0;
     while p < 32 {

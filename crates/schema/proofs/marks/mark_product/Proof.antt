@@ -25,6 +25,11 @@ done : (x y link s n : ℕ) (m : Marks) → n ≡ 0 → m ≡ markProduct x y li
 unfolding markProduct
 done x y link s n m e = rw e
 
+-- the empty set has no rows
+none : (x y link : ℕ) (m : Marks) → x ≡ 0 → m ≡ markProduct x y link 0 32 m
+unfolding markProduct
+none x y link m e = rw e
+
 abbrev Inv-loop : tie.InvT-loop
 Inv-loop reached₀ queue₀ count left right link found₀ p₀ reached queue found p =
     (p ≤ 32)
@@ -55,12 +60,15 @@ loop-again c = (
       (⊎-elim
       (λ w. when-held _ (c .before .has .ensures) (w .0 .taken) (w .4) (w .5) (w .6) (w .3 .ensures))
       (λ w. when-failed _ (c .before .has .ensures) (w .0 .left) (w .1) (w .2) (w .3))
-      (c .if1 .came))
+      (c .if2 .came))
       (c .before .before .before .loop .inv .1),
 )
 
 returns : tie.Need-returns Inv-loop μ-loop
-returns c = done _ _ _ _ _ _ (omega arith) ∙ c .before .loop .inv .1
+returns c = none _ _ _ _ (c .if1 .taken)
+
+returns-2 : tie.Need-returns-2 Inv-loop μ-loop
+returns-2 c = done _ _ _ _ _ _ (omega arith) ∙ c .before .loop .inv .1
 
 pub mark-product-spec : {M : Type 1} → statement M
 mark-product-spec =
@@ -68,10 +76,11 @@ mark-product-spec =
     (tie.spec
     Inv-loop
     μ-loop
+    returns
     loop-holds
     has-requires
     mark-row-requires
     add-p
     loop-less
     loop-again
-    returns)
+    returns-2)
