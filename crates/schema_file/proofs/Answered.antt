@@ -1,0 +1,171 @@
+-- What each answer of the schema file's call means.
+use mathlib.Core.Path.{_≡_, refl, sym, ap, subst, _∙_}
+use mathlib.Core.Logic.{_↔_, inl, inr}
+use mathlib.Core.Bool.{Bool, true, false, not}
+use mathlib.Core.List.{List, []}
+use Prim.Native.Nat.{ℕ, _≤_, _<_}
+use native.Mathlib.Omega.{arith}
+use lib.Dec.{T, T-not}
+use lib.ListN.{length, getD}
+use Rattle.sdtd.specs.Limits.{leastWitness}
+use Rattle.sdtd.specs.Schema.{Schema as Meaning, WithinLimits}
+use Rattle.sdtd.specs.Trim.{Bears}
+use Rattle.sdtd.specs.Competition.{Competition}
+use Rattle.schema.specs.Value.{meaning}
+use Rattle.schema.specs.Trimming.{TrimMeans}
+use Rattle.schema.specs.Search.{Written, SearchMeans}
+use Rattle.schema.specs.declared.tables.Trimming.{Trimming}
+use Rattle.schema.specs.declared.search.Searched.{Searched}
+use Rattle.schema.specs.declared.search.Searched.the-variants.{Unsearched, Restrained, Competes}
+use Rattle.schema.proofs.LimitLaws.{passed}
+use Rattle.schema.specs.declared.value.Schema.{Schema}
+use Rattle.schema_file.specs.File.{Stated, Commands, stopped, states, commands, schemaBy, unknown}
+use Rattle.schema_file.specs.Tables.{unknownAt, UnknownMeans, StatedBy}
+use Rattle.schema_file.specs.declared.commands.Unknown.the-variants.{At, NoStep}
+use Rattle.schema_file.proofs.StatedLimits.{stated-within}
+use Rattle.schema_file.specs.Answer.{AnswerIs, AnswerBy, BufferBy, SchemaBy, noSchema, FileMeans}
+use Rattle.schema_file.specs.declared.file.FileAnswer.{FileAnswer}
+use Rattle.schema_file.specs.declared.file.FileAnswer.the-variants.{Accepted, Refused}
+use Rattle.schema_file.specs.declared.file.SchemaFile.{SchemaFile}
+
+-- a refusal with no schema beside it
+abbrev pub refusal : ℕ → ℕ → SchemaFile
+refusal n p = record { answer = Refused n p; schema = noSchema }
+
+never-accepted : {n p : ℕ} → Refused n p ≡ Accepted → ⊥
+never-accepted e = let z : _≡_ {A = ℕ} 0 1 = cc in omega arith
+
+not-9 : {n p : ℕ} → n < 9 → Refused n p ≡ Refused 9 0 → ⊥
+not-9 {n} l e = let z : n ≡ 9 = cc in omega arith
+
+no-schema : (k : Commands) (n p : ℕ) → SchemaBy k noSchema (Refused n p)
+no-schema (stopped m q) n p = refl
+no-schema (states g) n p = (λ e. absurd (never-accepted e), λ d. refl)
+
+buffer-same : (k : Commands) (was : List ℕ) (n p : ℕ) → n < 9 → BufferBy k was was (Refused n p)
+buffer-same (stopped m q) was n p l = refl
+buffer-same (states g) was n p l = (λ e. absurd (not-9 l e), λ d. refl)
+
+module _ (file was : List ℕ) where
+  -- a refusal before 9 leaves the buffer as it was
+  refused-means : (n p : ℕ) → n < 9 → AnswerIs file was (Refused n p) → FileMeans file was was (refusal n p)
+  refused-means n p l a =
+      record { answer = a; buffer = buffer-same (commands file) was n p l; schema = no-schema (commands file) n p }
+
+  pub short-means : length was < leastWitness → FileMeans file was was (refusal 1 0)
+  short-means l = refused-means 1 0 (omega arith) (inl (λ h. omega arith, refl))
+
+  module _ (long : leastWitness ≤ length was) where
+    pub stopped-means : {n p : ℕ} → commands file ≡ stopped n p → FileMeans file was was (refusal n p)
+    stopped-means {n} {p} e =
+        record {
+          answer = inr (long, subst (λ (k : Commands). AnswerBy k (Refused n p)) (sym e) refl);
+          buffer = subst (λ (k : Commands). BufferBy k was was (Refused n p)) (sym e) refl;
+          schema = no-schema (commands file) n p;
+        }
+
+    module _ {g : Stated} (e : commands file ≡ states g) where
+      answered : {a : FileAnswer} → AnswerBy (states g) a → AnswerIs file was a
+      answered {a} x = inr (long, subst (λ (k : Commands). AnswerBy k a) (sym e) x)
+
+      pub unknown-means : {p : ℕ} → getD (unknown g) 0 0 ≡ p → 0 < length (unknown g) → FileMeans file was was (refusal 7 p)
+      unknown-means {p} d l =
+          refused-means 7 p (omega arith)
+          (answered (inl ((λ z. let n : length (unknown g) ≡ 0 = ap length z in omega arith), ap (λ (q : ℕ). Refused 7 q) (sym d))))
+
+      module _ (known : unknown g ≡ []) where
+        pub treeless-means : ¬ Bears (schemaBy g) (g .root) → FileMeans file was was (refusal 8 0)
+        treeless-means d = refused-means 8 0 (omega arith) (answered (inr (known, inl (d, refl))))
+
+        module _ (bears : Bears (schemaBy g) (g .root)) where
+          pub compete-means : (is : List ℕ) → Written (schemaBy g) was is → FileMeans file was is (refusal 9 0)
+          compete-means is w =
+              let c : Competition (schemaBy g) =
+              record {
+                type = w .witness .type;
+                compete-in =
+                    record { word = w .witness .word; first = w .witness .first; second = w .witness .second; compete = w .witness .compete };
+              } in
+              record {
+                answer = answered (inr (known, inr (bears, inl (λ n. n c, refl))));
+                buffer = subst (λ (k : Commands). BufferBy k was is (Refused 9 0)) (sym e) (λ q. w, λ d. absurd (d refl));
+                schema = no-schema (commands file) 9 0;
+              }
+
+          pub accepted-means : (v : Schema) → meaning v ≡ schemaBy g → ¬ Competition (schemaBy g)
+              → FileMeans file was was (record { answer = Accepted; schema = v })
+          accepted-means v m n =
+              record {
+                answer = answered (inr (known, inr (bears, inr (n, refl))));
+                buffer = subst (λ (k : Commands). BufferBy k was was Accepted) (sym e) (λ q. absurd (never-accepted (sym q)), λ d. refl);
+                schema = subst (λ (k : Commands). SchemaBy k v Accepted) (sym e) (λ q. m, λ d. absurd (d refl));
+              }
+
+-- the same for a result whose answer is the refusal
+pub as-refusal : {file was is : List ℕ} {r : SchemaFile} {n p : ℕ} → (r .answer ≡ Refused n p) × (r .schema ≡ noSchema)
+    → FileMeans file was is (refusal n p) → FileMeans file was is r
+as-refusal {file} {was} {is} e m = subst (FileMeans file was is) (λ i. record { answer = sym (e .0) i; schema = sym (e .1) i }) m
+
+-- each step names a given type, and so the value is inside the limits
+all-known : {file : List ℕ} {v : Schema} {places : List ℕ} {count : ℕ} (s : StatedBy file v places count)
+    → UnknownMeans (unknownAt (v .by) places (v .types) 0 count) NoStep → unknown (s .stated) ≡ []
+all-known s n = s .unknown-steps ∙ n
+
+pub value-within : {file : List ℕ} {v : Schema} {places : List ℕ} {count : ℕ} → StatedBy file v places count
+    → UnknownMeans (unknownAt (v .by) places (v .types) 0 count) NoStep → WithinLimits (meaning v)
+value-within {file} s n =
+    subst WithinLimits (sym (s .schema)) (stated-within file (s .stated) (s .commands-state) (all-known s n))
+
+-- The answers after the commands have passed, by the value and the tables that they gave.
+module _ {file : List ℕ} {v : Schema} {places : List ℕ} {count : ℕ} (s : StatedBy file v places count)
+    (was : List ℕ) (long : leastWitness ≤ length was) where
+  abbrev found : List ℕ
+  found = unknownAt (v .by) places (v .types) 0 count
+
+  pub unknown-answer : {p : ℕ} → UnknownMeans found (At p) → FileMeans file was was (refusal 7 p)
+  unknown-answer {p} m =
+      let e = s .unknown-steps in
+      unknown-means file was long (s .commands-state) (rw e (m .0)) (rw e (m .1))
+
+  module _ (none-found : UnknownMeans found NoStep) where
+    known : unknown (s .stated) ≡ []
+    known = all-known s none-found
+
+    within : WithinLimits (meaning v)
+    within = value-within s none-found
+
+    root-bears : Bears (meaning v) (v .root .0) ↔ Bears (schemaBy (s .stated)) (s .stated .root)
+    unfolding meaning schemaBy
+    root-bears = (
+      λ b. subst (λ (S : Meaning). Bears S (S .root)) (s .schema) b,
+      λ b. subst (λ (S : Meaning). Bears S (S .root)) (sym (s .schema)) b,
+    )
+
+    module _ {t : Trimming} (trimmed : TrimMeans (meaning v) t) where
+      bears-by : T (getD (t .bears) (v .root .0) false) ↔ Bears (schemaBy (s .stated)) (s .stated .root)
+      bears-by =
+          let e = trimmed .inside within .bears (v .root .0) in
+          (λ h. root-bears .0 (e .0 h), λ b. e .1 (root-bears .1 b))
+
+      pub treeless-answer : not (getD (t .bears) (v .root .0) false) ≡ true → FileMeans file was was (refusal 8 0)
+      treeless-answer e =
+          treeless-means file was long (s .commands-state) known
+          (λ b. T-not (getD (t .bears) (v .root .0) false) (subst T (sym e) tt) (bears-by .1 b))
+
+      module _ (e : not (getD (t .bears) (v .root .0) false) ≡ false) where
+        bears : Bears (schemaBy (s .stated)) (s .stated .root)
+        bears = passed (getD (t .bears) (v .root .0) false) e bears-by
+
+        pub competing-answer : {is : List ℕ} → SearchMeans (meaning v) was is Competes → FileMeans file was is (refusal 9 0)
+        competing-answer {is} m =
+            compete-means file was long (s .commands-state) known bears is
+            (subst (λ (S : Meaning). Written S was is) (s .schema) (m .1))
+
+        pub restrained-answer : {is : List ℕ} (r : Searched) → ¬ (r ≡ Competes) → SearchMeans (meaning v) was is r
+            → FileMeans file was is (record { answer = Accepted; schema = v })
+        restrained-answer Unsearched n m = absurd (m .0 (within, long))
+        restrained-answer {is} Restrained n m =
+            subst (λ (l : List ℕ). FileMeans file was l (record { answer = Accepted; schema = v })) (sym (m .2))
+            (accepted-means file was long (s .commands-state) known bears v (s .schema)
+            (subst (λ (S : Meaning). ¬ Competition S) (s .schema) (m .1)))
+        restrained-answer Competes n m = absurd (n refl)

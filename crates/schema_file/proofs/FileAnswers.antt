@@ -1,0 +1,77 @@
+-- The answer to a schema file: there is at most one, and it is a refusal for competition exactly where the schema is ambiguous.
+use mathlib.Core.Path.{_≡_, sym, subst, _∙_}
+use mathlib.Core.Logic.{_↔_, _⊎_, inl, inr}
+use mathlib.Core.List.{List, [], _∷_}
+use Prim.Native.Nat.{ℕ, _≤_}
+use native.Mathlib.Omega.{arith}
+use lib.ListN.{length}
+use Rattle.sdtd.specs.Limits.{leastWitness}
+use Rattle.sdtd.specs.Document.{SomeValid, Ambiguous}
+use Rattle.sdtd.specs.Schema.{Schema}
+use Rattle.sdtd.specs.Competition.{Competition, Witness}
+use Rattle.sdtd.specs.Answer.{Ordered}
+use Rattle.sdtd.proofs.Answers.{ordered-unique}
+use Rattle.sdtd.proofs.Ambiguity.{competition-is-ambiguity}
+use Rattle.sdtd.proofs.Trimming.{root-bears}
+use Rattle.schema_file.specs.File.{Stated, Commands, stopped, states, commands, schemaBy, unknown}
+use Rattle.schema_file.specs.Answer.{ask, afterDone, AnswerBy, AnswerIs, BufferBy}
+use Rattle.schema_file.specs.declared.file.FileAnswer.{FileAnswer}
+use Rattle.schema_file.specs.declared.file.FileAnswer.the-variants.{Accepted, Refused}
+
+-- at most one answer where the buffer is long enough
+by-unique : (x : Commands) {a b : FileAnswer} → AnswerBy x a → AnswerBy x b → a ≡ b
+by-unique (stopped n p) r s = r ∙ sym s
+by-unique (states g) r s = ordered-unique (λ c. c ≡ Accepted) (afterDone g) (λ all u v. u ∙ sym v) r s
+
+-- a file has at most one answer
+pub file-unique : (file was : List ℕ) {a b : FileAnswer} → AnswerIs file was a → AnswerIs file was b → a ≡ b
+file-unique file was r s =
+    ordered-unique (AnswerBy (commands file)) (ask 1 0 (leastWitness ≤ length was) ∷ []) (λ all u v. by-unique (commands file) u v) r s
+
+-- Demand 3 of a file that passes questions 1 to 7 and has a valid document: "It is refused for competition exactly when two valid documents
+-- [..] agree in every event through some opening tag and differ in that element's type. Otherwise it is accepted".
+pub record Demand3File (g : Stated) (a : FileAnswer) : Type 0 where
+  pub refused : (a ≡ Refused 9 0) ↔ Ambiguous (schemaBy g)
+  pub accepted : (a ≡ Accepted) ↔ (¬ Ambiguous (schemaBy g))
+  pub either : (a ≡ Refused 9 0) ⊎ (a ≡ Accepted)
+
+-- the answer where the questions before 9 hold
+last-question : (g : Stated) {a : FileAnswer} → unknown g ≡ [] → SomeValid (schemaBy g) → AnswerBy (states g) a
+    → Ordered (ask 9 0 (¬ Competition (schemaBy g)) ∷ []) (λ b. b ≡ Accepted) a
+unfolding schemaBy
+last-question g known some (inl o) = absurd (o .0 known)
+last-question g known some (inr (k, inl o)) = absurd (o .0 (root-bears .1 some))
+last-question g known some (inr (k, inr o)) = o .1
+
+not-both : {A : Type 0} {a : FileAnswer} → a ≡ Accepted → a ≡ Refused 9 0 → A
+not-both p q = absurd (let z : _≡_ {A = ℕ} 0 1 = cc in omega arith)
+
+-- the answer to question 9, with a competition where it is refused for one
+demanded : {g : Stated} {a : FileAnswer} → Ordered (ask 9 0 (¬ Competition (schemaBy g)) ∷ []) (λ b. b ≡ Accepted) a
+    → (a ≡ Refused 9 0 → Competition (schemaBy g)) → Demand3File g a
+demanded (inl o) found =
+    record {
+      refused = (λ e. competition-is-ambiguity .0 (found e), λ m. o .1);
+      accepted = (λ e. not-both e (o .1), λ n. absurd (o .0 (λ c. n (competition-is-ambiguity .0 c))));
+      either = inl (o .1);
+    }
+demanded (inr o) found =
+    record {
+      refused = (λ e. not-both (o .1) e, λ m. absurd (o .0 (competition-is-ambiguity .1 m)));
+      accepted = (λ e m. o .0 (competition-is-ambiguity .1 m), λ n. o .1);
+      either = inr (o .1);
+    }
+
+-- a witness shows a competition
+shown : {S : Schema} {bytes : List ℕ} → Witness S bytes → Competition S
+shown w = record { type = w .type; compete-in = record { word = w .word; first = w .first; second = w .second; compete = w .compete } }
+
+-- The answer meets demand 3. That there is a competition where it is refused for one is read off the witness in the buffer.
+pub file-ambiguous : (file was is : List ℕ) {g : Stated} {a : FileAnswer} → commands file ≡ states g → unknown g ≡ []
+    → leastWitness ≤ length was → SomeValid (schemaBy g) → AnswerIs file was a → BufferBy (commands file) was is a
+    → Demand3File g a
+file-ambiguous file was is e known l some (inl o) buffer = absurd (o .0 l)
+file-ambiguous file was is {g} {a} e known l some (inr o) buffer =
+    let witness = (subst (λ (x : Commands). BufferBy x was is a) e buffer) .0 in
+    demanded (last-question g known some (subst (λ (x : Commands). AnswerBy x a) e (o .1)))
+    (λ n. shown (witness n .witness))

@@ -1,0 +1,69 @@
+-- The answer to a schema file: questions 1 to 9 in order, the witness buffer, and the schema beside the answer.
+use mathlib.Core.Path.{_≡_}
+use mathlib.Core.List.{List, [], _∷_}
+use Prim.Native.Nat.{ℕ, _≤_}
+use lib.ListN.{length, getD, replicate}
+use Rattle.sdtd.specs.Limits.{leastWitness}
+use Rattle.sdtd.specs.Trim.{Bears}
+use Rattle.sdtd.specs.Competition.{Competition}
+use Rattle.sdtd.specs.Answer.{Question, Ordered}
+use Rattle.schema.specs.Value.{meaning}
+use Rattle.schema.specs.Search.{Written}
+use Rattle.schema.specs.declared.value.Schema.{Schema}
+use Rattle.schema_file.specs.File.{Stated, Commands, stopped, states, commands, schemaBy, unknown}
+use Rattle.schema_file.specs.declared.file.FileAnswer.{FileAnswer}
+use Rattle.schema_file.specs.declared.file.FileAnswer.the-variants.{Accepted, Refused}
+use Rattle.schema_file.specs.declared.file.SchemaFile.{SchemaFile}
+
+-- the question that is answered with the number n and the place p where it does not hold
+abbrev pub ask : ℕ → ℕ → Type 0 → Question FileAnswer
+ask n p holds = record { holds = holds; refusal = Refused n p }
+
+-- "After DONE": "Does each STEP name a type that was given? No: 7, at the first that does not." "Does the root type bear a tree? No: 8, place
+-- 0." "Is there no competition? No: 9, place 0."
+abbrev pub afterDone : Stated → List (Question FileAnswer)
+afterDone g =
+    ask 7 (getD (unknown g) 0 0) (unknown g ≡ [])
+    ∷ ask 8 0 (Bears (schemaBy g) (g .root))
+    ∷ ask 9 0 (¬ Competition (schemaBy g)) ∷ []
+
+-- the answer where the buffer is long enough
+abbrev pub AnswerBy : Commands → FileAnswer → Type 0
+AnswerBy (stopped n p) a = a ≡ Refused n p
+AnswerBy (states g) a = Ordered (afterDone g) (λ b. b ≡ Accepted) a
+
+-- "Has the witness buffer at least 532 bytes? No: 1, place 0." Then the questions of each command, and those after DONE.
+abbrev pub AnswerIs : List ℕ → List ℕ → FileAnswer → Type 0
+AnswerIs file was a = Ordered (ask 1 0 (leastWitness ≤ length was) ∷ []) (AnswerBy (commands file)) a
+
+-- "On 9 the witness fills 5 + n bytes and the rest of the buffer is unchanged; on every other answer it is all unchanged."
+abbrev pub BufferBy : Commands → List ℕ → List ℕ → FileAnswer → Type 0
+BufferBy (stopped n p) was is a = is ≡ was
+BufferBy (states g) was is a = (a ≡ Refused 9 0 → Written (schemaBy g) was is) × (¬ (a ≡ Refused 9 0) → is ≡ was)
+
+-- the schema value beside a refusal: no tag, no type
+abbrev pub noSchema : Schema
+noSchema =
+    record {
+      tags = 0;
+      types = 0;
+      root = record { 0 = 0 };
+      tag = replicate 64 0;
+      states = replicate 64 0;
+      accepting = replicate 64 0;
+      steps = replicate 64 0;
+      from = replicate 1024 0;
+      by = replicate 1024 0;
+      to = replicate 1024 0;
+    }
+
+-- "The accepted schema is the one that the file states." Beside a refusal stands the value of no schema.
+abbrev pub SchemaBy : Commands → Schema → FileAnswer → Type 0
+SchemaBy (stopped n p) v a = v ≡ noSchema
+SchemaBy (states g) v a = (a ≡ Accepted → meaning v ≡ schemaBy g) × (¬ (a ≡ Accepted) → v ≡ noSchema)
+
+-- What the schema file's call answers.
+pub record FileMeans (file was is : List ℕ) (r : SchemaFile) : Type 0 where
+  pub answer : AnswerIs file was (r .answer)
+  pub buffer : BufferBy (commands file) was is (r .answer)
+  pub schema : SchemaBy (commands file) (r .schema) (r .answer)

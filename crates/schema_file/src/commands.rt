@@ -1,0 +1,200 @@
+// The commands of a file, one after another, and the schema that they state.
+use crate::command::Command;
+use crate::command::command_at;
+use crate::command::size_of;
+use crate::state::State;
+use crate::state::asked_of;
+use crate::state::state_after;
+use crate::tables::STEPS;
+use crate::tables::TYPES;
+use crate::tables::add_final;
+use crate::tables::add_step;
+use crate::tables::add_type;
+use crate::tables::given_already;
+use schema::Schema;
+use sdtd::TypeNo;
+ghost use mathlib.Core.Path.{_≡_};
+ghost use Prim.Native.Nat.{_≤_};
+ghost use lib.ListN.{length};
+ghost use Rattle.schema_file.specs.Tables.{Tables, tablesAfter, unknownAt, UnknownMeans, ReadMeans};
+ghost use Rattle.schema_file.specs.Answer.{noSchema};
+
+// A refusal's number and place, or that all commands passed.
+pub(crate) enum Outcome {
+    Stopped(u8, usize),
+    AllStated,
+}
+
+// What reading the commands gives: where they all passed, the schema stated, the place of each step and the number of steps.
+pub(crate) struct ReadFile {
+    pub outcome: Outcome,
+    pub schema: Schema,
+    pub places: [usize; STEPS],
+    pub count: usize,
+}
+
+// The place of a step, or that there is none.
+pub(crate) enum Unknown {
+    At(usize),
+    NoStep,
+}
+
+// The tables after the command at the place `at`, which passed its questions.
+fn obey<'a>(
+    command: Command,
+    state: State,
+    at: usize,
+    tag: &'a mut [u8; TYPES],
+    states: &'a mut [u8; TYPES],
+    accepting: &'a mut [u32; TYPES],
+    counts: &'a mut [u16; TYPES],
+    from: &'a mut [u8; STEPS],
+    by: &'a mut [u8; STEPS],
+    to: &'a mut [u8; STEPS],
+    places: &'a mut [usize; STEPS],
+)
+    ensures { λ _. ⌜ _≡_ {A = Tables} (record { tag = now (tag .exit); states = now (states .exit); accepting = now (accepting .exit); counts = now (counts .exit); from = now (from .exit); by = now (by .exit); to = now (to .exit); places = now (places .exit) }) (tablesAfter state (record { tag = now (tag .entry); states = now (states .entry); accepting = now (accepting .entry); counts = now (counts .entry); from = now (from .entry); by = now (by .entry); to = now (to .entry); places = now (places .entry) }) at command) ⌝ }
+{
+    let last = (state.types % 64 + 63) % 64;
+    match command {
+        Command::TypeBlock(g, k) => add_type(
+            tag,
+            states,
+            accepting,
+            counts,
+            state.types % 64,
+            g,
+            k,
+        ),
+        Command::Final(q) => add_final(accepting, last, q),
+        Command::Step(p, j, q) => add_step(
+            counts,
+            from,
+            by,
+            to,
+            places,
+            last,
+            state.count % 1024,
+            p,
+            j,
+            q,
+            at,
+        ),
+        _ => {}
+    }
+}
+
+// The schema value of no schema: no tag, no type.
+pub(crate) fn no_schema() -> Schema
+    ensures { λ r. ⌜ r ≡ noSchema ⌝ }
+{
+    Schema {
+        tags: 0,
+        types: 0,
+        root: TypeNo(0),
+        tag: [0; TYPES],
+        states: [0; TYPES],
+        accepting: [0; TYPES],
+        steps: [0; TYPES],
+        from: [0; STEPS],
+        by: [0; STEPS],
+        to: [0; STEPS],
+    }
+}
+
+fn stopped(number: u8, place: usize) -> ReadFile
+    ensures { λ r. ⌜ r .outcome ≡ Outcome.Stopped number place ⌝ }
+{
+    ReadFile {
+        outcome: Outcome::Stopped(number, place),
+        schema: no_schema(),
+        places: [0; STEPS],
+        count: 0,
+    }
+}
+
+// Questions 2 to 6 of each command, in order, up to DONE and the end of the file.
+pub(crate) fn read_commands(file: &[u8]) -> ReadFile
+    ensures { λ r. ⌜ ReadMeans (now (file .entry)) (r .outcome) (r .schema) (r .places) (r .count) ⌝ }
+{
+    let mut tag = [0u8; TYPES];
+    let mut states = [0u8; TYPES];
+    let mut accepting = [0u32; TYPES];
+    let mut counts = [0u16; TYPES];
+    let mut from = [0u8; STEPS];
+    let mut by = [0u8; STEPS];
+    let mut to = [0u8; STEPS];
+    let mut places = [0usize; STEPS];
+    let mut state = State {
+        phase: 0,
+        tags: 0,
+        types: 0,
+        root: 0,
+        count: 0,
+    };
+    let mut at = 0;
+    while state.phase != 4 {
+        let command = command_at(file, at);
+        let last = (state.types % 64 + 63) % 64;
+        let given = given_already(&from, &by, &to, state.count, counts[last], command);
+        let failed = asked_of(state, states[last], accepting[last], given, command);
+        if failed != 0 {
+            return stopped(failed, at);
+        }
+        obey(
+            command,
+            state,
+            at,
+            &mut tag,
+            &mut states,
+            &mut accepting,
+            &mut counts,
+            &mut from,
+            &mut by,
+            &mut to,
+            &mut places,
+        );
+        state = state_after(state, command);
+        at += size_of(command);
+    }
+    if at < file.len() {
+        return stopped(3, at);
+    }
+    ReadFile {
+        outcome: Outcome::AllStated,
+        schema: Schema {
+            tags: state.tags,
+            types: (state.types % 256) as u8,
+            root: TypeNo(state.root),
+            tag,
+            states,
+            accepting,
+            steps: counts,
+            from,
+            by,
+            to,
+        },
+        places,
+        count: state.count,
+    }
+}
+
+// The first of the steps that names no given type.
+pub(crate) fn first_unknown<'a>(
+    by: &'a [u8; STEPS],
+    places: &'a [usize; STEPS],
+    types: u8,
+    count: usize,
+) -> Unknown
+    requires { ⌜ count ≤ 1024 ⌝ }
+    ensures { λ r. ⌜ UnknownMeans (unknownAt (now (by .entry)) (now (places .entry)) types 0 count) r ⌝ }
+{
+    let mut i = 0;
+    while i < count {
+        if types <= by[i] {
+            return Unknown::At(places[i]);
+        }
+        i += 1;
+    }
+    Unknown::NoStep
+}

@@ -1,0 +1,66 @@
+// The schema file's answer: questions 1 to 9 in order.
+use crate::commands::Outcome;
+use crate::commands::Unknown;
+use crate::commands::first_unknown;
+use crate::commands::no_schema;
+use crate::commands::read_commands;
+use schema::Schema;
+use schema::Searched;
+use schema::competition;
+use schema::trim;
+ghost use mathlib.Core.Path.{_≡_};
+ghost use Rattle.schema_file.specs.Answer.{FileMeans, noSchema};
+
+// The answer to a schema file: accepted, or a refusal's number and place.
+pub enum FileAnswer {
+    Accepted,
+    Refused(u8, usize),
+}
+
+// The answer, and beside it the accepted schema; beside a refusal, the value of no schema.
+pub struct SchemaFile {
+    pub answer: FileAnswer,
+    pub schema: Schema,
+}
+
+fn refused(number: u8, place: usize) -> SchemaFile
+    ensures { λ r. ⌜ (r .answer ≡ FileAnswer.Refused number place) × (r .schema ≡ noSchema) ⌝ }
+{
+    SchemaFile {
+        answer: FileAnswer::Refused(number, place),
+        schema: no_schema(),
+    }
+}
+
+// The answer to the file; on 9 the witness goes to the buffer.
+pub fn read(file: &[u8], witness: &mut [u8]) -> SchemaFile
+    ensures { λ r. ⌜ FileMeans (now (file .entry)) (now (witness .entry)) (now (witness .exit)) r ⌝ }
+{
+    if witness.len() < 532 {
+        return refused(1, 0);
+    }
+    let all = read_commands(file);
+    let outcome = all.outcome;
+    if let Outcome::Stopped(n, p) = outcome {
+        return refused(n, p);
+    }
+    let schema = all.schema;
+    let places = all.places;
+    let unknown = first_unknown(&schema.by, &places, schema.types, all.count);
+    if let Unknown::At(p) = unknown {
+        return refused(7, p);
+    }
+    let trimming = trim(schema);
+    let root = schema.root.0 as usize;
+    if !trimming.bears[root] {
+        return refused(8, 0);
+    }
+    let searched = competition(schema, witness);
+    match searched {
+        Searched::Competes => refused(9, 0),
+        _ => SchemaFile {
+            answer: FileAnswer::Accepted,
+            schema,
+        },
+    }
+}
