@@ -30,6 +30,19 @@ pub record Tables : Type 0 where
   pub to : List ℕ
   pub places : List ℕ
 
+abbrev pub tables : List ℕ → List ℕ → List ℕ → List ℕ → List ℕ → List ℕ → List ℕ → List ℕ → Tables
+tables tag own final counts from by to places =
+    record {
+      tag = tag;
+      states = own;
+      accepting = final;
+      counts = counts;
+      from = from;
+      by = by;
+      to = to;
+      places = places;
+    }
+
 -- the number of the first question that a command fails, 2 to 6, or 0: by the state, the state count and the accepting states of the block
 -- that the file is in, and whether that block has the STEP already
 unfoldable pub asked : State → ℕ → ℕ → Bool → Command → ℕ

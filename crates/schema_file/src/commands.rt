@@ -16,7 +16,7 @@ use sdtd::TypeNo;
 ghost use mathlib.Core.Path.{_≡_};
 ghost use Prim.Native.Nat.{_≤_};
 ghost use lib.ListN.{length};
-ghost use Rattle.schema_file.specs.Tables.{Tables, tablesAfter, unknownAt, UnknownMeans, ReadMeans};
+ghost use Rattle.schema_file.specs.Tables.{tables, tablesAfter, unknownAt, UnknownMeans, ReadMeans};
 ghost use Rattle.schema_file.specs.Answer.{noSchema};
 
 // A refusal's number and place, or that all commands passed.
@@ -53,7 +53,12 @@ fn obey<'a>(
     to: &'a mut [u8; STEPS],
     places: &'a mut [usize; STEPS],
 )
-    ensures { λ _. ⌜ _≡_ {A = Tables} (record { tag = now (tag .exit); states = now (states .exit); accepting = now (accepting .exit); counts = now (counts .exit); from = now (from .exit); by = now (by .exit); to = now (to .exit); places = now (places .exit) }) (tablesAfter state (record { tag = now (tag .entry); states = now (states .entry); accepting = now (accepting .entry); counts = now (counts .entry); from = now (from .entry); by = now (by .entry); to = now (to .entry); places = now (places .entry) }) at command) ⌝ }
+    ensures { λ _. ⌜ tables (now (tag .exit)) (now (states .exit)) (now (accepting .exit)) (now (counts .exit))
+        (now (from .exit)) (now (by .exit)) (now (to .exit)) (now (places .exit))
+        ≡ tablesAfter state
+        (tables (now (tag .entry)) (now (states .entry)) (now (accepting .entry)) (now (counts .entry))
+        (now (from .entry)) (now (by .entry)) (now (to .entry)) (now (places .entry)))
+        at command ⌝ }
 {
     let last = (state.types % 64 + 63) % 64;
     match command {

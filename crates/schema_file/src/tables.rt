@@ -90,7 +90,10 @@ pub(crate) fn add_type<'a>(
     k: u8,
 )
     requires { ⌜ a < 64 ⌝ }
-    ensures { λ _. ⌜ (now (tag .exit) ≡ set (now (tag .entry)) a g) × (now (states .exit) ≡ set (now (states .entry)) a k) × (now (accepting .exit) ≡ set (now (accepting .entry)) a 0) × (now (counts .exit) ≡ set (now (counts .entry)) a 0) ⌝ }
+    ensures { λ _. ⌜ (now (tag .exit) ≡ set (now (tag .entry)) a g)
+        × (now (states .exit) ≡ set (now (states .entry)) a k)
+        × (now (accepting .exit) ≡ set (now (accepting .entry)) a 0)
+        × (now (counts .exit) ≡ set (now (counts .entry)) a 0) ⌝ }
 {
     tag[a] = g;
     states[a] = k;
@@ -122,7 +125,11 @@ pub(crate) fn add_step<'a>(
     at: usize,
 )
     requires { ⌜ (a < 64) × (n < 1024) ⌝ }
-    ensures { λ _. ⌜ (now (counts .exit) ≡ set (now (counts .entry)) a (getD (now (counts .entry)) a 0 % 1024 + 1)) × (now (from .exit) ≡ set (now (from .entry)) n p) × (now (by .exit) ≡ set (now (by .entry)) n j) × (now (to .exit) ≡ set (now (to .entry)) n q) × (now (places .exit) ≡ set (now (places .entry)) n at) ⌝ }
+    ensures { λ _. ⌜ (now (counts .exit) ≡ set (now (counts .entry)) a (getD (now (counts .entry)) a 0 % 1024 + 1))
+        × (now (from .exit) ≡ set (now (from .entry)) n p)
+        × (now (by .exit) ≡ set (now (by .entry)) n j)
+        × (now (to .exit) ≡ set (now (to .entry)) n q)
+        × (now (places .exit) ≡ set (now (places .entry)) n at) ⌝ }
 {
     counts[a] = counts[a] % 1024 + 1;
     from[n] = p;
