@@ -10,7 +10,7 @@ use lib.ListN.{length, getD}
 use Rattle.sdtd.specs.Limits.{leastWitness}
 use Rattle.sdtd.specs.Schema.{Schema as Meaning, WithinLimits}
 use Rattle.sdtd.specs.Trim.{Bears}
-use Rattle.sdtd.specs.Competition.{Competition}
+use Rattle.sdtd.specs.Competition.{Competition, Witness}
 use Rattle.schema.specs.Value.{meaning}
 use Rattle.schema.specs.Trimming.{TrimMeans}
 use Rattle.schema.specs.Search.{Written, SearchMeans}
@@ -27,6 +27,11 @@ use Rattle.schema_file.specs.Answer.{AnswerIs, AnswerBy, BufferBy, Schem
 use Rattle.schema_file.specs.declared.file.FileAnswer.{FileAnswer}
 use Rattle.schema_file.specs.declared.file.FileAnswer.the-variants.{Accepted, Refused}
 use Rattle.schema_file.specs.declared.file.SchemaFile.{SchemaFile}
+
+-- a witness shows a competition
+pub witness-competes : {S : Meaning} {bytes : List ℕ} → Witness S bytes → Competition S
+witness-competes w =
+    record { type = w .type; compete-in = record { word = w .word; first = w .first; second = w .second; compete = w .compete } }
 
 -- a refusal with no schema beside it
 abbrev pub refusal : ℕ → ℕ → SchemaFile
@@ -80,14 +85,8 @@ module _ (file was : List ℕ) where
         module _ (bears : Bears (schemaBy g) (g .root)) where
           pub compete-means : (is : List ℕ) → Written (schemaBy g) was is → FileMeans file was is (refusal 9 0)
           compete-means is w =
-              let c : Competition (schemaBy g) =
               record {
-                type = w .witness .type;
-                compete-in =
-                    record { word = w .witness .word; first = w .witness .first; second = w .witness .second; compete = w .witness .compete };
-              } in
-              record {
-                answer = answered (inr (known, inr (bears, inl (λ n. n c, refl))));
+                answer = answered (inr (known, inr (bears, inl (λ n. n (witness-competes (w .witness)), refl))));
                 buffer = subst (λ (k : Commands). BufferBy k was is (Refused 9 0)) (sym e) (λ q. w, λ d. absurd (d refl));
                 schema = no-schema (commands file) 9 0;
               }

@@ -1,5 +1,5 @@
 -- The answer to a schema file: there is at most one, and it is a refusal for competition exactly where the schema is ambiguous.
-use mathlib.Core.Path.{_≡_, sym, subst, _∙_}
+use mathlib.Core.Path.{_≡_, refl, sym, subst, _∙_}
 use mathlib.Core.Logic.{_↔_, _⊎_, inl, inr}
 use mathlib.Core.List.{List, [], _∷_}
 use Prim.Native.Nat.{ℕ, _≤_}
@@ -7,14 +7,22 @@ use native.Mathlib.Omega.{arith}
 use lib.ListN.{length}
 use Rattle.sdtd.specs.Limits.{leastWitness}
 use Rattle.sdtd.specs.Document.{SomeValid, Ambiguous}
-use Rattle.sdtd.specs.Schema.{Schema}
-use Rattle.sdtd.specs.Competition.{Competition, Witness}
+use Rattle.sdtd.specs.Schema.{Schema as Meaning}
+use Rattle.sdtd.specs.Trim.{Bears}
+use Rattle.sdtd.specs.Competition.{Competition}
+use Rattle.sdtd.specs.Competition.{Accepted as IsAccepted}
 use Rattle.sdtd.specs.Answer.{Ordered}
 use Rattle.sdtd.proofs.Answers.{ordered-unique}
 use Rattle.sdtd.proofs.Ambiguity.{competition-is-ambiguity}
 use Rattle.sdtd.proofs.Trimming.{root-bears}
 use Rattle.schema_file.specs.File.{Stated, Commands, stopped, states, commands, schemaBy, unknown}
-use Rattle.schema_file.specs.Answer.{ask, afterDone, AnswerBy, AnswerIs, BufferBy}
+use Rattle.schema.specs.Value.{meaning}
+use Rattle.schema.specs.declared.value.Schema.{Schema}
+use Rattle.schema_file.specs.Answer.{ask, afterDone, AnswerBy, AnswerIs, BufferBy, SchemaBy, FileMeans}
+use Rattle.schema_file.specs.declared.file.SchemaFile.{SchemaFile}
+use Rattle.schema_file.proofs.StatedLimits.{stated-within}
+use Rattle.schema_file.proofs.Lengths.{longest}
+use Rattle.schema_file.proofs.Answered.{witness-competes}
 use Rattle.schema_file.specs.declared.file.FileAnswer.{FileAnswer}
 use Rattle.schema_file.specs.declared.file.FileAnswer.the-variants.{Accepted, Refused}
 
@@ -62,10 +70,6 @@ demanded (inr o) found =
       either = inr (o .1);
     }
 
--- a witness shows a competition
-shown : {S : Schema} {bytes : List ℕ} → Witness S bytes → Competition S
-shown w = record { type = w .type; compete-in = record { word = w .word; first = w .first; second = w .second; compete = w .compete } }
-
 -- The answer meets demand 3. That there is a competition where it is refused for one is read off the witness in the buffer.
 pub file-ambiguous : (file was is : List ℕ) {g : Stated} {a : FileAnswer} → commands file ≡ states g → unknown g ≡ []
     → leastWitness ≤ length was → SomeValid (schemaBy g) → AnswerIs file was a → BufferBy (commands file) was is a
@@ -74,4 +78,35 @@ file-ambiguous file was is e known l some (inl o) buffer = absurd (o .0 l)
 file-ambiguous file was is {g} {a} e known l some (inr o) buffer =
     let witness = (subst (λ (x : Commands). BufferBy x was is a) e buffer) .0 in
     demanded (last-question g known some (subst (λ (x : Commands). AnswerBy x a) e (o .1)))
-    (λ n. shown (witness n .witness))
+    (λ n. witness-competes (witness n .witness))
+
+-- an accepted file: its schema is inside the limits and passes questions 8 and 9, and it is no longer than 8,389 bytes
+pub record AcceptedFile (file : List ℕ) (v : Schema) : Type 0 where
+  pub schema : IsAccepted (meaning v)
+  pub short : length file ≤ 8389
+
+refused-accepted : {A : Type 0} {a : FileAnswer} {n p : ℕ} → a ≡ Refused n p → a ≡ Accepted → A
+refused-accepted p q = absurd (let z : _≡_ {A = ℕ} 0 1 = cc in omega arith)
+
+accepted-by : (file : List ℕ) (k : Commands) {v : Schema} {a : FileAnswer} → commands file ≡ k → AnswerBy k a → SchemaBy k v a → a ≡ Accepted
+    → AcceptedFile file v
+unfolding schemaBy
+accepted-by file (stopped n p) e r s q = refused-accepted r q
+accepted-by file (states g) e (inl o) s q = refused-accepted (o .1) q
+accepted-by file (states g) e (inr (k, inl o)) s q = refused-accepted (o .1) q
+accepted-by file (states g) e (inr (k, inr (b, inl o))) s q = refused-accepted (o .1) q
+accepted-by file (states g) e (inr (k, inr (b, inr (n, o)))) s q =
+    let same = sym (s .0 q) in
+    record {
+      schema =
+          subst IsAccepted same (record { within = stated-within file g e k; bears = b; no-competition = n });
+      short = longest file g e;
+    }
+
+-- The schema beside an accepting answer is inside question 10's limits and accepted; the file is no longer than 8,389 bytes.
+pub accepted-file : {file was is : List ℕ} {r : SchemaFile} → FileMeans file was is r → r .answer ≡ Accepted → AcceptedFile file (r .schema)
+accepted-file {file} {was} {is} {r} m q = from (m .answer)
+  where
+    from : AnswerIs file was (r .answer) → AcceptedFile file (r .schema)
+    from (inl o) = refused-accepted (o .1) q
+    from (inr o) = accepted-by file (commands file) refl (o .1) (m .schema) q

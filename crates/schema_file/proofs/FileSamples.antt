@@ -19,6 +19,7 @@ use Rattle.schema_file.specs.File.{Stated, nothingStated, Commands, stop
 use Rattle.schema_file.specs.Answer.{AnswerIs, AnswerBy}
 use Rattle.schema_file.specs.Samples.{FileSample, HoldsFor, AllHold, starredFiles, fileR, fileChoice, fileNoD, fileTwoWays, fileTwoTypes}
 use Rattle.schema_file.specs.Samples.{fileLastButOne, fileOptional, fileEndless}
+use Rattle.schema_file.proofs.Answered.{witness-competes}
 use Rattle.schema_file.specs.declared.file.FileAnswer.{FileAnswer}
 use Rattle.schema_file.specs.declared.file.FileAnswer.the-variants.{Accepted, Refused}
 
@@ -89,9 +90,7 @@ module _ {file : List ℕ} {S : Schema} (x : States file S) (was : List ℕ) (lo
 
   competing-file : {bytes : List ℕ} → Bears S (S .root) → Witness S bytes → AnswerIs file was (Refused 9 0)
   competing-file b w =
-      let c : Competition S =
-      record { type = w .type; compete-in = record { word = w .word; first = w .first; second = w .second; compete = w .compete } } in
-      by-schema (inr (x .known, inr (bears b, inl (λ n. n (subst Competition (sym (x .schema)) c), refl))))
+      by-schema (inr (x .known, inr (bears b, inl (λ n. n (subst Competition (sym (x .schema)) (witness-competes w)), refl))))
 
 infixr 25 _&_
 _&_ : {A B : Type 0} → A → B → A × B

@@ -7,3 +7,4 @@ mod tables;
 
 pub use file::FileAnswer;
 pub use file::SchemaFile;
+pub use file::read;
