@@ -1,6 +1,5 @@
 -- What the private steps of the pair search compute. A queue entry holds a pair of states below 32, the type by which it was found and the
 -- place in the queue of the pair it was found from.
-use mathlib.Core.Path.{_≡_}
 use mathlib.Core.Bool.{Bool, cond, true, false}
 use mathlib.Core.List.{List, [], _∷_, _++_}
 use Prim.Native.Nat.{ℕ, zero, suc, _+_, _*_, _/_, _%_, _<_, _≤_}

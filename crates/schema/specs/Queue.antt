@@ -1,7 +1,7 @@
 -- What the private search of one type answers: a queue of pairs found, each from an earlier one, with rivals at the last; or a set of pairs
 -- that is closed and has no rivals.
 use mathlib.Core.Path.{_≡_}
-use mathlib.Core.Bool.{Bool, true, false, _&&_}
+use mathlib.Core.Bool.{Bool, false, _&&_}
 use mathlib.Core.List.{List}
 use Prim.Native.Nat.{ℕ, _+_, _*_, _<_, _≤_}
 use lib.Dec.{T}

@@ -19,4 +19,7 @@ pub use search::competition;
 pub use state_set::StateSet;
 pub use tables::Trimming;
 pub use tables::trim;
+pub use value::STATES;
+pub use value::STEPS;
 pub use value::Schema;
+pub use value::TYPES;

@@ -1,10 +1,11 @@
 // Document 01's limits of a schema: question 10's part about it.
+use crate::value::STATES;
 use crate::value::STEPS;
 use crate::value::Schema;
+use crate::value::TAGS;
 use crate::value::TYPES;
 ghost use mathlib.Core.Path.{_≡_};
 ghost use mathlib.Core.Logic.{_↔_};
-ghost use mathlib.Core.List.{List·Memᴰ};
 ghost use Prim.Native.Nat.{_+_, _≤_};
 ghost use lib.Dec.{T};
 ghost use Rattle.sdtd.specs.Schema.{StepWithin, WithinLimits};
@@ -77,7 +78,7 @@ fn block_within<'a>(
     if states == 0 {
         return false;
     }
-    if 32 < states {
+    if STATES < states {
         return false;
     }
     if 1u64 << (states as u32) <= accepting as u64 {
@@ -140,10 +141,10 @@ pub fn within(schema: Schema) -> bool
     if tags == 0 {
         return false;
     }
-    if 32 < tags {
+    if TAGS < tags {
         return false;
     }
-    if 64 < types {
+    if TYPES < types as usize {
         return false;
     }
     if types <= root {

@@ -2,15 +2,17 @@
 use crate::pairs::PAIRS;
 use crate::pairs::number;
 use crate::state_set::StateSet;
+use crate::value::STATES;
 use crate::value::TYPES;
 ghost use mathlib.Core.Path.{_≡_};
 ghost use Prim.Native.Nat.{_<_, _≤_};
 ghost use Rattle.schema.specs.Marks.{marks, markOf, markRow, markProduct, markTypes, markStep};
 
 // Entries of the table of next states: 32 states by 64 types.
-pub const NEXT: usize = 2048;
+pub const NEXT: usize = STATES as usize * TYPES;
 
-// The pair joins the queue, unless it is reached already.
+// The pair joins the queue, unless it is reached already. An entry's 5 lowest bits are p, the next 5 are q, and `link` stands above them.
+// The test for a full queue is there for the bound. It never holds in a search: there are only 528 pairs, and each joins once.
 fn mark<'a>(
     reached: &'a mut [bool; PAIRS],
     queue: &'a mut [u32; PAIRS],
@@ -50,7 +52,7 @@ fn mark_row<'a>(
 {
     let mut found = count;
     let mut q: u8 = 0;
-    while q < 32 {
+    while q < STATES {
         if StateSet(right).has(q) {
             found = mark(reached, queue, found, p, q, link);
         }
@@ -77,7 +79,7 @@ fn mark_product<'a>(
     }
     let mut found = count;
     let mut p: u8 = 0;
-    while p < 32 {
+    while p < STATES {
         if StateSet(left).has(p) {
             found = mark_row(reached, queue, found, p, right, link);
         }
@@ -87,6 +89,8 @@ fn mark_product<'a>(
 }
 
 // The pairs that tree-bearing types lead to from the pair p, q, which is at the place `at` of the queue.
+// `bears` is the table of live states: a type bears a tree exactly when state 0 is in its set.
+// A pair with a dead state joins too and does no harm, since rival steps lead only into live states.
 fn mark_types<'a>(
     reached: &'a mut [bool; PAIRS],
     queue: &'a mut [u32; PAIRS],
@@ -111,9 +115,9 @@ fn mark_types<'a>(
                 reached,
                 queue,
                 found,
-                next[p * 64 + j],
-                next[q * 64 + j],
-                (j + 64 * at) as u32,
+                next[p * TYPES + j],
+                next[q * TYPES + j],
+                (j + TYPES * at) as u32,
             );
         }
         j += 1;

@@ -1,4 +1,5 @@
 // Unordered pairs of states and their numbers.
+use crate::value::STATES;
 ghost use mathlib.Core.Path.{_≡_};
 ghost use Prim.Native.Nat.{_<_};
 ghost use Rattle.sdtd.specs.Competition.{pairNumber};
@@ -26,13 +27,14 @@ pub(crate) fn number(s: u8, t: u8) -> usize
     p * (p + 1) / 2 + q
 }
 
+// The number of the pair, or Outside where one of the two is no state.
 pub fn pair_number(s: u8, t: u8) -> PairNumber
     ensures { λ r. ⌜ r ≡ pairAnswer s t ⌝ }
 {
-    if 32 <= s {
+    if STATES <= s {
         return PairNumber::Outside;
     }
-    if 32 <= t {
+    if STATES <= t {
         return PairNumber::Outside;
     }
     PairNumber::At(number(s, t) as u16)

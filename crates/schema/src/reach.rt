@@ -10,6 +10,7 @@ ghost use Rattle.schema.specs.Value.{stepsOf, offset};
 ghost use Rattle.schema.specs.Spread.{reachStep, reachSteps, reachAll};
 
 // A step from a state in `forward`, by a tree-bearing type, to a state in `own` reaches its type.
+// Inside the limits the remainder changes nothing: a type is below 64.
 fn reach_step(
     from: u8,
     by: u8,
@@ -21,7 +22,7 @@ fn reach_step(
 ) -> [bool; TYPES]
     ensures { λ r. ⌜ r ≡ reachStep (now (live .entry)) forward own (record { from = from; by = by; to = to }) reached ⌝ }
 {
-    let b = (by % 64) as usize;
+    let b = by as usize % TYPES;
     if !StateSet(forward).has(from) {
         return reached;
     }

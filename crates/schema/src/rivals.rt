@@ -19,7 +19,8 @@ pub(crate) enum Rivals {
     NoTypes,
 }
 
-// Does the type j bear a tree and lead from the state to a state of the set?
+// Does the type j bear a tree and lead from the state to a state of the set `own`, the live states of the type that is searched?
+// `bears` is the table of live states: a type bears a tree exactly when state 0 is in its set.
 fn ahead<'a>(
     next: &'a [u32; NEXT],
     bears: &'a [u32; TYPES],
@@ -33,7 +34,7 @@ fn ahead<'a>(
     if !StateSet(bears[j]).has(0) {
         return false;
     }
-    next[state * 64 + j] & own != 0
+    next[state * TYPES + j] & own != 0
 }
 
 // Another type of j's tag that is ahead of the state.

@@ -7,6 +7,8 @@ use crate::rivals::Rivals;
 use crate::rivals::rivals_at;
 use crate::state_set::StateSet;
 use crate::tables::trim;
+use crate::value::LEAST_WITNESS;
+use crate::value::STATES;
 use crate::value::STEPS;
 use crate::value::Schema;
 use crate::value::TYPES;
@@ -35,11 +37,11 @@ pub(crate) enum Found {
     Nowhere,
 }
 
-// A step joins the table of next states.
+// A step joins the table of next states. Inside the limits the remainders change nothing: a state is below 32, a type below 64.
 fn next_step(next: &mut [u32; NEXT], from: u8, by: u8, to: u8)
     ensures { λ _. ⌜ now (next .exit) ≡ nextStep (record { from = from; by = by; to = to }) (now (next .entry)) ⌝ }
 {
-    let at = (from % 32) as usize * 64 + (by % 64) as usize;
+    let at = (from % STATES) as usize * TYPES + by as usize % TYPES;
     let grown = StateSet(next[at]).with(to);
     next[at] = grown.0;
 }
@@ -171,7 +173,7 @@ fn first_competing<'a>(
 pub fn competition(schema: Schema, witness: &mut [u8]) -> Searched
     ensures { λ r. ⌜ SearchMeans (meaning schema) (now (witness .entry)) (now (witness .exit)) r ⌝ }
 {
-    if witness.len() < 532 {
+    if witness.len() < LEAST_WITNESS {
         return Searched::Unsearched;
     }
     if !within(schema) {

@@ -10,10 +10,11 @@ ghost use Rattle.schema.specs.Value.{stepsOf, offset};
 ghost use Rattle.schema.specs.Spread.{spreadStep, spreadSet, spreadAll};
 
 // A step by a tree-bearing type with its state `when` in the set adds its state `add`.
+// Inside the limits the remainder changes nothing: a type is below 64.
 fn spread_step(add: u8, by: u8, when: u8, bears: &[u32; TYPES], set: u32) -> u32
     ensures { λ r. ⌜ r ≡ spreadStep (now (bears .entry)) (record { from = add; by = by; to = when }) set ⌝ }
 {
-    let b = (by % 64) as usize;
+    let b = by as usize % TYPES;
     if !StateSet(bears[b]).has(0) {
         return set;
     }

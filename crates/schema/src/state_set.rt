@@ -1,4 +1,5 @@
 // Sets of states.
+use crate::value::STATES;
 ghost use mathlib.Core.Path.{_≡_};
 ghost use Rattle.schema.specs.States.{member, insert};
 
@@ -15,7 +16,7 @@ impl StateSet {
     pub fn has(self, state: u8) -> bool
         ensures { λ r. ⌜ r ≡ member state (self .0) ⌝ }
     {
-        if 32 <= state {
+        if STATES <= state {
             return false;
         }
         self.0 >> (state as u32) & 1 == 1
@@ -25,7 +26,7 @@ impl StateSet {
     pub fn with(self, state: u8) -> StateSet
         ensures { λ r. ⌜ r .0 ≡ insert state (self .0) ⌝ }
     {
-        if 32 <= state {
+        if STATES <= state {
             return self;
         }
         StateSet(self.0 | 1 << (state as u32))

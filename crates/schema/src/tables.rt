@@ -9,12 +9,12 @@ use crate::value::STEPS;
 use crate::value::Schema;
 use crate::value::TYPES;
 ghost use mathlib.Core.Path.{_≡_};
+ghost use mathlib.Core.Bool.{true, false};
 ghost use Prim.Native.Nat.{_≤_, _<_};
 ghost use lib.ListN.{set, replicate};
 ghost use Rattle.schema.specs.Value.{stepsOf, offset, meaning};
 ghost use Rattle.schema.specs.Spread.{spreadAll, reachAll, Settled, firstSets, startStates, bearing};
 ghost use Rattle.schema.specs.Trimming.{TrimMeans};
-ghost use mathlib.Core.Bool.{true, false};
 
 // Entry a: the live states of the type a as a set, whether it bears a tree, whether it is reached.
 pub struct Trimming {
@@ -28,7 +28,8 @@ fn first_sets(sets: [u32; TYPES], types: usize) -> [u32; TYPES]
     requires { ⌜ types ≤ 64 ⌝ }
     ensures { λ r. ⌜ r ≡ firstSets types sets ⌝ }
 {
-    let mut kept = [0u32; TYPES];
+    let none = StateSet::NONE;
+    let mut kept = [none.0; TYPES];
     let mut a = 0;
     while a < types {
         kept[a] = sets[a];
@@ -38,7 +39,7 @@ fn first_sets(sets: [u32; TYPES], types: usize) -> [u32; TYPES]
 }
 
 // The live states: those before a step by a tree-bearing type to a live state are added, round by round, to the accepting ones.
-pub(crate) fn live_states<'a>(
+fn live_states<'a>(
     from: &'a [u8; STEPS],
     by: &'a [u8; STEPS],
     to: &'a [u8; STEPS],
@@ -76,7 +77,8 @@ fn forward_states<'a>(
         (λ t. spreadAll (now (steps .entry)) (stepsOf (now (to .entry)) (now (by .entry)) (now (from .entry))) (now (live .entry)) 0 0 types t)
         startStates r ⌝ }
 {
-    let mut forward = [1u32; TYPES];
+    let start = StateSet::START;
+    let mut forward = [start.0; TYPES];
     loop {
         let next = spread_all(to, by, from, steps, types, live, forward);
         if same_sets(next, forward) {

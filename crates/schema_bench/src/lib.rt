@@ -1,8 +1,10 @@
 // Entry points of the benchmark, on numbers and byte slices.
 // A schema as bytes: the numbers of tags and types, and the root; eight bytes a type: its tag, its number of states, its accepting states
 // as a set (4 bytes) and its number of steps (2 bytes), low byte first; three bytes a step: from, type, to. A byte that is missing is 0.
+use schema::STEPS;
 use schema::Schema;
 use schema::Searched;
+use schema::TYPES;
 use schema::competition;
 use schema::trim;
 use schema::within;
@@ -31,10 +33,10 @@ fn four(flat: &[u8], at: usize) -> u32
 fn fill_types<'a>(
     flat: &[u8],
     types: usize,
-    tag: &'a mut [u8; 64],
-    states: &'a mut [u8; 64],
-    accepting: &'a mut [u32; 64],
-    steps: &'a mut [u16; 64],
+    tag: &'a mut [u8; TYPES],
+    states: &'a mut [u8; TYPES],
+    accepting: &'a mut [u32; TYPES],
+    steps: &'a mut [u16; TYPES],
 )
     requires { ⌜ types ≤ 64 ⌝ }
 {
@@ -54,9 +56,9 @@ fn fill_steps<'a>(
     flat: &[u8],
     start: usize,
     n: usize,
-    from: &'a mut [u8; 1024],
-    by: &'a mut [u8; 1024],
-    to: &'a mut [u8; 1024],
+    from: &'a mut [u8; STEPS],
+    by: &'a mut [u8; STEPS],
+    to: &'a mut [u8; STEPS],
 )
     requires { ⌜ (start < 65536) × (n ≤ 1024) ⌝ }
 {
@@ -83,20 +85,20 @@ fn steps_in(flat: &[u8], start: usize) -> usize
     if flat.len() < start {
         return 0;
     }
-    at_most((flat.len() - start) / 3, 1024)
+    at_most((flat.len() - start) / 3, STEPS)
 }
 
 // The schema that the bytes hold, at most 64 types of it.
 fn read(flat: &[u8]) -> Schema {
-    let types = at_most(byte(flat, 1) as usize, 64);
+    let types = at_most(byte(flat, 1) as usize, TYPES);
     let start = 3 + 8 * types;
-    let mut tag = [0u8; 64];
-    let mut states = [0u8; 64];
-    let mut accepting = [0u32; 64];
-    let mut steps = [0u16; 64];
-    let mut from = [0u8; 1024];
-    let mut by = [0u8; 1024];
-    let mut to = [0u8; 1024];
+    let mut tag = [0u8; TYPES];
+    let mut states = [0u8; TYPES];
+    let mut accepting = [0u32; TYPES];
+    let mut steps = [0u16; TYPES];
+    let mut from = [0u8; STEPS];
+    let mut by = [0u8; STEPS];
+    let mut to = [0u8; STEPS];
     fill_types(
         flat,
         types,
@@ -164,12 +166,12 @@ fn one(flag: bool) -> u64
 }
 
 // How many flags are set.
-fn count(flags: &[bool; 64]) -> u64
+fn count(flags: &[bool; TYPES]) -> u64
     ensures { λ r. ⌜ r ≤ 64 ⌝ }
 {
     let mut n: u64 = 0;
     let mut i = 0;
-    while i < 64 {
+    while i < TYPES {
         n += one(flags[i]);
         i += 1;
     }

@@ -1,6 +1,8 @@
 // Schema values, made type by type and step by step.
+use schema::STEPS;
 use schema::Schema;
 use schema::StateSet;
+use schema::TYPES;
 use sdtd::TypeNo;
 ghost use Prim.Native.Nat.{_<_};
 
@@ -10,13 +12,13 @@ pub(crate) fn with_tags(tags: u8) -> Schema {
         tags,
         types: 0,
         root: TypeNo(0),
-        tag: [0u8; 64],
-        states: [0u8; 64],
-        accepting: [0u32; 64],
-        steps: [0u16; 64],
-        from: [0u8; 1024],
-        by: [0u8; 1024],
-        to: [0u8; 1024],
+        tag: [0u8; TYPES],
+        states: [0u8; TYPES],
+        accepting: [0u32; TYPES],
+        steps: [0u16; TYPES],
+        from: [0u8; STEPS],
+        by: [0u8; STEPS],
+        to: [0u8; STEPS],
     }
 }
 
@@ -29,7 +31,7 @@ pub(crate) fn only(state: u8) -> StateSet {
 pub(crate) fn add_type(schema: Schema, tag: u8, states: u8, accepting: StateSet) -> Schema {
     let mut s = schema;
     let types = s.types;
-    if types < 64 {
+    if (types as usize) < TYPES {
         let a = types as usize;
         s.tag[a] = tag;
         s.states[a] = states;
@@ -51,10 +53,10 @@ fn wide(n: u16) -> usize
 }
 
 // How many steps all types have.
-fn used(steps: &[u16; 64]) -> usize {
+fn used(steps: &[u16; TYPES]) -> usize {
     let mut n: usize = 0;
     let mut a = 0;
-    while a < 64 {
+    while a < TYPES {
         n += wide(steps[a]);
         a += 1;
     }
@@ -66,12 +68,12 @@ pub(crate) fn add_step(schema: Schema, from: u8, by: u8, to: u8) -> Schema {
     let mut s = schema;
     let at = used(&s.steps);
     let types = s.types;
-    if at < 1024 {
+    if at < STEPS {
         if 0 < types {
-            if types <= 64 {
+            if types as usize <= TYPES {
                 let a = types as usize - 1;
                 let n = s.steps[a];
-                if n < 1024 {
+                if (n as usize) < STEPS {
                     s.from[at] = from;
                     s.by[at] = by;
                     s.to[at] = to;

@@ -1,9 +1,11 @@
 // What the library answers, written to standard output.
 use libc::STDOUT_FILENO;
 use schema::PairNumber;
+use schema::STATES;
 use schema::Schema;
 use schema::Searched;
 use schema::StateSet;
+use schema::TYPES;
 use schema::competition;
 use schema::pair_number;
 use schema::trim;
@@ -20,9 +22,9 @@ fn number(n: u64) {
     io::print_decimal(STDOUT_FILENO, n);
 }
 
-fn show_type(a: usize) {
+fn show_one(n: usize) {
     text(b" ");
-    number(a as u64);
+    number(n as u64);
 }
 
 fn show_none(none: bool) {
@@ -32,12 +34,12 @@ fn show_none(none: bool) {
 }
 
 // The numbers of the types that are marked.
-fn show_types(marked: [bool; 64]) {
+fn show_types(marked: [bool; TYPES]) {
     let mut none = true;
     let mut a = 0;
-    while a < 64 {
+    while a < TYPES {
         if marked[a] {
-            show_type(a);
+            show_one(a);
             none = false;
         }
         a += 1;
@@ -45,9 +47,48 @@ fn show_types(marked: [bool; 64]) {
     show_none(none);
 }
 
-// The trimming: which types bear a tree, which are reached, and whether the root bears a tree.
+// The states of a set.
+fn show_states(set: StateSet) {
+    let mut none = true;
+    let mut s: u8 = 0;
+    while s < STATES {
+        if set.has(s) {
+            show_one(s as usize);
+            none = false;
+        }
+        s += 1;
+    }
+    show_none(none);
+}
+
+// The live states of the type a.
+fn show_live(a: usize, set: StateSet) {
+    if 0 < a {
+        text(b",");
+    }
+    show_one(a);
+    text(b":");
+    show_states(set);
+}
+
+// The live states of each type.
+fn show_live_states(live: [u32; TYPES], types: usize) {
+    let mut a = 0;
+    while a < TYPES {
+        if a < types {
+            show_live(a, StateSet(live[a]));
+        }
+        a += 1;
+    }
+}
+
+// The trimming: which states are live, which types bear a tree, which are reached, and whether the root bears a tree.
 fn show_trimming(schema: Schema) {
     let trimming = trim(schema);
+    let live = trimming.live;
+    let types = schema.types as usize;
+    text(b"; live");
+    show_live_states(live, types);
     let bears = trimming.bears;
     let reached = trimming.reached;
     text(b"; bear a tree");
@@ -55,7 +96,7 @@ fn show_trimming(schema: Schema) {
     text(b"; reached");
     show_types(reached);
     let root = schema.root.0 as usize;
-    if root < 64 {
+    if root < TYPES {
         if bears[root] {
             text(b"; root bears a tree");
             return;

@@ -21,6 +21,9 @@ returns c = (λ f. absurd f, λ w. let k = within-means _ (sets (c .before)) .0 
 returns-2 : tie.Need-returns-2
 returns-2 c = (λ f. absurd f, λ w. let k = within-means _ (sets (c .before .before)) .0 w in omega arith)
 
+cast-if3 : tie.Need-cast-if3
+cast-if3 c = search needs
+
 returns-3 : tie.Need-returns-3
 returns-3 c = (λ f. absurd f, λ w. let k = within-means _ (sets (c .before .before .before)) .0 w in omega arith)
 
@@ -45,4 +48,4 @@ returns-5 c =
     )
 
 pub within-spec : {M : Type 1} → statement M
-within-spec = tie.close (tie.spec returns returns-2 returns-3 returns-4 blocks-within-requires returns-5)
+within-spec = tie.close (tie.spec returns returns-2 cast-if3 returns-3 returns-4 blocks-within-requires returns-5)

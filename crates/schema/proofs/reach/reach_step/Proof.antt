@@ -6,9 +6,6 @@ use borrow.Author.Needs.{needs}
 use Rattle.schema.proofs.reach.reach_step.Statement.{statement}
 use Rattle.schema.proofs.reach.reach_step.Tie as tie
 
-cast-b : tie.Need-cast-b
-cast-b c = search needs
-
 has-requires : tie.Need-has-requires
 has-requires c κs = search needs
 
@@ -16,11 +13,11 @@ returns : tie.Need-returns
 unfolding reachStep
 returns c = rw (sym (c .before .has .ensures) ∙ not-true _ (c .if1 .taken))
 
-mul-t14 : tie.Need-mul-t14
-mul-t14 c = search needs
+mul-t10 : tie.Need-mul-t10
+mul-t10 c = search needs
 
-element-copy-out-t17 : tie.Need-element-copy-out-t17
-element-copy-out-t17 c = search needs
+element-copy-out-t16 : tie.Need-element-copy-out-t16
+element-copy-out-t16 c = search needs
 
 has-requires-2 : tie.Need-has-requires-2
 has-requires-2 c κs = search needs
@@ -57,11 +54,10 @@ pub reach-step-spec : {M : Type 1} → statement M
 reach-step-spec =
     tie.close
     (tie.spec
-    cast-b
     has-requires
     returns
-    mul-t14
-    element-copy-out-t17
+    mul-t10
+    element-copy-out-t16
     has-requires-2
     returns-2
     has-requires-3

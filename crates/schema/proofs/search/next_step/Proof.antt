@@ -10,9 +10,6 @@ cast-at c = search needs
 mul-at : tie.Need-mul-at
 mul-at c = search needs
 
-cast-at-2 : tie.Need-cast-at-2
-cast-at-2 c = search needs
-
 add-at : tie.Need-add-at
 add-at c = search needs
 
@@ -41,7 +38,6 @@ next-step-spec =
     (tie.spec
     cast-at
     mul-at
-    cast-at-2
     add-at
     mul-t8
     element-copy-out-t14

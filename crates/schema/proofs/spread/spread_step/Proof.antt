@@ -6,14 +6,11 @@ use borrow.Author.Needs.{needs}
 use Rattle.schema.proofs.spread.spread_step.Statement.{statement}
 use Rattle.schema.proofs.spread.spread_step.Tie as tie
 
-cast-b : tie.Need-cast-b
-cast-b c = search needs
+mul-t8 : tie.Need-mul-t8
+mul-t8 c = search needs
 
-mul-t10 : tie.Need-mul-t10
-mul-t10 c = search needs
-
-element-copy-out-t13 : tie.Need-element-copy-out-t13
-element-copy-out-t13 c = search needs
+element-copy-out-t12 : tie.Need-element-copy-out-t12
+element-copy-out-t12 c = search needs
 
 has-requires : tie.Need-has-requires
 has-requires c κs = search needs
@@ -46,9 +43,8 @@ pub spread-step-spec : {M : Type 1} → statement M
 spread-step-spec =
     tie.close
     (tie.spec
-    cast-b
-    mul-t10
-    element-copy-out-t13
+    mul-t8
+    element-copy-out-t12
     has-requires
     returns
     has-requires-2

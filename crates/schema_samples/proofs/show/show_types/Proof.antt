@@ -16,8 +16,8 @@ loop-holds c = search needs
 array-read-if1 : tie.Need-array-read-if1 Inv-loop μ-loop
 array-read-if1 c = search needs
 
-show-type-requires : tie.Need-show-type-requires Inv-loop μ-loop
-show-type-requires c κs = search needs
+show-one-requires : tie.Need-show-one-requires Inv-loop μ-loop
+show-one-requires c κs = search needs
 
 add-a : tie.Need-add-a Inv-loop μ-loop
 add-a c = search needs
@@ -42,7 +42,7 @@ show-types-spec =
     μ-loop
     loop-holds
     array-read-if1
-    show-type-requires
+    show-one-requires
     add-a
     loop-less
     loop-again

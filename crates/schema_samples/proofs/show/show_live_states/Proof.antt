@@ -1,0 +1,50 @@
+-- `show::show_live_states` is safe and ends.
+use Prim.Native.Nat.{_≤_, _-_}
+use borrow.Author.Needs.{needs}
+use Rattle.schema_samples.proofs.show.show_live_states.Statement.{statement}
+use Rattle.schema_samples.proofs.show.show_live_states.Tie as tie
+
+abbrev Inv-loop : tie.InvT-loop
+Inv-loop types live a₀ a = a ≤ 64
+
+abbrev μ-loop : tie.MeasureT-loop
+μ-loop types live a₀ a = 64 - a
+
+loop-holds : tie.Need-loop-holds Inv-loop μ-loop
+loop-holds c = search needs
+
+mul-t7 : tie.Need-mul-t7 Inv-loop μ-loop
+mul-t7 c = search needs
+
+array-read-t10 : tie.Need-array-read-t10 Inv-loop μ-loop
+array-read-t10 c = search needs
+
+show-live-requires : tie.Need-show-live-requires Inv-loop μ-loop
+show-live-requires c κs = search needs
+
+add-a : tie.Need-add-a Inv-loop μ-loop
+add-a c = search needs
+
+loop-less : tie.Need-loop-less Inv-loop μ-loop
+loop-less c = search needs
+
+loop-again : tie.Need-loop-again Inv-loop μ-loop
+loop-again c = search needs
+
+returns : tie.Need-returns Inv-loop μ-loop
+returns c = search needs
+
+pub show-live-states-spec : {M : Type 1} → statement M
+show-live-states-spec =
+    tie.close
+    (tie.spec
+    Inv-loop
+    μ-loop
+    loop-holds
+    mul-t7
+    array-read-t10
+    show-live-requires
+    add-a
+    loop-less
+    loop-again
+    returns)
