@@ -1,5 +1,6 @@
 // Exports for the benchmark of the schema file in bench/schema_file.
-use schema_file::{FileAnswer, read};
+use schema_file::FileAnswer;
+use schema_file::read;
 
 // The answer as one number: 0 for accepted, or the refusal's number and place.
 fn answer(file: &[u8]) -> u64 {
