@@ -1,24 +1,23 @@
 -- The answer to a schema file: there is at most one, and it is a refusal for competition exactly where the schema is ambiguous.
 use mathlib.Core.Path.{_≡_, refl, sym, subst, _∙_}
-use mathlib.Core.Logic.{_↔_, _⊎_, inl, inr}
+use mathlib.Core.Logic.{inl, inr}
 use mathlib.Core.List.{List, [], _∷_}
 use Prim.Native.Nat.{ℕ, _≤_}
 use native.Mathlib.Omega.{arith}
 use lib.ListN.{length}
 use Rattle.sdtd.specs.Limits.{leastWitness}
-use Rattle.sdtd.specs.Document.{SomeValid, Ambiguous}
+use Rattle.sdtd.specs.Document.{SomeValid}
 use Rattle.sdtd.specs.Schema.{Schema as Meaning}
-use Rattle.sdtd.specs.Trim.{Bears}
 use Rattle.sdtd.specs.Competition.{Competition}
 use Rattle.sdtd.specs.Competition.{Accepted as IsAccepted}
 use Rattle.sdtd.specs.Answer.{Ordered}
 use Rattle.sdtd.proofs.Answers.{ordered-unique}
 use Rattle.sdtd.proofs.Ambiguity.{competition-is-ambiguity}
 use Rattle.sdtd.proofs.Trimming.{root-bears}
-use Rattle.schema_file.specs.File.{Stated, Commands, stopped, states, commands, schemaBy, unknown}
+use Rattle.schema_file.specs.File.{Stated, Commands, stopped, states, commands, schemaBy, unknown, StatesSchema, mostBytes}
 use Rattle.schema.specs.Value.{meaning}
 use Rattle.schema.specs.declared.value.Schema.{Schema}
-use Rattle.schema_file.specs.Answer.{ask, afterDone, AnswerBy, AnswerIs, BufferBy, SchemaBy, FileMeans}
+use Rattle.schema_file.specs.Answer.{ask, afterDone, AnswerBy, AnswerIs, BufferBy, SchemaBy, FileMeans, Demand3File}
 use Rattle.schema_file.specs.declared.file.SchemaFile.{SchemaFile}
 use Rattle.schema_file.proofs.StatedLimits.{stated-within}
 use Rattle.schema_file.proofs.Lengths.{longest}
@@ -36,13 +35,6 @@ pub file-unique : (file was : List ℕ) {a b : FileAnswer} → AnswerIs file was
 file-unique file was r s =
     ordered-unique (AnswerBy (commands file)) (ask 1 0 (leastWitness ≤ length was) ∷ []) (λ all u v. by-unique (commands file) u v) r s
 
--- Demand 3 of a file that passes questions 1 to 7 and has a valid document: "It is refused for competition exactly when two valid documents
--- [..] agree in every event through some opening tag and differ in that element's type. Otherwise it is accepted".
-pub record Demand3File (g : Stated) (a : FileAnswer) : Type 0 where
-  pub refused : (a ≡ Refused 9 0) ↔ Ambiguous (schemaBy g)
-  pub accepted : (a ≡ Accepted) ↔ (¬ Ambiguous (schemaBy g))
-  pub either : (a ≡ Refused 9 0) ⊎ (a ≡ Accepted)
-
 -- the answer where the questions before 9 hold
 last-question : (g : Stated) {a : FileAnswer} → unknown g ≡ [] → SomeValid (schemaBy g) → AnswerBy (states g) a
     → Ordered (ask 9 0 (¬ Competition (schemaBy g)) ∷ []) (λ b. b ≡ Accepted) a
@@ -51,12 +43,12 @@ last-question g known some (inl o) = absurd (o .0 known)
 last-question g known some (inr (k, inl o)) = absurd (o .0 (root-bears .1 some))
 last-question g known some (inr (k, inr o)) = o .1
 
-not-both : {A : Type 0} {a : FileAnswer} → a ≡ Accepted → a ≡ Refused 9 0 → A
+pub not-both : {A : Type 0} {a : FileAnswer} → a ≡ Accepted → a ≡ Refused 9 0 → A
 not-both p q = absurd (let z : _≡_ {A = ℕ} 0 1 = cc in omega arith)
 
 -- the answer to question 9, with a competition where it is refused for one
-demanded : {g : Stated} {a : FileAnswer} → Ordered (ask 9 0 (¬ Competition (schemaBy g)) ∷ []) (λ b. b ≡ Accepted) a
-    → (a ≡ Refused 9 0 → Competition (schemaBy g)) → Demand3File g a
+demanded : {S : Meaning} {a : FileAnswer} → Ordered (ask 9 0 (¬ Competition S) ∷ []) (λ b. b ≡ Accepted) a
+    → (a ≡ Refused 9 0 → Competition S) → Demand3File S a
 demanded (inl o) found =
     record {
       refused = (λ e. competition-is-ambiguity .0 (found e), λ m. o .1);
@@ -70,20 +62,27 @@ demanded (inr o) found =
       either = inr (o .1);
     }
 
--- The answer meets demand 3. That there is a competition where it is refused for one is read off the witness in the buffer.
-pub file-ambiguous : (file was is : List ℕ) {g : Stated} {a : FileAnswer} → commands file ≡ states g → unknown g ≡ []
+-- the same of a file that passes questions 1 to 7
+demanded-of : (file was is : List ℕ) {g : Stated} {a : FileAnswer} → commands file ≡ states g → unknown g ≡ []
     → leastWitness ≤ length was → SomeValid (schemaBy g) → AnswerIs file was a → BufferBy (commands file) was is a
-    → Demand3File g a
-file-ambiguous file was is e known l some (inl o) buffer = absurd (o .0 l)
-file-ambiguous file was is {g} {a} e known l some (inr o) buffer =
+    → Demand3File (schemaBy g) a
+demanded-of file was is e known l some (inl o) buffer = absurd (o .0 l)
+demanded-of file was is {g} {a} e known l some (inr o) buffer =
     let witness = (subst (λ (x : Commands). BufferBy x was is a) e buffer) .0 in
     demanded (last-question g known some (subst (λ (x : Commands). AnswerBy x a) e (o .1)))
     (λ n. witness-competes (witness n .witness))
 
+-- What the call promises meets demand 3. That there is a competition where the file is refused for one is read off the witness.
+pub file-ambiguous : {file was is : List ℕ} {r : SchemaFile} {S : Meaning} → FileMeans file was is r → StatesSchema file S
+    → leastWitness ≤ length was → SomeValid S → Demand3File S (r .answer)
+file-ambiguous {file} {was} {is} {r} m x l some =
+    subst (λ (R : Meaning). Demand3File R (r .answer)) (x .schema)
+    (demanded-of file was is (x .passes) (x .known) l (subst SomeValid (sym (x .schema)) some) (m .answer) (m .buffer))
+
 -- an accepted file: its schema is inside the limits and passes questions 8 and 9, and it is no longer than 8,389 bytes
 pub record AcceptedFile (file : List ℕ) (v : Schema) : Type 0 where
   pub schema : IsAccepted (meaning v)
-  pub short : length file ≤ 8389
+  pub short : length file ≤ mostBytes
 
 refused-accepted : {A : Type 0} {a : FileAnswer} {n p : ℕ} → a ≡ Refused n p → a ≡ Accepted → A
 refused-accepted p q = absurd (let z : _≡_ {A = ℕ} 0 1 = cc in omega arith)

@@ -10,7 +10,7 @@ use lib.ListN.{length, length-append}
 use Rattle.schema.specs.States.{member, insert, membersBelow, members}
 use Rattle.schema.proofs.Bits.{insert-below, member-insert, absent, absent-falls}
 use Rattle.schema_file.specs.Command.{size}
-use Rattle.schema_file.specs.File.{Placed, Draft, Stated, current, stepCount, withFinal, withStep, after, states, commands}
+use Rattle.schema_file.specs.File.{Placed, Draft, Stated, current, stepCount, withFinal, withStep, after, states, commands, mostBytes}
 use Rattle.schema_file.specs.declared.command.Command.{Command}
 use Rattle.schema_file.specs.declared.command.Command.the-variants.{Tags, TypeBlock, Final, Step, Root, Done, NoCommand}
 use Rattle.schema_file.proofs.Passing.{Passed, Kept, kept-to-end}
@@ -84,7 +84,7 @@ counted-kept : Kept Counted
 counted-kept i g c p h = record { fine = fine-kept i g c p (h .fine); bytes = counted i g c p (h .fine) (h .bytes) }
 
 -- "The longest accepted file has 8,389 bytes."
-pub longest : (file : List ℕ) (g : Stated) → commands file ≡ states g → length file ≤ 8389
+pub longest : (file : List ℕ) (g : Stated) → commands file ≡ states g → length file ≤ mostBytes
 longest file g e =
     let r = kept-to-end counted-kept file e (record { fine = nothing-fine; bytes = omega arith }) in
     omega (arith, bytes-most (g .blocks))

@@ -19,11 +19,13 @@ use Rattle.sdtd.proofs.Rivals.{compete-rivals}
 use Rattle.schema.specs.States.{member, insert}
 use Rattle.schema.proofs.Bits.{member-none, insert-below, member-insert, mem-members}
 use Rattle.schema_file.specs.File.{tagged, inside, ended, Placed, Draft, Stated, hasStep, after, failed, Commands, states}
-use Rattle.schema_file.specs.File.{blockBy, schemaBy, unknownIn, unknownBy, unknown}
-use Rattle.schema_file.specs.Answer.{AnswerIs, AnswerBy}
+use Rattle.schema_file.specs.File.{blockBy, schemaBy, unknownIn, unknownBy, unknown, mostBytes}
+use Rattle.schema_file.specs.Answer.{AnswerIs, AnswerBy, FileMeans}
 use Rattle.schema_file.specs.declared.command.Command.{Command}
 use Rattle.schema_file.specs.declared.command.Command.the-variants.{Tags, TypeBlock, Final, Step, Root, Done}
 use Rattle.schema_file.specs.declared.file.FileAnswer.the-variants.{Accepted}
+use Rattle.schema_file.specs.declared.file.SchemaFile.{SchemaFile}
+use Rattle.schema_file.proofs.FileAnswers.{file-unique}
 use Rattle.schema_file.proofs.Runs.{bytesOf, length-more, Passes, passes-none, passes-more, passes-all}
 
 -- the commands, then FINAL 0 to n - 1
@@ -81,7 +83,7 @@ first-length =
     let t : length (bytesOf (Tags 32 ∷ [])) ≡ 2 = unfold bytesOf in refl in
     omega (arith, steps-length (thenBlock (Tags 32 ∷ [])) 1024, block-length (Tags 32 ∷ []))
 
-pub longest-length : length longestFile ≡ 8389
+pub longest-length : length longestFile ≡ mostBytes
 unfolding longestFile longestCommands
 longest-length =
     let cs = thenBlocks firstCommands 63 in
@@ -288,3 +290,7 @@ unfolding longestFile
 longest-accepted was l =
     let after-done : AnswerBy (states (stated ended allBlocks)) Accepted = inr (known, inr (root-bears, inr (no-competition, refl))) in
     inr (l, subst (λ (k : Commands). AnswerBy k Accepted) (sym (passes-all longest-pass refl)) after-done)
+
+-- so the call accepts it
+pub longest-read : {was is : List ℕ} {r : SchemaFile} → FileMeans longestFile was is r → leastWitness ≤ length was → r .answer ≡ Accepted
+longest-read {was} m l = file-unique longestFile was (m .answer) (longest-accepted was l)

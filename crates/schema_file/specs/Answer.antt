@@ -1,9 +1,12 @@
 -- The answer to a schema file: questions 1 to 9 in order, the witness buffer, and the schema beside the answer.
 use mathlib.Core.Path.{_≡_}
+use mathlib.Core.Logic.{_↔_, _⊎_}
 use mathlib.Core.List.{List, [], _∷_}
 use Prim.Native.Nat.{ℕ, _≤_}
 use lib.ListN.{length, getD, replicate}
 use Rattle.sdtd.specs.Limits.{leastWitness}
+use Rattle.sdtd.specs.Schema.{Schema as Meaning}
+use Rattle.sdtd.specs.Document.{Ambiguous}
 use Rattle.sdtd.specs.Trim.{Bears}
 use Rattle.sdtd.specs.Competition.{Competition}
 use Rattle.sdtd.specs.Answer.{Question, Ordered}
@@ -15,7 +18,8 @@ use Rattle.schema_file.specs.declared.file.FileAnswer.{FileAnswer}
 use Rattle.schema_file.specs.declared.file.FileAnswer.the-variants.{Accepted, Refused}
 use Rattle.schema_file.specs.declared.file.SchemaFile.{SchemaFile}
 
--- the question that is answered with the number n and the place p where it does not hold
+-- The question that is answered with the number n and the place p where it does not hold: `Refused` is document 01's number and place,
+-- and `Accepted` has neither.
 abbrev pub ask : ℕ → ℕ → Type 0 → Question FileAnswer
 ask n p holds = record { holds = holds; refusal = Refused n p }
 
@@ -67,3 +71,10 @@ pub record FileMeans (file was is : List ℕ) (r : SchemaFile) : Type 0 where
   pub answer : AnswerIs file was (r .answer)
   pub buffer : BufferBy (commands file) was is (r .answer)
   pub schema : SchemaBy (commands file) (r .schema) (r .answer)
+
+-- Demand 3 of a file that passes questions 1 to 7, states S and has a valid document: "It is refused for competition exactly when two valid
+-- documents [..] agree in every event through some opening tag and differ in that element's type. Otherwise it is accepted".
+pub record Demand3File (S : Meaning) (a : FileAnswer) : Type 0 where
+  pub refused : (a ≡ Refused 9 0) ↔ Ambiguous S
+  pub accepted : (a ≡ Accepted) ↔ (¬ Ambiguous S)
+  pub either : (a ≡ Refused 9 0) ⊎ (a ≡ Accepted)

@@ -1,9 +1,10 @@
 -- "The schema file": what its commands state, and the questions asked of each command, in order.
+use mathlib.Core.Path.{_≡_}
 use mathlib.Core.Bool.{Bool, true, false, cond, not, _&&_, _||_}
 use mathlib.Core.List.{List, [], _∷_, _++_, map, reverse}
 use Prim.Native.Nat.{ℕ, zero, suc, _+_}
 use lib.Dec.{eqb, leb, ltb}
-use lib.ListN.{length, getD}
+use lib.ListN.{length}
 use Rattle.sdtd.specs.Limits.{mostTags, mostTypes, mostStates, mostSteps}
 use Rattle.sdtd.specs.Schema.{Block, Schema}
 use Rattle.sdtd.specs.Schema.{Step as StepOf}
@@ -91,9 +92,11 @@ withinCounts g (Root a) = true
 withinCounts g Done = true
 withinCounts g NoCommand = true
 
+-- the step s goes from p by the type j to q
 abbrev pub sameStep : ℕ → ℕ → ℕ → StepOf → Bool
 sameStep p j q s = eqb (s .from) p && (eqb (s .by) j && eqb (s .to) q)
 
+-- one of the steps does
 abbrev pub hasStep : ℕ → ℕ → ℕ → List Placed → Bool
 hasStep p j q [] = false
 hasStep p j q (s ∷ ss) = sameStep p j q (s .step) || hasStep p j q ss
@@ -134,7 +137,8 @@ after g i (Root a) = record { phase = rooted; tags = g .tags; blocks = g .blocks
 after g i Done = record { phase = ended; tags = g .tags; blocks = g .blocks; root = g .root }
 after g i NoCommand = g
 
--- the number of the first question that the command fails, 2 to 6; 0 where it passes them all
+-- the number of the first question that the command fails, 2 to 6; 0 where it passes them all. Question 2: "Is it one of the six, its
+-- operands inside the file?"
 abbrev pub failed : Stated → Command → ℕ
 failed g c =
     cond (isCommand c)
@@ -146,7 +150,8 @@ pub data Commands : Type 0 where
   stopped : ℕ → ℕ → Commands
   states : Stated → Commands
 
--- The commands from the place i on, after what is stated so far; `fuel` is more than the bytes left. "A byte after DONE gets 3 at that byte,
+-- The commands from the place i on, after what is stated so far; `fuel` is more than the bytes left (so its first clause is never reached).
+-- "A refusal answers number and place, the offset of the command in question unless said otherwise." "A byte after DONE gets 3 at that byte,
 -- whichever it is." "An empty or unfinished file gets 2 at its length."
 unfoldable pub commandsFrom : ℕ → List ℕ → ℕ → Stated → Commands
 commandsFrom zero file i g = stopped 2 i
@@ -186,3 +191,14 @@ unknownBy types (d ∷ ds) = unknownBy types ds ++ unknownIn types (d .steps)
 -- "Does each STEP name a type that was given?": the places of those that do not
 abbrev pub unknown : Stated → List ℕ
 unknown g = unknownBy (length (g .blocks)) (g .blocks)
+
+-- the file passes questions 2 to 7 and states the schema S
+pub record StatesSchema (file : List ℕ) (S : Schema) : Type 0 where
+  pub stated : Stated
+  pub passes : commands file ≡ states stated
+  pub known : unknown stated ≡ []
+  pub schema : schemaBy stated ≡ S
+
+-- "The longest accepted file has 8,389 bytes."
+abbrev pub mostBytes : ℕ
+mostBytes = 8389

@@ -1,16 +1,14 @@
 -- What the private steps over the commands compute, and what their tables hold of the commands so far.
 use mathlib.Core.Path.{_≡_}
-use mathlib.Core.Bool.{Bool, true, false, cond, _&&_, _||_}
+use mathlib.Core.Bool.{Bool, false, cond, _&&_, _||_}
 use mathlib.Core.List.{List, [], _∷_}
 use Prim.Native.Nat.{ℕ, zero, suc, _+_, _-_, _%_, _≤_, _<_}
-use lib.Dec.{T, eqb, leb, ltb}
-use lib.ListN.{length, getD, set, replicate}
-use Rattle.sdtd.specs.Schema.{Step as StepOf}
+use lib.Dec.{eqb, leb, ltb}
+use lib.ListN.{length, getD, set}
 use Rattle.schema.specs.States.{member, insert}
 use Rattle.schema.specs.Value.{stepAt, meaning}
 use Rattle.schema.specs.declared.value.Schema.{Schema}
-use Rattle.schema_file.specs.Command.{isCommand}
-use Rattle.schema_file.specs.File.{inside, sameStep, Placed, Draft, Stated, stepCount, unknown, Commands, stopped, states, commands, schemaBy}
+use Rattle.schema_file.specs.File.{inside, sameStep, Placed, Draft, Stated, stepCount, unknown, stopped, states, commands, schemaBy}
 use Rattle.schema_file.specs.declared.command.Command.{Command}
 use Rattle.schema_file.specs.declared.command.Command.the-variants.{Tags, TypeBlock, Final, Step, Root, Done, NoCommand}
 use Rattle.schema_file.specs.declared.state.State.{State}
@@ -153,7 +151,10 @@ givenAlready count from by to n NoCommand = false
 
 -- the number of the question that the command fails, by the state and the tables
 abbrev pub askedBy : State → Tables → Command → ℕ
-askedBy s t c = asked s (getD (t .states) (lastType s) 0) (getD (t .accepting) (lastType s) 0) (givenAlready (s .count) (t .from) (t .by) (t .to) (getD (t .counts) (lastType s) 0) c) c
+askedBy s t c =
+    let a = lastType s in
+    asked s (getD (t .states) a 0) (getD (t .accepting) a 0)
+    (givenAlready (s .count) (t .from) (t .by) (t .to) (getD (t .counts) a 0) c) c
 
 -- the steps of a block, the last first, stand from the place s of the tables on
 abbrev pub StepsHold : Tables → List Placed → ℕ → Type 0

@@ -15,7 +15,6 @@ use schema::Schema;
 use sdtd::TypeNo;
 ghost use mathlib.Core.Path.{_≡_};
 ghost use Prim.Native.Nat.{_≤_};
-ghost use lib.ListN.{length};
 ghost use Rattle.schema_file.specs.Tables.{tables, tablesAfter, unknownAt, UnknownMeans, ReadMeans};
 ghost use Rattle.schema_file.specs.Answer.{noSchema};
 
@@ -107,6 +106,7 @@ pub(crate) fn no_schema() -> Schema
     }
 }
 
+// A refusal by questions 2 to 6.
 fn stopped(number: u8, place: usize) -> ReadFile
     ensures { λ r. ⌜ r .outcome ≡ Outcome.Stopped number place ⌝ }
 {

@@ -23,6 +23,7 @@ pub struct SchemaFile {
     pub schema: Schema,
 }
 
+// A refusal, beside it the value of no schema.
 fn refused(number: u8, place: usize) -> SchemaFile
     ensures { λ r. ⌜ (r .answer ≡ FileAnswer.Refused number place) × (r .schema ≡ noSchema) ⌝ }
 {

@@ -15,6 +15,7 @@ pub(crate) struct State {
     pub count: usize,
 }
 
+// What a TYPE is asked; 0 where it passes.
 fn type_asked(state: State, tag: u8, states: u8) -> u8
     ensures { λ r. ⌜ r ≡ asked state 0 0 false (TypeBlock tag states) ⌝ }
 {
@@ -38,6 +39,7 @@ fn type_asked(state: State, tag: u8, states: u8) -> u8
     0
 }
 
+// What a FINAL is asked, of a block with `own` states.
 fn final_asked(state: State, own: u8, accepting: u32, q: u8) -> u8
     ensures { λ r. ⌜ r ≡ asked state own accepting false (Final q) ⌝ }
 {
@@ -53,6 +55,7 @@ fn final_asked(state: State, own: u8, accepting: u32, q: u8) -> u8
     0
 }
 
+// What a STEP is asked, of a block with `own` states.
 fn step_asked(state: State, own: u8, given: bool, p: u8, j: u8, q: u8) -> u8
     ensures { λ r. ⌜ r ≡ asked state own 0 given (Step p j q) ⌝ }
 {
@@ -77,6 +80,7 @@ fn step_asked(state: State, own: u8, given: bool, p: u8, j: u8, q: u8) -> u8
     0
 }
 
+// What TAGS, ROOT and DONE are asked; 2 for any other.
 fn other_asked(state: State, command: Command) -> u8
     ensures { λ r. ⌜ r ≡ otherAsked state command ⌝ }
 {

@@ -12,7 +12,7 @@ pub const TYPES: usize = 64;
 pub const STEPS: usize = 1024;
 
 // Is one of the n steps from start on this one?
-pub(crate) fn has_step<'a>(
+fn has_step<'a>(
     from: &'a [u8; STEPS],
     by: &'a [u8; STEPS],
     to: &'a [u8; STEPS],
