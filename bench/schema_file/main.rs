@@ -1,5 +1,6 @@
-// Times questions 1 to 7 of the proved schema file's call beside a plain Rust reader that asks the same, on the longest file but for a last
-// STEP that names no given type, so that neither side goes on to questions 8 and 9; and the proved call's whole answer to the longest file.
+// Times questions 1 to 7 of the proved schema file's call beside a plain Rust reader that asks the same, on the longest file with its last
+// block left out and its last STEP naming that type, which is not given, so that neither side goes on to questions 8 and 9; and the proved
+// call's whole answer to the longest file.
 use std::hint::black_box;
 use std::time::{Duration, Instant};
 
@@ -13,7 +14,7 @@ fn proved(file: &[u8], rounds: u32) -> u64 {
     unsafe { schema_file_bench_read(file.as_ptr(), file.len(), rounds) }
 }
 
-// What the plain reader keeps: of each type its tag, states, accepting states and steps, each step with its place.
+// What the plain reader keeps: of each type its states, accepting states and steps, each step with its place.
 struct Block {
     states: u8,
     accepting: u32,
