@@ -47,7 +47,7 @@ pub places-of-each : (P : List Event → Exchange → Type 0) (e : List Event) (
 places-of-each P e xs c before after x p = place-of-each P e before after x (subst (Each P e) p c)
 
 -- An answer that is no refusal from 11 on refuses no question.
-refuses-none : (S : Schema) (e : List Event) (x : Event) {a : Answer} → ((n : ℕ) → 10 < n → a ≢ refused n) → RefusesNone (questions S e x) a
+pub refuses-none : (S : Schema) (e : List Event) (x : Event) {a : Answer} → ((n : ℕ) → 10 < n → a ≢ refused n) → RefusesNone (questions S e x) a
 refuses-none S e (opening g) other =
     (other 11 (omega arith), (other 12 (omega arith), (other 13 (omega arith), (other 14 (omega arith), tt))))
 refuses-none S e (closing g) other =
@@ -55,12 +55,12 @@ refuses-none S e (closing g) other =
 refuses-none S e finish other = (other 11 (omega arith), (other 18 (omega arith), tt))
 
 module _ (S : Schema) (e : List Event) where
-  answer-taken : (x : Event) (a : Answer) → TakenAnswer S e x a → IsTaken a
+  pub answer-taken : (x : Event) (a : Answer) → TakenAnswer S e x a → IsTaken a
   answer-taken (opening g) a t = subst IsTaken (sym (t .answer)) tt
   answer-taken (closing g) a t = subst IsTaken (sym t) tt
   answer-taken finish a t = subst IsTaken (sym t) tt
 
-  right-taken : (x : Event) (a : Answer) → Right S e x a → IsTaken a → AllHold (questions S e x) × TakenAnswer S e x a
+  pub right-taken : (x : Event) (a : Answer) → Right S e x a → IsTaken a → AllHold (questions S e x) × TakenAnswer S e x a
   right-taken x a r t = ordered-taken (TakenAnswer S e x) (questions S e x) (refuses-none S e x (λ n l p. subst IsTaken p t)) r
 
   -- A call is taken exactly when all its questions hold.
@@ -78,16 +78,16 @@ module _ (S : Schema) (e : List Event) where
       other n l p = let same : 10 ≡ n = cc in omega arith
 
 -- the events begin a valid document and open no 65th level
-abbrev Fits : Schema → List Event → Type 0
+abbrev pub Fits : Schema → List Event → Type 0
 Fits S e = Begins S e × (deepest e ≤ mostLevels)
 
 whole-begins : {S : Schema} {d : List Event} → Valid S d → Begins S d
 whole-begins {d = d} v = record { whole = d; valid = v; beginning = record { rest = []; splits = sym (append-nil d) } }
 
 -- What holds of the events taken: with none taken, no document need be valid.
-record Sound (S : Schema) (e : List Event) : Type 0 where
-  begins : (e ≡ []) ⊎ Begins S e
-  within : deepest e ≤ mostLevels
+pub record Sound (S : Schema) (e : List Event) : Type 0 where
+  pub begins : (e ≡ []) ⊎ Begins S e
+  pub within : deepest e ≤ mostLevels
 
 first-opening : {x : Event} (t : Tree) {rest : List Event} → document t ≡ x ∷ rest → (g : ℕ) × (opening g ≡ x)
 first-opening (node a f) p = (a, head-eq-of-cons-eq p)
@@ -152,7 +152,7 @@ module _ {S : Schema} (no-competition : ¬ Competition S) (below : TagsBelow S) 
       subst (λ (y : Event). Fits S (e ++ (y ∷ [])) ↔ Valid S (e ++ (y ∷ []))) (sym p)
       (λ f. finish-whole e (f .0), λ v. (whole-begins v, omega (arith, deepest-finish e)))
 
-  call-meets : (e : List Event) → Sound S e → (x : Event) (a : Answer) → Right S e x a → CallMeets S e x a
+  pub call-meets : (e : List Event) → Sound S e → (x : Event) (a : Answer) → Right S e x a → CallMeets S e x a
   call-meets e s x a r =
       let exactly : IsTaken a ↔ Fits S (e ++ (x ∷ [])) = Iff·trans (taken-asked S e x a r) (asked-fits e s x) in
       record {
@@ -170,10 +170,10 @@ RightAt S e x = Right S e (x .call) (x .answer)
 abbrev MeetsAt : Schema → List Event → Exchange → Type 0
 MeetsAt S e x = CallMeets S e (x .call) (x .answer)
 
-fresh : (S : Schema) → Sound S []
+pub fresh : (S : Schema) → Sound S []
 fresh S = record { begins = inl refl; within = omega arith }
 
-sound-next : {S : Schema} (e : List Event) → Sound S e → (x : Event) (a : Answer) → CallMeets S e x a → Sound S (e ++ ifTaken a x)
+pub sound-next : {S : Schema} (e : List Event) → Sound S e → (x : Event) (a : Answer) → CallMeets S e x a → Sound S (e ++ ifTaken a x)
 sound-next {S} e s x (refused n) m = subst (Sound S) (sym (append-nil e)) s
 sound-next e s x (typed j) m = let f = m .taken-exactly .0 tt in record { begins = inr (f .0); within = f .1 }
 sound-next e s x taken m = let f = m .taken-exactly .0 tt in record { begins = inr (f .0); within = f .1 }
@@ -209,7 +209,7 @@ events-all S e [] t = refl
 events-all S e (x ∷ xs) t =
     ap₂ _++_ (if-taken (x .answer) (x .call) (answer-taken S e (x .call) (x .answer) (t .0))) (events-all S _ xs (t .1))
 
-fits-beginning : {S : Schema} (e f : List Event) → Fits S (e ++ f) → Fits S e
+pub fits-beginning : {S : Schema} (e f : List Event) → Fits S (e ++ f) → Fits S e
 fits-beginning e f (b, w) =
     let splits : b .whole ≡ e ++ (f ++ b .beginning .rest) = rw append-assoc at (b .beginning .splits) in (
       record { whole = b .whole; valid = b .valid; beginning = record { rest = f ++ b .beginning .rest; splits = splits } },
@@ -255,7 +255,7 @@ valid-within v w =
 within-valid : {S : Schema} {d : List Event} → ValidWithin S d → Valid S d
 within-valid v = record { tree = v .tree; is-document = v .is-document; typing = v .typing }
 
-within-fits : {S : Schema} {d : List Event} → ValidWithin S d → Fits S d
+pub within-fits : {S : Schema} {d : List Event} → ValidWithin S d → Fits S d
 within-fits v = (whole-begins (within-valid v), omega (arith, deepest-document (v .tree), ap deepest (v .is-document), v .nested))
 
 -- Events taken that end with a finish are a valid document.

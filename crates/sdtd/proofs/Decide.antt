@@ -23,10 +23,10 @@ LiveTable = List (ℕ × ℕ)
 abbrev pub inTable : LiveTable → ℕ → ℕ → Bool
 inTable L a q = any (λ e. eqb a (e .0) && eqb q (e .1)) L
 
-abbrev In : List (ℕ × ℕ) → ℕ → ℕ → Type 0
+abbrev pub In : List (ℕ × ℕ) → ℕ → ℕ → Type 0
 In L a q = List·Memᴰ {A = ℕ × ℕ} (a, q) L
 
-in-means : (L : List (ℕ × ℕ)) (a q : ℕ) → Means (inTable L a q) (In L a q)
+pub in-means : (L : List (ℕ × ℕ)) (a q : ℕ) → Means (inTable L a q) (In L a q)
 in-means L a q =
     let m = any-means (λ e. and-means (eq-means a (e .0)) (eq-means q (e .1))) L in
     record {
@@ -35,7 +35,7 @@ in-means L a q =
     }
 
 -- the entry is an accepting state, or a step by a type whose start state is in the table leads from it to a state in the table
-abbrev soundEntry : Schema → LiveTable → ℕ × ℕ → Bool
+abbrev pub soundEntry : Schema → LiveTable → ℕ × ℕ → Bool
 soundEntry S L e =
     memb (e .1) (blockOf S (e .0) .accepting)
     || any (λ s. eqb (e .1) (s .from) && (inTable L (s .by) 0 && inTable L (e .0) (s .to))) (blockOf S (e .0) .steps)
@@ -72,12 +72,12 @@ blocks-mean m z (b ∷ bs) =
     }
 
 -- what the test of an entry says
-abbrev Entry : Schema → LiveTable → ℕ × ℕ → Type 0
+abbrev pub Entry : Schema → LiveTable → ℕ × ℕ → Type 0
 Entry S L e =
     List·Memᴰ (e .1) (blockOf S (e .0) .accepting)
     ⊎ Found (λ s. (e .1 ≡ s .from) × (In L (s .by) 0 × In L (e .0) (s .to))) (blockOf S (e .0) .steps)
 
-entry-means : (S : Schema) (L : LiveTable) (e : ℕ × ℕ) → Means (soundEntry S L e) (Entry S L e)
+pub entry-means : (S : Schema) (L : LiveTable) (e : ℕ × ℕ) → Means (soundEntry S L e) (Entry S L e)
 entry-means S L e =
     or-means
     (memb-means (e .1) (blockOf S (e .0) .accepting))
@@ -85,7 +85,7 @@ entry-means S L e =
     (λ s. and-means (eq-means (e .1) (s .from)) (and-means (in-means L (s .by) 0) (in-means L (e .0) (s .to))))
     (blockOf S (e .0) .steps))
 
-entry-live : {S : Schema} {L : LiveTable} (e : ℕ × ℕ) → ((a q : ℕ) → In L a q → Live S a q) → Entry S L e → Live S (e .0) (e .1)
+pub entry-live : {S : Schema} {L : LiveTable} (e : ℕ × ℕ) → ((a q : ℕ) → In L a q → Live S a q) → Entry S L e → Live S (e .0) (e .1)
 entry-live e below (inl h) = live-closed .accepting (e .0) (e .1) h
 entry-live e below (inr f) =
     let s = f .member in
@@ -122,15 +122,18 @@ pub record LiveExact (S : Schema) (L : LiveTable) : Type 0 where
   pub live : (a q : ℕ) → Means (inTable L a q) (Live S a q)
   pub bears : (a : ℕ) → Means (inTable L a 0) (Bears S a)
 
-pub live-check : (S : Schema) (L : LiveTable) → T (liveCheck S L) → LiveExact S L
-live-check S L t =
-    let r = and-means (itself (soundTable S L)) (itself (everyBlock (closedBlock L) (S .blocks))) .says t in
-    let closed = table-closed S L (r .1) in
-    let sound = table-sound S L (r .0) in
+-- a sound and closed table has exactly those
+pub table-exact : {S : Schema} {L : LiveTable} → LiveClosed S (In L) → ((a q : ℕ) → In L a q → Live S a q) → LiveExact S L
+table-exact {L = L} closed sound =
     record {
       live = λ a q. means-iff (in-means L a q) (live-exact closed sound a q);
       bears = λ a. means-iff (in-means L a 0) (bears-exact closed sound a);
     }
+
+pub live-check : (S : Schema) (L : LiveTable) → T (liveCheck S L) → LiveExact S L
+live-check S L t =
+    let r = and-means (itself (soundTable S L)) (itself (everyBlock (closedBlock L) (S .blocks))) .says t in
+    table-exact (table-closed S L (r .1)) (table-sound S L (r .0))
 
 -- the states that the steps by j from a state of the list lead to
 abbrev next : Block → List ℕ → ℕ → List ℕ
@@ -201,7 +204,7 @@ pairTest S L ps a s t e =
     ⇒ (eqb (s .by) (t .by) ⇒ inTable ps (s .to) (t .to))
     && (eqb (tagOf S (s .by)) (tagOf S (t .by)) ⇒ inTable L a (s .to) ⇒ inTable L a (t .to) ⇒ eqb (s .by) (t .by))
 
-abbrev step : ℕ → ℕ → ℕ → Step
+abbrev pub step : ℕ → ℕ → ℕ → Step
 step p j q = record { from = p; by = j; to = q }
 
 -- the pairs of the block of a: (0, 0) and those of the certificate

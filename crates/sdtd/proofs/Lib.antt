@@ -21,9 +21,17 @@ pub mod Answers
 pub mod Depth
 pub mod Calls
 pub mod Tests
+pub mod Smallest
+pub mod Saturate
+pub mod Occurring
 pub mod Trimmer
 pub mod Within
 pub mod Decide
+pub mod LiveStates
+pub mod StatePairs
+pub mod ReachedTypes
+pub mod Competing
+pub mod Witnesses
 pub mod Candidates
 pub mod SampleSchemas
 pub mod Model

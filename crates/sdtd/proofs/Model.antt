@@ -1,33 +1,33 @@
 -- A reading as a function of the events taken and the frames: under an accepted schema it answers every call right, and what follows is
 -- again a position. So each call after right answers has a right answer, and answers that agree with the function's are right.
 use mathlib.Core.Path.{_≡_, refl, sym, ap, ap₂, subst, _∙_}
-use mathlib.Core.Logic.{_↔_, _≢_, inl, inr}
+use mathlib.Core.Logic.{_↔_, inl, inr}
 use mathlib.Core.Bool.{Bool, true, false, _&&_}
-use mathlib.Core.List.{List, [], _∷_, _++_, tail, append-assoc, append-nil, List·Memᴰ, List·Memᴰ·head, List·Memᴰ·not-nil, cons≢nil}
+use mathlib.Core.List.{List, [], _∷_, _++_, tail, append-assoc, append-nil, List·Memᴰ, List·Memᴰ·head, List·Memᴰ·not-nil}
 use Prim.Native.Nat.{ℕ, zero, suc, _<_}
 use native.Mathlib.Omega.{arith}
 use lib.ListN.{length}
 use lib.Dec.{T, eqb, ltb}
 use Rattle.sdtd.specs.Limits.{mostLevels}
-use Rattle.sdtd.specs.Schema.{Schema, blockOf, tagOf, Word}
+use Rattle.sdtd.specs.Schema.{Schema, blockOf, tagOf}
 use Rattle.sdtd.specs.Tree.{empty, more}
 use Rattle.sdtd.specs.Document.{Event, opening, closing, finish, Begins}
 use Rattle.sdtd.specs.Trim.{Bears}
 use Rattle.sdtd.specs.Competition.{Competition, Accepted}
 use Rattle.sdtd.specs.Answer.{Question, Answer, refused, typed, taken, ask, Ordered}
-use Rattle.sdtd.specs.Reading.{OpenElement, depth, innermost, ChildrenFormWord, RootClosed, questions, TakenAnswer, Right}
+use Rattle.sdtd.specs.Reading.{depth, innermost, ChildrenFormWord, RootClosed, questions, TakenAnswer, Right}
 use Rattle.sdtd.specs.Calls.{Exchange, ifTaken, eventsTaken, RightCalls}
 use Rattle.sdtd.proofs.Machine.{Owner, top, own, rootBlock, root-is-word, Frame, frame, start, Suspended, outer, inner}
 use Rattle.sdtd.proofs.Follow.{Candidate}
-use Rattle.sdtd.proofs.Position.{Position, SomePosition, first-position, position-begins}
-use Rattle.sdtd.proofs.Position.{open-position, close-position, end-position}
-use Rattle.sdtd.proofs.Next.{opening-exactly, opening-given, finish-exactly}
-use Rattle.sdtd.proofs.Elements.{Elements, outside, element}
-use Rattle.sdtd.proofs.Questions.{position-unfinished, own-elements, innermost-of, nothing-open, children-word, finish-begins}
+use Rattle.sdtd.proofs.Position.{Position, SomePosition, first-position, open-position, close-position, end-position}
+use Rattle.sdtd.proofs.Next.{opening-exactly, opening-given}
+use Rattle.sdtd.proofs.Questions.{position-unfinished, position-finished, own-elements, innermost-of, nothing-open, children-word}
+use Rattle.sdtd.proofs.Questions.{root-closed}
 use Rattle.sdtd.proofs.Answers.{right-unique}
 use Rattle.sdtd.proofs.Calls.{Each, RightAt, each-of-places, places-of-each}
 use Rattle.sdtd.proofs.Tests.{Means, means-iff, itself, eq-means, lt-means, and-means}
 use Rattle.sdtd.proofs.Decide.{LiveTable, LiveExact, acceptsb, accepts-means}
+use Rattle.sdtd.proofs.LiveStates.{live-table}
 use Rattle.sdtd.proofs.Candidates.{openingTypes, opening-types}
 
 -- the refusal n, unless the test passes
@@ -81,15 +81,11 @@ module _ {S : Schema} {e : List Event} {fs : List Frame} (p : Position S e fs)
   answered {b = true} m k = let h = m .says tt in answered-yes h (k h)
   answered {b = false} m k = answered-no (m .passes)
 
-some-frame : {S : Schema} {ts : List ℕ} {xs : List OpenElement} {fs : List Frame} → Elements S ts xs fs → fs ≢ []
-some-frame outside q = cons≢nil q
-some-frame (element t m n k) q = cons≢nil q
-
 -- with no frame left the events are finished
 finished-answered : {S : Schema} {e : List Event} → Position S e [] → (x : Event) → Answered S e [] x (questions S e x) (refused 11)
-finished-answered p (opening g) = answered-no p (λ n. some-frame (own-elements p n) refl)
-finished-answered p (closing g) = answered-no p (λ n. some-frame (own-elements p n) refl)
-finished-answered p finish = answered-no p (λ n. some-frame (own-elements p n) refl)
+finished-answered p (opening g) = answered-no p (position-finished p)
+finished-answered p (closing g) = answered-no p (position-finished p)
+finished-answered p finish = answered-no p (position-finished p)
 
 module _ {S : Schema} (free : ¬ Competition S) {e : List Event} {w : List ℕ} {fs : List Frame} where
   -- from question 13 on
@@ -123,19 +119,14 @@ module _ {S : Schema} (free : ¬ Competition S) {e : List Event} {w : List ℕ} 
       record { right = refl; next = subst (λ (h : ℕ). Position S (e ++ (closing h ∷ [])) fs) (sym (i .tag) ∙ t) at })))
 
 -- question 18, by the innermost frame
-root-closed : {S : Schema} → ¬ Competition S → {e : List Event} {o : Owner} {w : List ℕ} {fs : List Frame}
-    → Position S e (frame o w ∷ fs) → RootClosed e → (o ≡ top) × Word (rootBlock S) w
-root-closed free {e} p c = finish-exactly free p (finish-begins e (position-begins p) .0 (position-unfinished p, c))
-
-finish-answered : {S : Schema} → ¬ Competition S → {e : List Event} {o : Owner} {w : List ℕ} {fs : List Frame}
+finish-answered : {S : Schema} {e : List Event} {o : Owner} {w : List ℕ} {fs : List Frame}
     → Position S e (frame o w ∷ fs) → Suspended S (frame o w ∷ fs)
     → Answered S e (frame o w ∷ fs) finish (ask 18 (RootClosed e) ∷ []) (finishAnswer S o w)
-finish-answered {S} free {e} {w = w} p (outer f) =
-    let closed : RootClosed e ↔ Word (rootBlock S) w =
-    (λ c. root-closed free p c .1, λ v. finish-begins e (position-begins p) .1 (position-begins (end-position p v)) .1) in
-    answered p (means-iff (accepts-means (rootBlock S) w) closed) (λ c. record { right = refl; next = end-position p (closed .0 c) })
-finish-answered free p (inner f s) =
-    answered-no p (λ c. let q = root-closed free p c .0 in let z : _≡_ {A = ℕ} 0 1 = cc in omega arith)
+finish-answered {S} {w = w} p (outer f) =
+    answered p (means-iff (accepts-means (rootBlock S) w) (root-closed p)) (λ c. record { right = refl; next = end-position p (root-closed p .0 c) })
+finish-answered {e = e} p (inner f s) =
+    let i : 0 < depth e = innermost-of (own-elements p (position-unfinished p)) .is-open in
+    answered-no p (λ c. omega (arith, c .closed))
 
 module _ {S : Schema} {L : LiveTable} (free : ¬ Competition S) (exact : LiveExact S L) where
   model-answered : {e : List Event} {fs : List Frame} → Position S e fs → (x : Event)
@@ -146,7 +137,7 @@ module _ {S : Schema} {L : LiveTable} (free : ¬ Competition S) (exact : LiveExa
       (answered p (lt-means g (S .tags)) (λ l. opening-answered free p g (openingTypes S L o w g) (opening-types exact o w g)))
   model-answered {fs = frame o w ∷ fs} p (closing g) =
       answered-yes p (position-unfinished p) (answered p (lt-means g (S .tags)) (λ l. closing-answered free o p g))
-  model-answered {fs = frame o w ∷ fs} p finish = answered-yes p (position-unfinished p) (finish-answered free p (p .suspended))
+  model-answered {fs = frame o w ∷ fs} p finish = answered-yes p (position-unfinished p) (finish-answered p (p .suspended))
 
   pub model-right : {e : List Event} {fs : List Frame} → Position S e fs → (x : Event) → Right S e x (model S L e fs x)
   model-right p x = model-answered p x .right
@@ -218,14 +209,17 @@ module _ {S : Schema} {L : LiveTable} (free : ¬ Competition S) (exact : LiveExa
       let r = and-means (same-means _ (x .answer)) (itself _) .says t in
       (subst (Right S e (x .call)) (r .0) (model-right free exact p (x .call)), each-right (along p (x .call) (r .0)) xs (r .1))
 
-module _ {S : Schema} {L : LiveTable} (accepted : Accepted S) (exact : LiveExact S L) (xs : List Exchange) where
-  -- After right answers each call has a right answer.
-  pub right-exists : RightCalls S xs → (x : Event) → (a : Answer) × Right S (eventsTaken xs) x a
-  right-exists r x =
-      let free = accepted .no-competition in
-      let s = position-after free exact (fresh-position (accepted .bears)) xs (each-of-places (RightAt S) [] xs r) in
-      (model S L (eventsTaken xs) (s .frames) x, model-right free exact (s .at) x)
+-- After right answers each call has a right answer.
+pub right-exists : {S : Schema} → Accepted S → (xs : List Exchange) → RightCalls S xs → (x : Event)
+    → (a : Answer) × Right S (eventsTaken xs) x a
+right-exists {S} accepted xs r x =
+    let l = live-table S in
+    let free = accepted .no-competition in
+    let s = position-after free (l .1) (fresh-position (accepted .bears)) xs (each-of-places (RightAt S) [] xs r) in
+    (model S (l .0) (eventsTaken xs) (s .frames) x, model-right free (l .1) (s .at) x)
 
-  -- Answers that agree with the model's are right.
-  pub calls-agree : T (agrees S L [] start xs) → RightCalls S xs
-  calls-agree t = places-of-each (RightAt S) [] xs (each-right (accepted .no-competition) exact (fresh-position (accepted .bears)) xs t)
+-- Answers that agree with the model's are right.
+pub calls-agree : {S : Schema} {L : LiveTable} → Accepted S → LiveExact S L → (xs : List Exchange) → T (agrees S L [] start xs)
+    → RightCalls S xs
+calls-agree {S} accepted exact xs t =
+    places-of-each (RightAt S) [] xs (each-right (accepted .no-competition) exact (fresh-position (accepted .bears)) xs t)

@@ -1,7 +1,7 @@
 -- Document 01's questions for the events taken, by what comes next: after the questions before it, each says that the events with this one
 -- begin a valid document.
 use mathlib.Core.Path.{_≡_, refl, sym, ap, subst, _∙_}
-use mathlib.Core.Logic.{_↔_, _⊎_, inl, inr, ⊎-elim}
+use mathlib.Core.Logic.{_↔_, _≢_, _⊎_, inl, inr, ⊎-elim}
 use mathlib.Core.List.{List, [], _∷_, _++_, map, append-assoc, append-nil, cons≢nil, nil≢cons, head-eq-of-cons-eq, tail-eq-of-cons-eq}
 use mathlib.Core.List.{List·Memᴰ}
 use mathlib.Core.List.{List·Memᴰ·head, List·Memᴰ·tail, List·Memᴰ·cases-cons}
@@ -85,14 +85,16 @@ position-unfinished p = subst NotFinished (p .tags) (run-unfinished (p .run))
 pub begins-unfinished : {S : Schema} (e : List Event) (x : Event) → Begins S (e ++ (x ∷ [])) → NotFinished e
 begins-unfinished e x b = position-unfinished (last-move e x b .at)
 
-block-in : (bs : List Block) (n : ℕ) {q : ℕ} → List·Memᴰ q (getD bs n noBlock .accepting) → List·Memᴰ (getD bs n noBlock) bs
+-- a number whose block has an accepting state is a type
+pub block-in : (bs : List Block) (n : ℕ) {q : ℕ} → List·Memᴰ q (getD bs n noBlock .accepting)
+    → (n < length bs) × List·Memᴰ (getD bs n noBlock) bs
 block-in [] n m = elim m [ ]
-block-in (b ∷ bs) zero m = List·Memᴰ·head refl
-block-in (b ∷ bs) (suc n) m = List·Memᴰ·tail (block-in bs n m)
+block-in (b ∷ bs) zero m = (omega arith, List·Memᴰ·head refl)
+block-in (b ∷ bs) (suc n) m = let r = block-in bs n m in (omega arith, List·Memᴰ·tail (r .1))
 
 -- the tag of a type with a word is below the count
 word-tag : (S : Schema) → TagsBelow S → (a : ℕ) {w : List ℕ} → Word (blockOf S a) w → tagOf S a < S .tags
-word-tag S below a x = below (blockOf S a) (block-in (S .blocks) a (x .accepting))
+word-tag S below a x = below (blockOf S a) (block-in (S .blocks) a (x .accepting) .1)
 
 -- Question 13 answered yes: question 12 is answered yes too.
 pub opening-tag : {S : Schema} → TagsBelow S → (e : List Event) (g : ℕ) → Begins S (e ++ (opening g ∷ [])) → g < S .tags
@@ -153,6 +155,14 @@ pub record ClosingAsked (S : Schema) (e : List Event) (g : ℕ) : Type 0 where
 pub own-elements : {S : Schema} {e : List Event} {fs : List Frame} (p : Position S e fs) → NotFinished e
     → Elements S (opened (p .events)) (openElements e) fs
 own-elements p n = elements-of p n [] (sym (append-nil (opened (p .events))))
+
+some-frame : {S : Schema} {ts : List ℕ} {xs : List OpenElement} {fs : List Frame} → Elements S ts xs fs → fs ≢ []
+some-frame outside q = cons≢nil q
+some-frame (element t m n k) q = cons≢nil q
+
+-- with no frame left the events are finished
+pub position-finished : {S : Schema} {e : List Event} → Position S e [] → ¬ NotFinished e
+position-finished p n = some-frame (own-elements p n) refl
 
 asked-begins : {S : Schema} → ¬ Competition S → {e : List Event} {g : ℕ} {fs : List Frame} {ts : List ℕ} {xs : List OpenElement}
     → Elements S ts xs fs
@@ -218,14 +228,6 @@ start-run halt o = absurd (omega arith)
 start-run (move opens r) o = seen-run (seen-inside seen-outside) r
 start-run (move (ends w) r) o = absurd (no-run r)
 
-closed-begins : {S : Schema} {e : List Event} {fs : List Frame} {ts : List ℕ} {xs : List OpenElement} → Elements S ts xs fs
-    → xs ≡ openElements e → Position S e fs
-    → RootClosed e → Begins S (e ++ (finish ∷ []))
-closed-begins {S} outside q p c =
-    let o : 0 < openings (p .events) = subst (λ (n : ℕ). 0 < n) (sym (ap openings (p .tags)) ∙ openings-relabel (tagOf S) (p .events)) (c .opened) in
-    position-begins (end-position p (seen-word (start-run (p .run) o) (p .suspended)))
-closed-begins (element t m n k) q p c = absurd (let d = ap length q ∙ c .closed in omega arith)
-
 begins-closed : {S : Schema} {e : List Event} {w : List ℕ} {fs : List Frame} → Position S e (frame top w ∷ fs) → Word (rootBlock S) w
     → RootClosed e
 begins-closed {S} p x =
@@ -238,6 +240,26 @@ begins-closed {S} p x =
     some-opening halt e = absurd (nil≢cons e)
     some-opening (move opens r) e = omega arith
     some-opening (move (ends w) r) e = absurd (no-run r)
+
+-- Question 18 with nothing open, by the outside's children: they are a word once there is one.
+pub root-closed : {S : Schema} {e : List Event} {w : List ℕ} → Position S e (frame top w ∷ []) → RootClosed e ↔ Word (rootBlock S) w
+root-closed {S} p = (
+  λ c.
+      let o : 0 < openings (p .events) =
+      subst (λ (n : ℕ). 0 < n) (sym (ap openings (p .tags)) ∙ openings-relabel (tagOf S) (p .events)) (c .opened) in
+      seen-word (start-run (p .run) o) (p .suspended),
+  begins-closed p,
+)
+
+pub root-child : {S : Schema} {e : List Event} {a : ℕ} {w : List ℕ} → Position S e (frame top (a ∷ w) ∷ [])
+    → Word (rootBlock S) (a ∷ w)
+root-child p = seen-word seen-outside (p .suspended)
+
+closed-begins : {S : Schema} {e : List Event} {fs : List Frame} {ts : List ℕ} {xs : List OpenElement} → Elements S ts xs fs
+    → xs ≡ openElements e → Position S e fs
+    → RootClosed e → Begins S (e ++ (finish ∷ []))
+closed-begins outside q p c = position-begins (end-position p (root-closed p .0 c))
+closed-begins (element t m n k) q p c = absurd (let d = ap length q ∙ c .closed in omega arith)
 
 -- A finish's questions are answered yes exactly when the events with it begin a valid document.
 pub finish-begins : {S : Schema} (e : List Event) → Begins S e → (NotFinished e × RootClosed e) ↔ Begins S (e ++ (finish ∷ []))

@@ -1,10 +1,12 @@
 -- Tests on lists that compute, with what they say.
 use mathlib.Core.Path.{_≡_, refl, sym, subst}
 use mathlib.Core.Logic.{_↔_, _⊎_, inl, inr, ⊎-elim}
-use mathlib.Core.Bool.{Bool, true, false, _&&_, _||_}
+use mathlib.Core.Bool.{Bool, true, false, not, _&&_, _||_}
 use mathlib.Core.List.{List, [], _∷_, List·Memᴰ, List·Memᴰ·head, List·Memᴰ·tail, List·Memᴰ·cases-cons, List·Memᴰ·not-nil, Memᴰ·cast}
-use Prim.Native.Nat.{ℕ, _<_}
-use lib.Dec.{T, eqb, eqb→eq, eqb-refl, ltb, ltb→lt, lt→ltb}
+use Prim.Native.Nat.{ℕ, zero, suc, _≤_, _<_}
+use native.Mathlib.Decide.{ℕ-discrete}
+use native.Mathlib.Omega.{arith}
+use lib.Dec.{T, eqb, eqb→eq, eqb-refl, leb, leb→le, le→leb, ltb, ltb→lt, lt→ltb}
 
 -- The test passes exactly if the statement holds.
 pub record Means (b : Bool) (A : Type 0) : Type 0 where
@@ -13,6 +15,21 @@ pub record Means (b : Bool) (A : Type 0) : Type 0 where
 
 pub means-iff : {b : Bool} {A B : Type 0} → Means b A → B ↔ A → Means b B
 means-iff m e = record { says = λ t. e .1 (m .says t); passes = λ x. m .passes (e .0 x) }
+
+-- a test of the statement
+abbrev pub Decision : Type 0 → Type 0
+Decision A = (b : Bool) × Means b A
+
+pub decision : {b : Bool} {A : Type 0} → Means b A → Decision A
+decision {b} m = (b, m)
+
+pub decided : {b : Bool} {A : Type 0} → Means b A → A ⊎ (¬ A)
+decided {b = true} m = inl (m .says tt)
+decided {b = false} m = inr (m .passes)
+
+pub to-dec : {b : Bool} {A : Type 0} → Means b A → Dec A
+to-dec {b = true} m = yes (m .says tt)
+to-dec {b = false} m = no (m .passes)
 
 pub itself : (b : Bool) → Means b (T b)
 itself b = record { says = λ t. t; passes = λ t. t }
@@ -23,6 +40,18 @@ eq-means m n = record { says = eqb→eq m n; passes = λ e. subst (λ (k : ℕ).
 pub lt-means : (m n : ℕ) → Means (ltb m n) (m < n)
 lt-means m n = record { says = ltb→lt m n; passes = lt→ltb m n }
 
+pub le-means : (m n : ℕ) → Means (leb m n) (m ≤ n)
+le-means m n = record { says = leb→le m n; passes = le→leb m n }
+
+-- flags
+pub true-means : (b : Bool) → Means b (b ≡ true)
+true-means true = record { says = λ t. refl; passes = λ e. tt }
+true-means false = record { says = λ t. absurd t; passes = λ e. subst T (sym e) tt }
+
+pub false-means : (b : Bool) → Means (not b) (b ≡ false)
+false-means true = record { says = λ t. absurd t; passes = λ e. subst T e tt }
+false-means false = record { says = λ t. refl; passes = λ e. tt }
+
 pub and-means : {a b : Bool} {A B : Type 0} → Means a A → Means b B → Means (a && b) (A × B)
 and-means {a = true} m n = record { says = λ t. (m .says tt, n .says t); passes = λ p. n .passes (p .1) }
 and-means {a = false} m n = record { says = λ t. absurd t; passes = λ p. m .passes (p .0) }
@@ -30,6 +59,10 @@ and-means {a = false} m n = record { says = λ t. absurd t; passes = λ p. m .pa
 pub or-means : {a b : Bool} {A B : Type 0} → Means a A → Means b B → Means (a || b) (A ⊎ B)
 or-means {a = true} m n = record { says = λ t. inl (m .says tt); passes = λ p. tt }
 or-means {a = false} m n = record { says = λ t. inr (n .says t); passes = λ p. ⊎-elim (λ x. absurd (m .passes x)) (n .passes) p }
+
+pub not-means : {b : Bool} {A : Type 0} → Means b A → Means (not b) (¬ A)
+not-means {b = true} m = record { says = λ t x. t; passes = λ n. n (m .says tt) }
+not-means {b = false} m = record { says = λ t x. m .passes x; passes = λ n. tt }
 
 infixr 25 _⇒_
 abbrev pub _⇒_ : Bool → Bool → Bool
@@ -39,6 +72,16 @@ false ⇒ b = true
 pub if-means : {a b : Bool} {A B : Type 0} → Means a A → Means b B → Means (a ⇒ b) (A → B)
 if-means {a = true} m n = record { says = λ t x. n .says t; passes = λ f. n .passes (f (m .says tt)) }
 if-means {a = false} m n = record { says = λ t x. absurd (m .passes x); passes = λ f. tt }
+
+-- every number below k has the property
+pub below-decided : {P : ℕ → Type 0} → ((n : ℕ) → Decision (P n)) → (k : ℕ) → Decision ((n : ℕ) → n < k → P n)
+below-decided d zero = (true, record { says = λ t n h. absurd (omega arith); passes = λ h. tt })
+below-decided {P} d (suc k) =
+    decision
+    (means-iff (and-means (d k .1) (below-decided d k .1)) (
+      λ h. (h k (omega arith), λ n l. h n (omega arith)),
+      λ p n l. elim (ℕ-discrete n k) [ yes e ↦ subst P (sym e) (p .0) | no e ↦ p .1 n (omega arith) ],
+    ))
 
 -- some member of the list has the property
 pub record Found {A : Type 0} (P : A → Type 0) (xs : List A) : Type 0 where

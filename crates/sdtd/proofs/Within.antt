@@ -1,17 +1,17 @@
 -- The limits as a check that antt computes; and what follows from them.
-use mathlib.Core.Logic.{_↔_}
+use mathlib.Core.Path.{refl}
 use mathlib.Core.Bool.{Bool, _&&_}
-use mathlib.Core.List.{List·Memᴰ}
-use Prim.Native.Nat.{ℕ, _≤_, _<_}
-use lib.Dec.{T, leb, ltb, leb→le, le→leb}
-use lib.ListN.{length}
+use mathlib.Core.List.{List, [], _∷_, List·Memᴰ, List·Memᴰ·head, List·Memᴰ·tail}
+use Prim.Native.Nat.{ℕ, zero, suc, _<_}
+use native.Mathlib.Omega.{arith}
+use lib.Dec.{leb, ltb}
+use lib.ListN.{length, getD}
 use Rattle.sdtd.specs.Limits.{mostTags, mostTypes, mostStates, mostSteps}
-use Rattle.sdtd.specs.Schema.{Step, Block, Schema, stepsIn, StepWithin, BlockWithin, WithinLimits}
-use Rattle.sdtd.proofs.Tests.{Means, means-iff, and-means, lt-means, every, every-means}
-use Rattle.sdtd.proofs.Questions.{TagsBelow}
-
-le-means : (m n : ℕ) → Means (leb m n) (m ≤ n)
-le-means m n = record { says = leb→le m n; passes = le→leb m n }
+use Rattle.sdtd.specs.Schema.{Step, Block, Schema, noBlock, blockOf, Leads, stay, go, stepsIn, StepWithin, BlockWithin, WithinLimits}
+use Rattle.sdtd.specs.Trim.{Bears, Live}
+use Rattle.sdtd.proofs.Tests.{Means, means-iff, and-means, lt-means, le-means, every, every-means}
+use Rattle.sdtd.proofs.Bearing.{bears-word}
+use Rattle.sdtd.proofs.Questions.{TagsBelow, block-in}
 
 abbrev stepCheck : ℕ → ℕ → Step → Bool
 stepCheck states types s = ltb (s .from) states && ltb (s .by) types && ltb (s .to) states
@@ -71,3 +71,25 @@ limits-means S =
 -- inside the limits each block's tag is below the count
 pub within-tags : {S : Schema} → WithinLimits S → TagsBelow S
 within-tags w b m = w .blocks b m .tag
+
+-- .. and each type's block is inside the limits
+in-blocks : (bs : List Block) (a : ℕ) → a < length bs → List·Memᴰ (getD bs a noBlock) bs
+in-blocks [] a l = absurd (omega arith)
+in-blocks (b ∷ bs) zero l = List·Memᴰ·head refl
+in-blocks (b ∷ bs) (suc a) l = List·Memᴰ·tail (in-blocks bs a (omega arith))
+
+pub block-within : {S : Schema} {a : ℕ} → WithinLimits S → a < length (S .blocks) → BlockWithin S (blockOf S a)
+block-within {S} {a} w l = w .blocks (blockOf S a) (in-blocks (S .blocks) a l)
+
+-- inside the limits a tree-bearing type is below the number of types, and its block is inside the limits
+pub bears-within : {S : Schema} {a : ℕ} → WithinLimits S → Bears S a → (a < length (S .blocks)) × BlockWithin S (blockOf S a)
+bears-within {S} {a} w b =
+    let r = block-in (S .blocks) a (bears-word b .is-word .accepting) in (r .0, w .blocks (blockOf S a) (r .1))
+
+first-within : {S : Schema} {b : Block} {q r : ℕ} {w : List ℕ} → BlockWithin S b → Leads b q w r → List·Memᴰ r (b .accepting) → q < b .states
+first-within {r = r} w stay m = w .accepting r m
+first-within w (go s l) m = w .steps _ s .from
+
+-- .. and a live state is below the state count
+pub live-within : {S : Schema} {a q : ℕ} → BlockWithin S (blockOf S a) → Live S a q → q < blockOf S a .states
+live-within w l = first-within w (l .accepts .leads) (l .accepts .accepting)

@@ -1,4 +1,4 @@
--- Answers by ordered questions: one definition for every call and file.
+-- Answers by ordered questions.
 use mathlib.Core.Path.{_≡_}
 use mathlib.Core.Logic.{_⊎_}
 use mathlib.Core.List.{List, [], _∷_}

@@ -1,0 +1,103 @@
+-- It is decided in which types two types compete, so whether there is competition in a schema at all.
+use mathlib.Core.Path.{_≡_}
+use mathlib.Core.Logic.{_↔_, _⊎_, _≢_}
+use Prim.Native.Nat.{ℕ}
+use Rattle.sdtd.specs.Schema.{Step, Schema, blockOf, tagOf}
+use Rattle.sdtd.specs.Trim.{Bears, Live, Useful}
+use Rattle.sdtd.specs.Competition.{CompeteIn, Competition}
+use Rattle.sdtd.proofs.Fixpoint.{PairReached}
+use Rattle.sdtd.proofs.Rivals.{RivalsIn, compete-in-exact}
+use Rattle.sdtd.proofs.Tests.{means-iff, Decision, decision, decided, eq-means, and-means, not-means, Found, any-means, memb-means}
+use Rattle.sdtd.proofs.Decide.{step}
+use Rattle.sdtd.proofs.LiveStates.{live-table}
+use Rattle.sdtd.proofs.StatePairs.{pair-table}
+use Rattle.sdtd.proofs.ReachedTypes.{reached-table, useful-decided}
+
+-- the steps leave a reached pair of states, by different tree-bearing types of one tag, for live states
+abbrev Rivals : Schema → ℕ → Step → Step → Type 0
+Rivals S a s u =
+    (PairReached S a (s .from) (u .from) × (s .by ≢ u .by))
+    × ((tagOf S (s .by) ≡ tagOf S (u .by)) × ((Bears S (s .by) × Bears S (u .by)) × (Live S a (s .to) × Live S a (u .to))))
+
+rivals : (S : Schema) (a : ℕ) (s u : Step) → Decision (Rivals S a s u)
+rivals S a s u =
+    let x = live-table S .1 in
+    let different = and-means (pair-table S a .1 (s .from) (u .from)) (not-means (eq-means (s .by) (u .by))) in
+    let bear = and-means (x .bears (s .by)) (x .bears (u .by)) in
+    let live = and-means (x .live a (s .to)) (x .live a (u .to)) in
+    decision (and-means different (and-means (eq-means (tagOf S (s .by)) (tagOf S (u .by))) (and-means bear live)))
+
+-- two steps of a useful type are rivals
+abbrev RivalPair : Schema → ℕ → Type 0
+RivalPair S a = Useful S a × Found (λ s. Found (λ u. Rivals S a s u) (blockOf S a .steps)) (blockOf S a .steps)
+
+rival-pair : (S : Schema) (a : ℕ) → CompeteIn S a ↔ RivalPair S a
+rival-pair S a = (λ c. found (compete-in-exact .0 c), λ p. compete-in-exact .1 (rivals-in p))
+  where
+    found : RivalsIn S a → RivalPair S a
+    found r =
+        let v = r .rivals in (
+          r .useful,
+          record {
+            member = step (r .p) (r .j) (v .next-j);
+            given = v .step-j;
+            holds =
+                record {
+                  member = step (r .q) (r .k) (v .next-k);
+                  given = v .step-k;
+                  holds = ((r .pair, r .different), (v .one-tag, ((v .bears-j, v .bears-k), (v .live-j, v .live-k))));
+                };
+          },
+        )
+
+    rivals-in : RivalPair S a → RivalsIn S a
+    rivals-in p =
+        let s = p .1 .member in
+        let f = p .1 .holds in
+        let u = f .member in
+        let h = f .holds .1 in
+        record {
+          useful = p .0;
+          p = s .from;
+          q = u .from;
+          j = s .by;
+          k = u .by;
+          pair = f .holds .0 .0;
+          rivals =
+              record {
+                next-j = s .to;
+                next-k = u .to;
+                step-j = p .1 .given;
+                step-k = f .given;
+                one-tag = h .0;
+                bears-j = h .1 .0 .0;
+                bears-k = h .1 .0 .1;
+                live-j = h .1 .1 .0;
+                live-k = h .1 .1 .1;
+              };
+          different = f .holds .0 .1;
+        }
+
+competes : (S : Schema) (a : ℕ) → Decision (CompeteIn S a)
+competes S a =
+    let steps = blockOf S a .steps in
+    let found = any-means (λ s. any-means (λ u. rivals S a s u .1) steps) steps in
+    decision (means-iff (and-means (useful-decided S a .1) found) (rival-pair S a))
+
+pub compete-decided : (S : Schema) (a : ℕ) → CompeteIn S a ⊎ (¬ CompeteIn S a)
+compete-decided S a = decided (competes S a .1)
+
+-- a type in which two compete is reached, so it is in the table of those
+pub competition-decided : (S : Schema) → Competition S ⊎ (¬ Competition S)
+competition-decided S =
+    let t = reached-table S in
+    let found : Competition S ↔ Found (CompeteIn S) (t .0) = (
+      λ c.
+          record {
+            member = c .type;
+            given = memb-means (c .type) (t .0) .says (t .1 (c .type) .passes (c .compete-in .compete .reached));
+            holds = c .compete-in;
+          },
+      λ f. record { type = f .member; compete-in = f .holds },
+    ) in
+    decided (means-iff (any-means (λ a. competes S a .1) (t .0)) found)
