@@ -1,8 +1,9 @@
-"""Confirms by listing the witnesses that the program schema_file_cases wrote to standard error.
+"""Confirms by listing the witnesses that the program schema_file_cases is to write.
 
-    python3 tests/confirm.py FILE     e.g. target/log/schema_file_cases.stderr after `rt check`
+    python3 tests/confirm.py crates/schema_file_cases/stdout
 
-Each line is `case I witness A J K n w..`. For each case whose answer is 9 there is to be one, with
+The check holds the program's output to that file. Of its lines those of witnesses are read, each
+`case I witness A J K n w..`. For each case whose answer is 9 there is to be one, with
 - the type A of the expected line, which is the smallest in which two compete by listing;
 - A an element's type in some listed document;
 - J < K of one tag, n the length of w and at most 527;
@@ -50,8 +51,11 @@ def fault(data, a, line):
 
 
 def main():
-    with open(sys.argv[1]) as lines:
-        found = {int(line.split()[1]): line.strip() for line in lines if line.startswith('case ')}
+    with open(sys.argv[1]) as file:
+        lines = [line.strip() for line in file if line.startswith('case ')]
+    found = {int(line.split()[1]): line for line in lines}
+    if len(found) < len(lines):
+        sys.exit('two witnesses of one case')
     count = 0
     for i, (_, _, data, (number, _, a)) in enumerate(cases()):
         if number == 9:

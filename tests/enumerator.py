@@ -8,7 +8,7 @@ typed documents by their number of elements and looks for two (perhaps of one do
 in every event through an opening and differ in that element's type. The type A of the witness is
 found by listing words: the smallest type with two words w J u and w K v. J, K and w are the
 program's choice, so the expected line has A only: `refused 9 at 0 type A`. The program writes the
-witness to standard error, and tests/confirm.py confirms it by listing.
+witness on a line of its own, and tests/confirm.py confirms it by listing.
 
 How far is listed. Let A be a type with s states, in whose words two types of one tag stand.
 - Words up to b + f types. f is the largest number of types that some state needs to accept, below
@@ -25,7 +25,8 @@ A schema with no such A needs no listing: below each type, a tag has one type. A
 listing grows past its limits is left out of the cases.
 
 Framing of stdin: for each case the length of the witness buffer and of the file, two bytes each,
-low byte first, and the file; FF FF FF FF ends it. stdout has a line for each case and `end`.
+low byte first, and the file; FF FF FF FF ends it. stdout has a line for each case and `end`; the
+witness lines are not in it.
 """
 import random
 import struct

@@ -1,20 +1,21 @@
-// The schemas that are timed, in the layout that the crate schema_bench reads.
+// The schemas that are timed.
+use crate::plain::{STEPS, Schema, TYPES};
 
 // One schema, and the most microseconds that a search may take.
 pub struct Case {
     pub name: &'static str,
     pub goal: f64,
-    pub flat: Vec<u8>,
+    pub schema: Schema,
 }
 
-struct Type {
-    tag: u8,
-    states: u8,
-    accepting: u32,
-    steps: Vec<[u8; 3]>,
+pub struct Type {
+    pub tag: u8,
+    pub states: u8,
+    pub accepting: u32,
+    pub steps: Vec<[u8; 3]>,
 }
 
-fn leaf(tag: u8) -> Type {
+pub fn leaf(tag: u8) -> Type {
     Type {
         tag,
         states: 1,
@@ -23,38 +24,50 @@ fn leaf(tag: u8) -> Type {
     }
 }
 
-fn flat(tags: u8, root: u8, types: &[Type]) -> Vec<u8> {
-    let mut out = vec![tags, types.len() as u8, root];
-    for t in types {
-        out.extend([t.tag, t.states]);
-        out.extend(t.accepting.to_le_bytes());
-        out.extend((t.steps.len() as u16).to_le_bytes());
+pub fn schema(tags: u8, root: u8, types: &[Type]) -> Schema {
+    let mut s = Schema {
+        tags,
+        types: types.len() as u8,
+        root,
+        tag: [0; TYPES],
+        states: [0; TYPES],
+        accepting: [0; TYPES],
+        steps: [0; TYPES],
+        from: [0; STEPS],
+        by: [0; STEPS],
+        to: [0; STEPS],
+    };
+    for (a, t) in types.iter().enumerate() {
+        s.tag[a] = t.tag;
+        s.states[a] = t.states;
+        s.accepting[a] = t.accepting;
+        s.steps[a] = t.steps.len() as u16;
     }
-    for t in types {
-        out.extend(t.steps.iter().flatten());
+    for (i, step) in types.iter().flat_map(|t| &t.steps).enumerate() {
+        [s.from[i], s.by[i], s.to[i]] = *step;
     }
-    out
+    s
 }
 
 // Document 01's R.
-fn small() -> Vec<u8> {
+pub fn small() -> Schema {
     let root = Type {
         tag: 0,
         states: 2,
         accepting: 0b10,
         steps: vec![[0, 1, 0], [0, 2, 1], [1, 3, 1]],
     };
-    flat(3, 0, &[root, leaf(1), leaf(2), leaf(1)])
+    schema(3, 0, &[root, leaf(1), leaf(2), leaf(1)])
 }
 
 // Steps 0 to 1, 1 to 2 and so on, all by one type. In this order a round over the steps makes one more state live, the last but one first.
-fn line(n: u8, by: u8) -> Vec<[u8; 3]> {
+pub fn line(n: u8, by: u8) -> Vec<[u8; 3]> {
     (0..n).map(|s| [s, by, s + 1]).collect()
 }
 
 // 63 types with 16 steps each, and a leaf. Each type needs the one before it, the root is the last, so a round adds one state, and a round
 // of reaching adds one type.
-fn chain() -> Vec<u8> {
+pub fn chain() -> Schema {
     let mut types = vec![leaf(0)];
     for a in 1..64 {
         types.push(Type {
@@ -64,11 +77,11 @@ fn chain() -> Vec<u8> {
             steps: line(16, a - 1),
         });
     }
-    flat(32, 63, &types)
+    schema(32, 63, &types)
 }
 
 // Type 0 steps from each of 32 states to each, by type 1; the other 63 are leaves. All 528 pairs are reached, each by many ways.
-fn dense() -> Vec<u8> {
+pub fn dense() -> Schema {
     let steps = (0..32)
         .flat_map(|p| (0..32).map(move |q| [p, 1, q]))
         .collect();
@@ -79,7 +92,7 @@ fn dense() -> Vec<u8> {
         steps,
     }];
     types.extend((1..64).map(|a| leaf(a % 32)));
-    flat(32, 0, &types)
+    schema(32, 0, &types)
 }
 
 // A line of 31 steps with a loop at its start: all 528 pairs are reached.
@@ -91,7 +104,7 @@ fn looped(by: u8) -> Vec<[u8; 3]> {
 
 // 32 types of 32 states with 32 steps each: type 0 needs nothing, each other the one before it, and in each all pairs are reached. `leaves`
 // more types are leaves.
-fn wide(leaves: u8) -> Vec<u8> {
+pub fn wide(leaves: u8) -> Schema {
     let mut types = vec![Type {
         tag: 0,
         states: 32,
@@ -107,11 +120,11 @@ fn wide(leaves: u8) -> Vec<u8> {
         });
     }
     types.extend((0..leaves).map(leaf));
-    flat(32, 31, &types)
+    schema(32, 31, &types)
 }
 
 pub fn cases() -> Vec<Case> {
-    let case = |name, goal, flat| Case { name, goal, flat };
+    let case = |name, goal, schema| Case { name, goal, schema };
     vec![
         case("R: 4 types, 3 steps", 5.0, small()),
         case("64 types in a chain, 16 steps each", 20_000.0, chain()),

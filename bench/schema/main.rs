@@ -1,96 +1,60 @@
-// Times the proved search for competition beside a plain Rust one of the same algorithm, on the small schema R and on worst cases.
+// Times the proved limits, trimming and search for competition beside plain Rust of the same algorithm, on the small schema R and on worst
+// cases. A search asks the limits and trims first. Each proved call takes its schema by value, and the time has that copy in it.
 mod cases;
 mod plain;
 
 use cases::{Case, cases};
+use plain::{Schema, Searched, Trimming};
 use std::hint::black_box;
 use std::time::{Duration, Instant};
 
 // A slice goes over as its pointer and its length.
 unsafe extern "C" {
-    fn schema_bench_competition(flat: *const u8, len: usize, rounds: u32) -> u64;
-    fn schema_bench_trim(flat: *const u8, len: usize, rounds: u32) -> u64;
-    fn schema_bench_within(flat: *const u8, len: usize, rounds: u32) -> bool;
+    safe fn schema_bench_within(flat: Schema) -> bool;
+    safe fn schema_bench_trim(flat: Schema) -> Trimming;
+    fn schema_bench_competition(flat: Schema, witness: *mut u8, len: usize) -> u8;
 }
 
-fn proved_competition(flat: &[u8], rounds: u32) -> u64 {
-    // SAFETY: the pointer and the length are one slice's, which lives through the call.
-    unsafe { schema_bench_competition(flat.as_ptr(), flat.len(), rounds) }
+fn proved_competition(schema: &Schema, witness: &mut [u8]) -> u8 {
+    // SAFETY: the pointer and the length are one slice's, which is lent to the call alone.
+    unsafe { schema_bench_competition(*schema, witness.as_mut_ptr(), witness.len()) }
 }
 
-fn proved_trim(flat: &[u8], rounds: u32) -> u64 {
-    // SAFETY: as above.
-    unsafe { schema_bench_trim(flat.as_ptr(), flat.len(), rounds) }
-}
-
-fn proved_within(flat: &[u8], rounds: u32) -> u64 {
-    // SAFETY: as above.
-    u64::from(unsafe { schema_bench_within(flat.as_ptr(), flat.len(), rounds) })
-}
-
-fn plain_competition(flat: &[u8], rounds: u32) -> u64 {
-    let schema = plain::Schema::read(flat);
-    let mut witness = [0u8; 532];
-    let mut answer = 0;
-    for _ in 0..rounds {
-        answer = match black_box(&schema).competition(&mut witness) {
-            plain::Searched::Unsearched => 0,
-            plain::Searched::Restrained => 1,
-            plain::Searched::Competes => 2,
-        };
+fn plain_competition(schema: &Schema, witness: &mut [u8]) -> u8 {
+    match schema.competition(witness) {
+        Searched::Unsearched => 0,
+        Searched::Restrained => 1,
+        Searched::Competes => 2,
     }
-    answer + 4 * witness.iter().map(|&b| u64::from(b)).sum::<u64>()
 }
 
-fn count(flags: &[bool]) -> u64 {
-    flags.iter().filter(|&&f| f).count() as u64
-}
-
-fn plain_trim(flat: &[u8], rounds: u32) -> u64 {
-    let schema = plain::Schema::read(flat);
-    let mut answer = 0;
-    for _ in 0..rounds {
-        let trimming = black_box(&schema).trim();
-        answer = count(&trimming.reached) + 100 * count(&trimming.bears);
-    }
-    answer
-}
-
-fn plain_within(flat: &[u8], rounds: u32) -> u64 {
-    let schema = plain::Schema::read(flat);
-    let mut answer = false;
-    for _ in 0..rounds {
-        answer = black_box(&schema).within();
-    }
-    u64::from(answer)
-}
-
-type Run = fn(&[u8], u32) -> u64;
-
-// The time of one call in microseconds, the best of twenty runs of about 20 ms, and the answer.
-fn time(run: Run, flat: &[u8]) -> (f64, u64) {
-    let mut rounds = 1;
-    loop {
+// The time of one call in microseconds, the best of two hundred runs of about a millisecond or of one call, and the answer.
+fn time<T>(schema: &Schema, mut call: impl FnMut(&Schema) -> T) -> (f64, T) {
+    let mut run = |rounds: u32| {
         let start = Instant::now();
-        let answer = run(black_box(flat), rounds);
-        if start.elapsed() >= Duration::from_millis(20) || rounds >= 1 << 24 {
-            let best = (0..20)
-                .map(|_| {
-                    let start = Instant::now();
-                    black_box(run(black_box(flat), rounds));
-                    start.elapsed()
-                })
-                .min()
-                .unwrap();
-            return (best.as_secs_f64() * 1e6 / f64::from(rounds), answer);
+        for _ in 0..rounds {
+            black_box(call(black_box(schema)));
         }
+        start.elapsed()
+    };
+    let mut rounds = 1;
+    while run(rounds) < Duration::from_millis(1) {
         rounds *= 2;
     }
+    let best = (0..200).map(|_| run(rounds)).min().unwrap();
+    (best.as_secs_f64() * 1e6 / f64::from(rounds), call(schema))
 }
 
-fn report(case: &Case, what: &str, proved: Run, plain: Run, goal: Option<f64>) -> bool {
-    let (a, x) = time(proved, &case.flat);
-    let (b, y) = time(plain, &case.flat);
+// Whether the answers agree, with a line for the two times.
+fn report<T: PartialEq>(
+    case: &Case,
+    what: &str,
+    goal: Option<f64>,
+    proved: impl FnMut(&Schema) -> T,
+    plain: impl FnMut(&Schema) -> T,
+) -> bool {
+    let (a, x) = time(&case.schema, proved);
+    let (b, y) = time(&case.schema, plain);
     let same = if x == y { "" } else { "  ANSWERS DIFFER" };
     let met = match goal {
         Some(g) if a <= g => format!("  goal {g:.0}: met"),
@@ -111,15 +75,28 @@ fn main() {
         "microseconds a call", "", "proved", "plain", "ratio"
     );
     let mut same = true;
-    for case in cases() {
-        same &= report(&case, "limits", proved_within, plain_within, None);
-        same &= report(&case, "trimming", proved_trim, plain_trim, None);
+    for case in &cases() {
+        let (mut ours, mut theirs) = ([0; 532], [0; 532]);
         same &= report(
-            &case,
+            case,
+            "limits",
+            None,
+            |s| schema_bench_within(*s),
+            Schema::within,
+        );
+        same &= report(
+            case,
+            "trimming",
+            None,
+            |s| schema_bench_trim(*s),
+            Schema::trim,
+        );
+        same &= report(
+            case,
             "competition",
-            proved_competition,
-            plain_competition,
             Some(case.goal),
+            |s| (proved_competition(s, &mut ours), ours),
+            |s| (plain_competition(s, &mut theirs), theirs),
         );
     }
     std::process::exit(i32::from(!same));

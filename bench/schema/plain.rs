@@ -1,23 +1,29 @@
 // The library's algorithm in plain Rust: limits, live states round by round, states ahead, reached types, and a search breadth first over
 // unordered pairs of states.
 
-const TYPES: usize = 64;
-const STEPS: usize = 1024;
+pub const TYPES: usize = 64;
+pub const STEPS: usize = 1024;
 const PAIRS: usize = 528;
 
+// As `Flat` of the crate schema_bench.
+#[derive(Clone, Copy)]
+#[repr(C)]
 pub struct Schema {
-    tags: u8,
-    types: u8,
-    root: u8,
-    tag: [u8; TYPES],
-    states: [u8; TYPES],
-    accepting: [u32; TYPES],
-    steps: [u16; TYPES],
-    from: [u8; STEPS],
-    by: [u8; STEPS],
-    to: [u8; STEPS],
+    pub tags: u8,
+    pub types: u8,
+    pub root: u8,
+    pub tag: [u8; TYPES],
+    pub states: [u8; TYPES],
+    pub accepting: [u32; TYPES],
+    pub steps: [u16; TYPES],
+    pub from: [u8; STEPS],
+    pub by: [u8; STEPS],
+    pub to: [u8; STEPS],
 }
 
+// As `Tables` of the crate schema_bench.
+#[derive(PartialEq)]
+#[repr(C)]
 pub struct Trimming {
     pub live: [u32; TYPES],
     pub bears: [bool; TYPES],
@@ -30,7 +36,7 @@ pub enum Searched {
     Competes,
 }
 
-fn has(set: u32, state: u8) -> bool {
+pub fn has(set: u32, state: u8) -> bool {
     state < 32 && set >> state & 1 == 1
 }
 
@@ -73,41 +79,6 @@ impl Queue {
 }
 
 impl Schema {
-    pub fn read(flat: &[u8]) -> Schema {
-        let byte = |at: usize| flat.get(at).copied().unwrap_or(0);
-        let mut s = Schema {
-            tags: byte(0),
-            types: byte(1).min(64),
-            root: byte(2),
-            tag: [0; TYPES],
-            states: [0; TYPES],
-            accepting: [0; TYPES],
-            steps: [0; TYPES],
-            from: [0; STEPS],
-            by: [0; STEPS],
-            to: [0; STEPS],
-        };
-        let types = s.types as usize;
-        for a in 0..types {
-            let at = 3 + 8 * a;
-            s.tag[a] = byte(at);
-            s.states[a] = byte(at + 1);
-            s.accepting[a] =
-                u32::from_le_bytes([byte(at + 2), byte(at + 3), byte(at + 4), byte(at + 5)]);
-            s.steps[a] = u16::from_le_bytes([byte(at + 6), byte(at + 7)]);
-        }
-        for (i, step) in flat[3 + 8 * types..]
-            .chunks_exact(3)
-            .take(STEPS)
-            .enumerate()
-        {
-            s.from[i] = step[0];
-            s.by[i] = step[1];
-            s.to[i] = step[2];
-        }
-        s
-    }
-
     pub fn within(&self) -> bool {
         if self.tags == 0 || 32 < self.tags || 64 < self.types || self.types <= self.root {
             return false;
@@ -152,7 +123,7 @@ impl Schema {
         }
     }
 
-    fn live_states(&self) -> [u32; TYPES] {
+    pub fn live_states(&self) -> [u32; TYPES] {
         let types = self.types as usize;
         let mut live = [0; TYPES];
         live[..types].copy_from_slice(&self.accepting[..types]);

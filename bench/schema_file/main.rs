@@ -1,17 +1,38 @@
-// Times questions 1 to 7 of the proved schema file's call beside a plain Rust reader that asks the same, on the longest file with its last
-// block left out and its last STEP naming that type, which is not given, so that neither side goes on to questions 8 and 9; and the proved
-// call's whole answer to the longest file.
+// Times the proved schema file's call beside a plain Rust reader of questions 2 to 7. The proved call cannot be stopped after question 7, so
+// questions 1 to 7 are timed on two files, in two orders of their steps: on one of the longest files, whose root type has no step, so that 8
+// and 9 have little to ask, with their time in it; and on the longest file that can get 7.
 use std::hint::black_box;
 use std::time::{Duration, Instant};
 
-// A slice goes over as its pointer and its length.
-unsafe extern "C" {
-    fn schema_file_bench_read(file: *const u8, len: usize, rounds: u32) -> u64;
+// As `Numbers` of the crate schema_file_bench: a refusal's number and place; 0 and 0 for accepted.
+#[derive(Debug, PartialEq)]
+#[repr(C)]
+struct Numbers {
+    number: u8,
+    place: usize,
 }
 
-fn proved(file: &[u8], rounds: u32) -> u64 {
-    // SAFETY: the pointer and the length are one slice's, which lives through the call.
-    unsafe { schema_file_bench_read(file.as_ptr(), file.len(), rounds) }
+// A slice goes over as its pointer and its length.
+unsafe extern "C" {
+    fn schema_file_bench_read(
+        file: *const u8,
+        len: usize,
+        witness: *mut u8,
+        room: usize,
+    ) -> Numbers;
+}
+
+fn proved(file: &[u8]) -> Numbers {
+    let mut witness = [0; 532];
+    // SAFETY: each pointer and length are one slice's, which lives through the call; the witness is lent to it alone.
+    unsafe {
+        schema_file_bench_read(
+            file.as_ptr(),
+            file.len(),
+            witness.as_mut_ptr(),
+            witness.len(),
+        )
+    }
 }
 
 // What the plain reader keeps: of each type its states, accepting states and steps, each step with its place.
@@ -21,12 +42,12 @@ struct Block {
     steps: Vec<(u8, u8, u8, usize)>,
 }
 
-fn refusal(number: u64, place: usize) -> u64 {
-    number * 65536 + place as u64 % 65536
+fn refusal(number: u8, place: usize) -> Numbers {
+    Numbers { number, place }
 }
 
-// Questions 2 to 7: 0, or the number and place of the refusal.
-fn plain(file: &[u8]) -> u64 {
+// Questions 2 to 7.
+fn plain(file: &[u8]) -> Numbers {
     let (mut at, mut phase, mut tags, mut count) = (0, 0, 0, 0);
     let mut blocks: Vec<Block> = Vec::new();
     while phase != 4 {
@@ -52,7 +73,11 @@ fn plain(file: &[u8]) -> u64 {
             0x11 if blocks.len() == 64 => 5,
             0x11 => {
                 phase = 2;
-                blocks.push(Block { states: c[2], accepting: 0, steps: Vec::new() });
+                blocks.push(Block {
+                    states: c[2],
+                    accepting: 0,
+                    steps: Vec::new(),
+                });
                 0
             }
             0x1f if phase != 3 => 3,
@@ -83,7 +108,11 @@ fn plain(file: &[u8]) -> u64 {
                     4
                 } else if count == 1024 {
                     5
-                } else if b.steps.iter().any(|s| (s.0, s.1, s.2) == (c[1], c[2], c[3])) {
+                } else if b
+                    .steps
+                    .iter()
+                    .any(|s| (s.0, s.1, s.2) == (c[1], c[2], c[3]))
+                {
                     6
                 } else {
                     b.steps.push((c[1], c[2], c[3], at));
@@ -101,56 +130,96 @@ fn plain(file: &[u8]) -> u64 {
         return refusal(3, at);
     }
     let types = blocks.len();
-    match blocks.iter().flat_map(|b| &b.steps).find(|s| usize::from(s.1) >= types) {
+    match blocks
+        .iter()
+        .flat_map(|b| &b.steps)
+        .find(|s| usize::from(s.1) >= types)
+    {
         Some(s) => refusal(7, s.3),
-        None => 0,
+        None => refusal(0, 0),
     }
 }
 
-// The longest file, or the same with one type fewer and the last step by the type that is missing.
-fn longest(unknown: bool) -> Vec<u8> {
+// Types of 32 states, all accepting, and the steps in the first.
+fn file(types: u8, steps: &[[u8; 3]], root: u8) -> Vec<u8> {
     let mut file = vec![0x10, 32];
-    for a in 0..if unknown { 63 } else { 64 } {
+    for a in 0..types {
         file.extend([0x11, 0, 32]);
         file.extend((0..32).flat_map(|q| [0x12, q]));
         if a == 0 {
-            for n in 0..1024u16 {
-                let by = if unknown && n == 1023 { 63 } else { 1 };
-                file.extend([0x13, (n / 32) as u8, by, (n % 32) as u8]);
-            }
+            file.extend(steps.iter().flat_map(|&[p, j, q]| [0x13, p, j, q]));
         }
     }
-    file.extend([0x14, 0, 0x1f]);
+    file.extend([0x14, root, 0x1f]);
     file
 }
 
-// Microseconds a round, the best of twenty runs of about twenty milliseconds.
-fn best(mut run: impl FnMut(u32) -> u64) -> f64 {
-    let mut rounds = 1;
-    while {
+// The longest file of the proofs: from each state to each, in order, by one type.
+fn in_order() -> Vec<[u8; 3]> {
+    (0..32)
+        .flat_map(|p| (0..32).map(move |q| [p, 1, q]))
+        .collect()
+}
+
+// From two states by sixteen types to each state, shuffled: no processor foresees which earlier steps are from the same state as the next.
+fn shuffled() -> Vec<[u8; 3]> {
+    let mut steps: Vec<_> = (0..1024u16)
+        .map(|n| [(n % 2) as u8, (n / 2 % 16) as u8, (n / 32) as u8])
+        .collect();
+    let mut random = 88_172_645_463_325_252u64;
+    for i in (1..steps.len()).rev() {
+        random ^= random << 13;
+        random ^= random >> 7;
+        random ^= random << 17;
+        steps.swap(i, (random % (i as u64 + 1)) as usize);
+    }
+    steps
+}
+
+// Microseconds a call, the best of two hundred runs of about a millisecond or of one call.
+fn best(file: &[u8], call: fn(&[u8]) -> Numbers) -> f64 {
+    let run = |rounds: u32| {
         let began = Instant::now();
-        black_box(run(rounds));
-        began.elapsed() < Duration::from_millis(20)
-    } {
+        for _ in 0..rounds {
+            black_box(call(black_box(file)));
+        }
+        began.elapsed()
+    };
+    let mut rounds = 1;
+    while run(rounds) < Duration::from_millis(1) {
         rounds *= 2;
     }
-    (0..20)
-        .map(|_| {
-            let began = Instant::now();
-            black_box(run(rounds));
-            began.elapsed().as_secs_f64() * 1e6 / f64::from(rounds)
-        })
-        .fold(f64::INFINITY, f64::min)
+    let best = (0..200).map(|_| run(rounds)).min().unwrap();
+    best.as_secs_f64() * 1e6 / f64::from(rounds)
+}
+
+fn report(what: &str, file: &[u8]) {
+    assert_eq!(proved(file), plain(file));
+    let (ours, theirs) = (best(file, proved), best(file, plain));
+    println!("{what:<62} {:>6} {ours:>7.0} {theirs:>7.0}", file.len());
 }
 
 fn main() {
-    let (whole, unknown) = (longest(false), longest(true));
-    assert_eq!(whole.len(), 8389);
-    assert_eq!(proved(&whole, 1), 0);
-    assert_eq!(plain(&whole), 0);
-    assert_eq!(proved(&unknown, 1), plain(&unknown));
-    let ours = best(|n| proved(&unknown, n));
-    let theirs = best(|n| (0..n).map(|_| plain(black_box(&unknown))).sum());
-    println!("questions 1 to 7, {} bytes: proved {ours:.0}, plain {theirs:.0} microseconds, ratio {:.2}; asked: 1000", unknown.len(), ours / theirs);
-    println!("the longest file, questions 1 to 9: proved {:.0} microseconds", best(|n| proved(&whole, n)));
+    println!(
+        "{:<62} {:>6} {:>7} {:>7}",
+        "microseconds a call; asked of questions 1 to 7: 1000", "bytes", "proved", "plain"
+    );
+    for (order, steps) in [("in order", in_order()), ("shuffled", shuffled())] {
+        report(
+            &format!("steps {order}: questions 1 to 9, a root type with no step"),
+            &file(64, &steps, 63),
+        );
+        let mut unknown = steps;
+        unknown[1023][1] = 63;
+        report(
+            &format!("steps {order}: questions 1 to 7, a last step that gets 7"),
+            &file(63, &unknown, 0),
+        );
+    }
+    let longest = file(64, &in_order(), 0);
+    assert_eq!(longest.len(), 8389);
+    report(
+        "steps in order: questions 1 to 9, a root type with all steps",
+        &longest,
+    );
 }

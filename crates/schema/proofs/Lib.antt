@@ -7,11 +7,3 @@ pub mod SpreadLaws
 pub mod ReachLaws
 pub mod FirstTables
 pub mod TablesExact
-pub mod NextStates
-pub mod MarkLaws
-pub mod Kept
-pub mod MarkGrowth
-pub mod Queues
-pub mod Words
-pub mod Compete
-pub mod Outcome

@@ -198,3 +198,10 @@ pub tables-exact :
     (set (replicate 64 false) (v .root .0) true) reached
     → Exact (meaning v) (record { live = live; bears = bearing live; reached = reached })
 tables-exact fits within l f r = exact fits within l f r
+
+-- the table that the first loop settles at
+pub live-exactly :
+    {v : Schema} {live : List ℕ} → Fits v → WithinLimits (meaning v)
+    → Settled (λ t. spreadAll (v .steps) (stepsOf (v .from) (v .by) (v .to)) t 0 0 (v .types) t) (firstSets (v .types) (v .accepting)) live
+    → (a q : ℕ) → T (member q (getD live a 0)) ↔ Live (meaning v) a q
+live-exactly fits within l a q = (live-is fits within l a q .1, live-is fits within l a q .0)

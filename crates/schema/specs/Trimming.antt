@@ -9,6 +9,7 @@ use Rattle.sdtd.specs.Schema.{Schema, WithinLimits}
 use Rattle.sdtd.specs.Trim.{Bears, Live, Reached}
 use Rattle.schema.specs.States.{member}
 use Rattle.schema.specs.declared.tables.Trimming.{Trimming}
+use Rattle.schema.specs.declared.tables.LiveStates.{LiveStates}
 
 -- each table is exactly the definition
 pub record Exact (S : Schema) (t : Trimming) : Type 0 where
@@ -24,3 +25,9 @@ nothing = record { live = replicate 64 0; bears = replicate 64 false; reached = 
 pub record TrimMeans (S : Schema) (t : Trimming) : Type 0 where
   pub inside : WithinLimits S → Exact S t
   pub outside : ¬ WithinLimits S → t ≡ nothing
+
+-- the live states of a schema inside the limits, and nothing outside them
+pub record LiveMeans (S : Schema) (r : LiveStates) : Type 0 where
+  pub inside : T (r .inside) ↔ WithinLimits S
+  pub live : WithinLimits S → (a q : ℕ) → T (member q (getD (r .live) a 0)) ↔ Live S a q
+  pub outside : ¬ WithinLimits S → r .live ≡ replicate 64 0

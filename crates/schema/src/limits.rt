@@ -1,4 +1,5 @@
 // Document 01's limits of a schema: question 10's part about it.
+use crate::state_set::StateSet;
 use crate::value::STATES;
 use crate::value::STEPS;
 use crate::value::Schema;
@@ -81,7 +82,7 @@ fn block_within<'a>(
     if STATES < states {
         return false;
     }
-    if 1u64 << (states as u32) <= accepting as u64 {
+    if !StateSet(accepting).below(states) {
         return false;
     }
     steps_within(from, by, to, start, n, states, types)

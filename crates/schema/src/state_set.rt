@@ -1,6 +1,9 @@
 // Sets of states.
 use crate::value::STATES;
 ghost use mathlib.Core.Path.{_≡_};
+ghost use mathlib.Core.Logic.{_↔_};
+ghost use Prim.Native.Nat.{ℕ, _<_};
+ghost use lib.Dec.{T};
 ghost use Rattle.schema.specs.States.{member, insert};
 
 // A set of states below 32, a bit each.
@@ -30,5 +33,15 @@ impl StateSet {
             return self;
         }
         StateSet(self.0 | 1 << (state as u32))
+    }
+
+    // Is every state of the set below the count?
+    pub fn below(self, count: u8) -> bool
+        ensures { λ r. ⌜ T r ↔ ((q : ℕ) → T (member q (self .0)) → q < count) ⌝ }
+    {
+        if STATES <= count {
+            return true;
+        }
+        (self.0 as u64) < 1u64 << (count as u32)
     }
 }

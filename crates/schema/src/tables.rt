@@ -14,7 +14,7 @@ ghost use Prim.Native.Nat.{_≤_, _<_};
 ghost use lib.ListN.{set, replicate};
 ghost use Rattle.schema.specs.Value.{stepsOf, offset, meaning};
 ghost use Rattle.schema.specs.Spread.{spreadAll, reachAll, Settled, firstSets, startStates, bearing};
-ghost use Rattle.schema.specs.Trimming.{TrimMeans};
+ghost use Rattle.schema.specs.Trimming.{TrimMeans, LiveMeans};
 
 // Entry a: the live states of the type a as a set, whether it bears a tree, whether it is reached.
 pub struct Trimming {
@@ -126,6 +126,35 @@ fn bearing_types(live: [u32; TYPES]) -> [bool; TYPES]
         a += 1;
     }
     bears
+}
+
+// Whether a schema is inside the limits, and the live states of each type as a set.
+pub struct LiveStates {
+    pub inside: bool,
+    pub live: [u32; TYPES],
+}
+
+// The live states of a schema inside the limits; nothing for any other.
+pub fn live(schema: Schema) -> LiveStates
+    ensures { λ r. ⌜ LiveMeans (meaning schema) r ⌝ }
+{
+    if !within(schema) {
+        return LiveStates {
+            inside: false,
+            live: [0u32; TYPES],
+        };
+    }
+    let types = schema.types as usize;
+    let accepting = schema.accepting;
+    let live = live_states(
+        &schema.from,
+        &schema.by,
+        &schema.to,
+        &schema.steps,
+        types,
+        accepting,
+    );
+    LiveStates { inside: true, live }
 }
 
 // The tables of a schema inside the limits; tables of nothing for any other.

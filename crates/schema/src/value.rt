@@ -9,8 +9,6 @@ pub const TYPES: usize = 64;
 pub const STATES: u8 = 32;
 // "At most 1,024 steps in all."
 pub const STEPS: usize = 1024;
-// "Has the witness buffer at least 532 bytes?"
-pub const LEAST_WITNESS: usize = 532;
 
 // The table entries are bare numbers: a tag in `tag`, a set of states in `accepting`, a type in `by`, a state in `from` and `to`.
 // The steps stand in the order of their types, `steps[a]` of them for the type a.

@@ -1,7 +1,7 @@
 -- What each answer of the schema file's call means.
 use mathlib.Core.Path.{_≡_, refl, sym, ap, subst, _∙_}
 use mathlib.Core.Logic.{_↔_, inl, inr}
-use mathlib.Core.Bool.{Bool, true, false, not}
+use mathlib.Core.Bool.{true, false, not}
 use mathlib.Core.List.{List, []}
 use Prim.Native.Nat.{ℕ, _≤_, _<_}
 use native.Mathlib.Omega.{arith}
@@ -13,17 +13,18 @@ use Rattle.sdtd.specs.Trim.{Bears}
 use Rattle.sdtd.specs.Competition.{Competition, Witness}
 use Rattle.schema.specs.Value.{meaning}
 use Rattle.schema.specs.Trimming.{TrimMeans}
-use Rattle.schema.specs.Search.{Written, SearchMeans}
+use Rattle.competition.specs.Search.{Written, SearchMeans}
 use Rattle.schema.specs.declared.tables.Trimming.{Trimming}
-use Rattle.schema.specs.declared.search.Searched.{Searched}
-use Rattle.schema.specs.declared.search.Searched.the-variants.{Unsearched, Restrained, Competes}
+use Rattle.competition.specs.declared.search.Searched.{Searched}
+use Rattle.competition.specs.declared.search.Searched.the-variants.{Unsearched, Restrained, Competes}
 use Rattle.schema.proofs.LimitLaws.{passed}
 use Rattle.schema.specs.declared.value.Schema.{Schema}
 use Rattle.schema_file.specs.File.{Stated, Commands, stopped, states, commands, schemaBy, unknown}
 use Rattle.schema_file.specs.Tables.{unknownAt, UnknownMeans, StatedBy}
 use Rattle.schema_file.specs.declared.commands.Unknown.the-variants.{At, NoStep}
+use Rattle.schema_file.proofs.Passing.{stopped-most}
 use Rattle.schema_file.proofs.StatedLimits.{stated-within}
-use Rattle.schema_file.specs.Answer.{AnswerIs, AnswerBy, BufferBy, SchemaBy, noSchema, FileMeans}
+use Rattle.schema_file.specs.Answer.{AnswerIs, AnswerBy, BufferBy, StatedValue, SchemaBy, noSchema, FileMeans}
 use Rattle.schema_file.specs.declared.file.FileAnswer.{FileAnswer}
 use Rattle.schema_file.specs.declared.file.FileAnswer.the-variants.{Accepted, Refused}
 use Rattle.schema_file.specs.declared.file.SchemaFile.{SchemaFile}
@@ -44,12 +45,10 @@ not-9 : {n p : ℕ} → n < 9 → Refused n p ≡ Refused 9 0 → ⊥
 not-9 {n} l e = let z : n ≡ 9 = cc in omega arith
 
 no-schema : (k : Commands) (n p : ℕ) → SchemaBy k noSchema (Refused n p)
-no-schema (stopped m q) n p = refl
-no-schema (states g) n p = (λ e. absurd (never-accepted e), λ d. refl)
+no-schema k n p = (λ e. absurd (never-accepted e), λ d. refl)
 
-buffer-same : (k : Commands) (was : List ℕ) (n p : ℕ) → n < 9 → BufferBy k was was (Refused n p)
-buffer-same (stopped m q) was n p l = refl
-buffer-same (states g) was n p l = (λ e. absurd (not-9 l e), λ d. refl)
+pub buffer-same : (k : Commands) (was : List ℕ) (n p : ℕ) → n < 9 → BufferBy k was was (Refused n p)
+buffer-same k was n p l = (λ e. absurd (not-9 l e), λ d. refl)
 
 module _ (file was : List ℕ) where
   -- a refusal before 9 leaves the buffer as it was
@@ -63,11 +62,7 @@ module _ (file was : List ℕ) where
   module _ (long : leastWitness ≤ length was) where
     pub stopped-means : {n p : ℕ} → commands file ≡ stopped n p → FileMeans file was was (refusal n p)
     stopped-means {n} {p} e =
-        record {
-          answer = inr (long, subst (λ (k : Commands). AnswerBy k (Refused n p)) (sym e) refl);
-          buffer = subst (λ (k : Commands). BufferBy k was was (Refused n p)) (sym e) refl;
-          schema = no-schema (commands file) n p;
-        }
+        refused-means n p (omega (arith, stopped-most file e)) (inr (long, subst (λ (k : Commands). AnswerBy k (Refused n p)) (sym e) refl))
 
     module _ {g : Stated} (e : commands file ≡ states g) where
       answered : {a : FileAnswer} → AnswerBy (states g) a → AnswerIs file was a
@@ -91,7 +86,7 @@ module _ (file was : List ℕ) where
                 schema = no-schema (commands file) 9 0;
               }
 
-          pub accepted-means : (v : Schema) → meaning v ≡ schemaBy g → ¬ Competition (schemaBy g)
+          pub accepted-means : (v : Schema) → StatedValue g v → ¬ Competition (schemaBy g)
               → FileMeans file was was (record { answer = Accepted; schema = v })
           accepted-means v m n =
               record {
@@ -113,7 +108,7 @@ all-known s n = s .unknown-steps ∙ n
 pub value-within : {file : List ℕ} {v : Schema} {places : List ℕ} {count : ℕ} → StatedBy file v places count
     → UnknownMeans (unknownAt (v .by) places (v .types) 0 count) NoStep → WithinLimits (meaning v)
 value-within {file} s n =
-    subst WithinLimits (sym (s .schema)) (stated-within file (s .stated) (s .commands-state) (all-known s n))
+    subst WithinLimits (sym (s .value .schema)) (stated-within file (s .stated) (s .commands-state) (all-known s n))
 
 -- The answers after the commands have passed, by the value and the tables that they gave.
 module _ {file : List ℕ} {v : Schema} {places : List ℕ} {count : ℕ} (s : StatedBy file v places count)
@@ -136,8 +131,8 @@ module _ {file : List ℕ} {v : Schema} {places : List ℕ} {count : ℕ} (s : S
     root-bears : Bears (meaning v) (v .root .0) ↔ Bears (schemaBy (s .stated)) (s .stated .root)
     unfolding meaning schemaBy
     root-bears = (
-      λ b. subst (λ (S : Meaning). Bears S (S .root)) (s .schema) b,
-      λ b. subst (λ (S : Meaning). Bears S (S .root)) (sym (s .schema)) b,
+      λ b. subst (λ (S : Meaning). Bears S (S .root)) (s .value .schema) b,
+      λ b. subst (λ (S : Meaning). Bears S (S .root)) (sym (s .value .schema)) b,
     )
 
     module _ {t : Trimming} (trimmed : TrimMeans (meaning v) t) where
@@ -158,13 +153,13 @@ module _ {file : List ℕ} {v : Schema} {places : List ℕ} {count : ℕ} (s : S
         pub competing-answer : {is : List ℕ} → SearchMeans (meaning v) was is Competes → FileMeans file was is (refusal 9 0)
         competing-answer {is} m =
             compete-means file was long (s .commands-state) known bears is
-            (subst (λ (S : Meaning). Written S was is) (s .schema) (m .1))
+            (subst (λ (S : Meaning). Written S was is) (s .value .schema) (m .1))
 
         pub restrained-answer : {is : List ℕ} (r : Searched) → ¬ (r ≡ Competes) → SearchMeans (meaning v) was is r
             → FileMeans file was is (record { answer = Accepted; schema = v })
         restrained-answer Unsearched n m = absurd (m .0 (within, long))
         restrained-answer {is} Restrained n m =
             subst (λ (l : List ℕ). FileMeans file was l (record { answer = Accepted; schema = v })) (sym (m .2))
-            (accepted-means file was long (s .commands-state) known bears v (s .schema)
-            (subst (λ (S : Meaning). ¬ Competition S) (s .schema) (m .1)))
+            (accepted-means file was long (s .commands-state) known bears v (s .value)
+            (subst (λ (S : Meaning). ¬ Competition S) (s .value .schema) (m .1)))
         restrained-answer Competes n m = absurd (n refl)

@@ -10,11 +10,12 @@ use lib.ListN.{length, getD}
 use Rattle.schema_file.specs.Command.{commandOf, commandAt, isCommand, size}
 use Rattle.schema_file.specs.File.{Stated, nothingStated, ended, failed, after, stopped, states, commandsFrom, commands}
 use Rattle.schema_file.specs.Tables.{Tables, asked, lastType, givenAlready, askedBy, stateAfter, tablesAfter, Holds, StatedBy}
+use Rattle.schema_file.specs.Tables.{Sized, EmptyPast}
 use Rattle.schema_file.specs.declared.command.Command.{Command}
 use Rattle.schema_file.specs.declared.command.Command.the-variants.{Tags, TypeBlock, Final, Step, Root, Done, NoCommand}
 use Rattle.schema_file.specs.declared.state.State.{State}
-use Rattle.schema_file.proofs.Drafts.{noTables, firstState, first-holds, asked-failed, after-holds, size-some}
-use Rattle.schema_file.proofs.Drafts.{stated-schema, stated-unknown, fuel-enough}
+use Rattle.schema_file.proofs.Drafts.{firstState, first-holds, asked-failed, after-holds, size-some}
+use Rattle.schema_file.proofs.Drafts.{stated-value, stated-unknown, fuel-enough}
 
 -- a command, if it is one, ends inside the file
 record Inside (file : List ℕ) (i : ℕ) (c : Command) : Type 0 where
@@ -84,11 +85,11 @@ pub record Reads (file : List ℕ) (i : ℕ) (s : State) (t : Tables) : Type 0 w
   pub rest : commandsFrom (suc (length file - i)) file i stated ≡ commands file
   pub within : i ≤ length file
 
-pub reads-first : (file : List ℕ) → Reads file 0 firstState noTables
+pub reads-first : (file : List ℕ) {t : Tables} → Sized t → EmptyPast t 0 0 → Reads file 0 firstState t
 unfolding commands
-reads-first file =
+reads-first file k z =
     let e : length file - 0 ≡ length file = omega arith in
-    record { stated = nothingStated; holds = first-holds; rest = rw e; within = omega arith }
+    record { stated = nothingStated; holds = first-holds k z; rest = rw e; within = omega arith }
 
 -- the number of the question that the command fails, from its parts
 pub asked-by : (s : State) (t : Tables) {n : ℕ} {given : Bool} {c d : Command}
@@ -155,7 +156,7 @@ module _ {file : List ℕ} {i : ℕ} {s : State} {t : Tables} (r : Reads file i 
   reads-stated p l = record {
     stated = r .stated;
     commands-state = sym (r .rest) ∙ done (length file - i) file i (r .stated) (sym (r .holds .phase) ∙ p) l;
-    schema = stated-schema (r .holds);
+    value = stated-value (r .holds);
     count-most = r .holds .count-most;
     unknown-steps = stated-unknown (r .holds);
   }

@@ -1,60 +1,39 @@
 -- The state and the tables hold what the commands so far state.
-use mathlib.Core.Path.{_≡_, refl, ap, _∙_}
+use mathlib.Core.Path.{_≡_, refl, sym, ap, _∙_}
 use mathlib.Core.Logic.{_≢_}
 use mathlib.Core.Bool.{Bool, true, false, cond, not, _&&_}
 use mathlib.Core.List.{List, map}
 use Prim.Native.Nat.{ℕ, zero, suc, _+_, _-_, _%_, _≤_, _<_}
+use native.Mathlib.Decide.{decLt}
 use native.Mathlib.Omega.{arith}
 use borrow.Author.Tests.{le-leb, leb-true}
 use lib.Dec.{T, eqb, leb, ltb, eqb→eq, ltb→lt}
-use lib.ListN.{length, getD, replicate, length-replicate}
+use lib.ListN.{length, getD, replicate, length-replicate, getD-replicate, List·getD-eq-default}
 use Rattle.schema.specs.States.{member}
-use Rattle.schema.specs.Value.{upFrom, blockAt, meaning}
+use Rattle.schema.specs.Value.{upFrom, offset, blockAt, meaning}
 use Rattle.schema_file.specs.Command.{commandOf, commandAt, isCommand, size}
 use Rattle.schema_file.specs.File.{tagged, inside, rooted, ended, Placed, Stated, nothingStated, current, stepCount, hasStep}
 use Rattle.schema_file.specs.File.{inOrder, inRange, withinCounts, notGiven, failed, after, stopped, states, commandsFrom}
 use Rattle.schema_file.specs.File.{schemaBy, unknown}
+use Rattle.schema_file.specs.Answer.{EmptyFrom, StatedValue}
 use Rattle.schema_file.specs.Tables.{Tables, asked, askedBy, givenLast, givenAlready, lastType, stateAfter, tablesAfter, unknownAt}
-use Rattle.schema_file.specs.Tables.{DraftHolds, Holds}
+use Rattle.schema_file.specs.Tables.{DraftHolds, Sized, EmptyPast, Holds}
 use Rattle.schema_file.specs.declared.command.Command.{Command}
 use Rattle.schema_file.specs.declared.command.Command.the-variants.{Tags, TypeBlock, Final, Step, Root, Done, NoCommand}
 use Rattle.schema_file.specs.declared.state.State.{State}
-use Rattle.schema_file.proofs.TableLaws.{current-holds, current-count, given-holds, type-sized, type-blocks}
-use Rattle.schema_file.proofs.TableLaws.{accepting-sized, final-blocks, final-count, final-steps}
-use Rattle.schema_file.proofs.TableLaws.{step-sized, step-blocks, step-count, step-steps}
-use Rattle.schema_file.proofs.StatedLaws.{valueOf, blocks-back, unknown-back}
-
--- the tables before any command
-abbrev pub noTables : Tables
-noTables =
-    record {
-      tag = replicate 64 0;
-      states = replicate 64 0;
-      accepting = replicate 64 0;
-      counts = replicate 64 0;
-      from = replicate 1024 0;
-      by = replicate 1024 0;
-      to = replicate 1024 0;
-      places = replicate 1024 0;
-    }
+use Rattle.schema_file.proofs.TableLaws.{current-holds, current-count, given-holds, type-sized, type-blocks, type-empty}
+use Rattle.schema_file.proofs.TableLaws.{accepting-sized, final-blocks, final-count, final-steps, accepting-empty}
+use Rattle.schema_file.proofs.TableLaws.{step-sized, step-blocks, step-count, step-steps, step-empty}
+use Rattle.schema_file.proofs.StatedLaws.{offset-back, valueOf, blocks-back, unknown-back}
 
 abbrev pub firstState : State
 firstState = record { phase = 0; tags = 0; types = 0; root = 0; count = 0 }
 
-pub first-holds : Holds nothingStated firstState noTables
-first-holds =
+-- before any command: tables of zeros hold that nothing is stated
+pub first-holds : {t : Tables} → Sized t → EmptyPast t 0 0 → Holds nothingStated firstState t
+first-holds k e =
     record {
-      sized =
-          record {
-            tag = length-replicate {A = ℕ} 64 0;
-            states = length-replicate {A = ℕ} 64 0;
-            accepting = length-replicate {A = ℕ} 64 0;
-            counts = length-replicate {A = ℕ} 64 0;
-            from = length-replicate {A = ℕ} 1024 0;
-            by = length-replicate {A = ℕ} 1024 0;
-            to = length-replicate {A = ℕ} 1024 0;
-            places = length-replicate {A = ℕ} 1024 0;
-          };
+      sized = k;
       phase = refl;
       tags = refl;
       root = refl;
@@ -64,7 +43,15 @@ first-holds =
       count-most = omega arith;
       some = omega arith;
       blocks = tt;
+      empty = e;
     }
+
+-- a table of zeros is empty from the start
+pub zeros-empty : (n : ℕ) → EmptyFrom 0 (replicate n 0)
+zeros-empty n i l = elim (decLt i n) [
+  | yes b ↦ getD-replicate n i 0 0 b
+  | no b ↦ List·getD-eq-default (replicate n 0) 0 (rw length-replicate (omega arith))
+]
 
 -- what depends on a test is the same where it is the same under it
 under : {A : Type 0} (b : Bool) {x y : A} (z : A) → (T b → x ≡ y) → cond b x z ≡ cond b y z
@@ -161,6 +148,7 @@ stays phase tags root o h =
       count-most = h .count-most;
       some = λ e. absurd (o e);
       blocks = h .blocks;
+      empty = h .empty;
     }
 
 -- one type, one accepting state or one step more
@@ -181,6 +169,7 @@ after-type {g} {s} {t} h i a k e =
       count-most = h .count-most;
       some = omega arith;
       blocks = type-blocks t (h .sized) (g .blocks) (s .types % 64) a k (omega (arith, h .types)) (omega arith) (h .blocks);
+      empty = type-empty (h .empty) (s .types % 64) a k (omega (arith, h .types));
     }
 
 after-final : {g : Stated} {s : State} {t : Tables} → Holds g s t → (i q : ℕ) → failed g (Final q) ≡ 0
@@ -199,6 +188,7 @@ after-final {g} {s} {t} h i q e =
       count-most = h .count-most;
       some = λ p. h .some (x .phase);
       blocks = final-blocks t (h .sized) (g .blocks) (lastType s) q (x .last) (omega arith) (h .blocks);
+      empty = accepting-empty (h .empty) (lastType s) q (omega (arith, h .types, x .last));
     }
 
 after-step : {g : Stated} {s : State} {t : Tables} → Holds g s t → (i p j q : ℕ) → failed g (Step p j q) ≡ 0
@@ -222,6 +212,7 @@ after-step {g} {s} {t} h i p j q e =
       blocks =
           let n : s .count % 1024 ≡ stepCount (g .blocks) = omega (arith, h .count) in
           step-blocks t (h .sized) (g .blocks) (lastType s) (s .count % 1024) p j q i (x .last) (omega arith) n (omega arith) (h .blocks);
+      empty = step-empty (h .empty) (lastType s) (s .count % 1024) p j q i (omega (arith, h .types, x .last)) (omega (arith, h .count));
     }
 
 -- after a command that passed them, they hold what is stated then
@@ -236,9 +227,9 @@ after-holds {s} h i (Root a) e = rw (← h .tags) (stays rooted (s .tags) a (ome
 after-holds {s} h i Done e = rw (← h .tags, ← h .root) (stays ended (s .tags) (s .root) (omega arith) h)
 after-holds h i NoCommand e = h
 
--- the schema value made of them states the schema
-pub stated-schema : {g : Stated} {s : State} {t : Tables} → Holds g s t
-    → meaning
+-- the schema value made of them is that of what is stated
+pub stated-value : {g : Stated} {s : State} {t : Tables} → Holds g s t
+    → StatedValue g
     (record {
       tags = s .tags;
       types = s .types % 256;
@@ -251,16 +242,31 @@ pub stated-schema : {g : Stated} {s : State} {t : Tables} → Holds g s t
       by = t .by;
       to = t .to;
     })
-    ≡ schemaBy g
 unfolding meaning schemaBy
-stated-schema {g} {s} {t} h i =
+stated-value {g} {s} {t} h =
     let e : s .types % 256 ≡ length (g .blocks) = omega (arith, h .types, h .types-most) in
     let v = valueOf t (s .tags) (s .types % 256) (s .root) in
     let b = blocks-back t (s .tags) (s .types % 256) (s .root) (g .blocks) (h .blocks) in
+    let types : s .types ≡ s .types % 256 = omega (arith, h .types-most) in
+    let count : s .count ≡ offset (t .counts) (s .types % 256) = rw e (h .count ∙ sym (offset-back t (g .blocks) (h .blocks))) in
+    let empty : EmptyPast t (s .types % 256) (offset (t .counts) (s .types % 256)) = rw (← count, ← types) (h .empty) in
     record {
-      tags = h .tags i;
-      blocks = (ap (λ (n : ℕ). map (blockAt v) (upFrom 0 n)) e ∙ b) i;
-      root = h .root i;
+      schema = λ i.
+          record {
+            tags = h .tags i;
+            blocks = (ap (λ (n : ℕ). map (blockAt v) (upFrom 0 n)) e ∙ b) i;
+            root = h .root i;
+          };
+      unused =
+          record {
+            tag = empty .tag;
+            states = empty .states;
+            accepting = empty .accepting;
+            steps = empty .counts;
+            from = empty .from;
+            by = empty .by;
+            to = empty .to;
+          };
     }
 
 -- the places of the steps that name no given type are those of the tables

@@ -79,12 +79,14 @@ file-ambiguous {file} {was} {is} {r} m x l some =
     subst (λ (R : Meaning). Demand3File R (r .answer)) (x .schema)
     (demanded-of file was is (x .passes) (x .known) l (subst SomeValid (sym (x .schema)) some) (m .answer) (m .buffer))
 
--- an accepted file: its schema is inside the limits and passes questions 8 and 9, and it is no longer than 8,389 bytes
+-- an accepted file: it states the schema of the value, which is inside the limits and passes questions 8 and 9, and it is no longer than
+-- 8,389 bytes
 pub record AcceptedFile (file : List ℕ) (v : Schema) : Type 0 where
+  pub states : StatesSchema file (meaning v)
   pub schema : IsAccepted (meaning v)
   pub short : length file ≤ mostBytes
 
-refused-accepted : {A : Type 0} {a : FileAnswer} {n p : ℕ} → a ≡ Refused n p → a ≡ Accepted → A
+pub refused-accepted : {A : Type 0} {a : FileAnswer} {n p : ℕ} → a ≡ Refused n p → a ≡ Accepted → A
 refused-accepted p q = absurd (let z : _≡_ {A = ℕ} 0 1 = cc in omega arith)
 
 accepted-by : (file : List ℕ) (k : Commands) {v : Schema} {a : FileAnswer} → commands file ≡ k → AnswerBy k a → SchemaBy k v a → a ≡ Accepted
@@ -95,10 +97,10 @@ accepted-by file (states g) e (inl o) s q = refused-accepted (o .1) q
 accepted-by file (states g) e (inr (k, inl o)) s q = refused-accepted (o .1) q
 accepted-by file (states g) e (inr (k, inr (b, inl o))) s q = refused-accepted (o .1) q
 accepted-by file (states g) e (inr (k, inr (b, inr (n, o)))) s q =
-    let same = sym (s .0 q) in
+    let same = sym (s .0 q .schema) in
     record {
-      schema =
-          subst IsAccepted same (record { within = stated-within file g e k; bears = b; no-competition = n });
+      states = record { stated = g; passes = e; known = k; schema = same };
+      schema = subst IsAccepted same (record { within = stated-within file g e k; bears = b; no-competition = n });
       short = longest file g e;
     }
 

@@ -1,7 +1,7 @@
 -- The starred samples that are schema files, from their bytes.
-use mathlib.Core.Path.{_≡_, refl, sym, subst}
+use mathlib.Core.Path.{refl, sym, subst}
 use mathlib.Core.Logic.{inl, inr}
-use mathlib.Core.List.{List, [], _++_}
+use mathlib.Core.List.{List, [], _∷_, _++_}
 use Prim.Native.Nat.{ℕ, _≤_}
 use native.Mathlib.Omega.{arith}
 use lib.ListN.{length, drop}
@@ -18,14 +18,10 @@ use Rattle.schema_file.specs.File.{Stated, nothingStated, Commands, stop
 use Rattle.schema_file.specs.Answer.{AnswerIs, AnswerBy, BufferBy}
 use Rattle.schema_file.specs.Samples.{AllHold, starredFiles, shortFiles, FilesState, fileR, fileChoice, fileNoD, fileTwoWays}
 use Rattle.schema_file.specs.Samples.{fileTwoTypes, fileLastButOne, fileOptional, fileEndless}
-use Rattle.schema_file.proofs.Answered.{witness-competes}
+use Rattle.schema_file.proofs.Answered.{witness-competes, buffer-same}
 use Rattle.schema_file.proofs.FileAnswers.{not-both}
 use Rattle.schema_file.specs.declared.file.FileAnswer.{FileAnswer}
 use Rattle.schema_file.specs.declared.file.FileAnswer.the-variants.{Accepted, Refused}
-
--- refusals of different numbers differ
-eight-is-not-nine : {A : Type 0} → Refused 8 0 ≡ Refused 9 0 → A
-eight-is-not-nine e = absurd (let z : _≡_ {A = ℕ} 8 9 = cc in omega arith)
 
 -- what is stated where the commands passed
 abbrev statedIn : Commands → Stated
@@ -66,11 +62,11 @@ module _ {file : List ℕ} {S : Schema} (x : StatesSchema file S) (was : List �
   accepted-file a = (
     by-schema
         (inr (x .known, inr (bears (a .bears), inr (subst (λ (R : Schema). ¬ Competition R) (sym (x .schema)) (a .no-competition), refl)))),
-    by-buffer (λ e. not-both refl e, λ n. refl),
+    (λ e. not-both refl e, λ n. refl),
   )
 
   treeless-file : ¬ Bears S (S .root) → AnswerIs file was (Refused 8 0) × BufferBy (commands file) was was (Refused 8 0)
-  treeless-file n = (by-schema (inr (x .known, inl (none-bears n, refl))), by-buffer (λ e. eight-is-not-nine e, λ k. refl))
+  treeless-file n = (by-schema (inr (x .known, inl (none-bears n, refl))), buffer-same (commands file) was 8 0 (omega arith))
 
   competing-file : {bytes : List ℕ} → Bears S (S .root) → Witness S bytes
       → AnswerIs file was (Refused 9 0) × BufferBy (commands file) was (bytes ++ drop (length bytes) was) (Refused 9 0)
@@ -101,4 +97,7 @@ starred-files-hold =
 
 pub short-files-hold : AllHold shortFiles
 unfolding commands commandsFrom commandOf after
-short-files-hold = (λ was l. (inr (l, refl), refl)) & (λ was l. (inr (l, refl), refl)) & tt
+short-files-hold =
+    (λ was l. (inr (l, refl), buffer-same (commands (0x10 ∷ 0x20 ∷ [])) was 2 2 (omega arith)))
+    & (λ was l. (inr (l, refl), buffer-same (commands (0x10 ∷ 0x21 ∷ [])) was 4 0 (omega arith)))
+    & tt

@@ -8,6 +8,8 @@ pub mod Drafts
 pub mod CommandLaws
 pub mod Answered
 pub mod FileAnswers
+pub mod OneResult
+pub mod FileExists
 pub mod FileSamples
 pub mod Runs
 pub mod Longest

@@ -1,4 +1,5 @@
--- What a command that passes its questions has, and what each such command keeps holds where the commands end.
+-- What a command that passes its questions has; what each such command keeps holds where the commands end; and the commands are refused with
+-- a number of at most 6.
 use mathlib.Core.Path.{_≡_, refl, subst}
 use mathlib.Core.Bool.{Bool, true, false, cond, _&&_, _||_}
 use mathlib.Core.List.{List}
@@ -120,3 +121,33 @@ pub kept-to-end : {P : ℕ → Stated → Type 0} → Kept P → (file : List �
     → Ended P file g
 unfolding commands
 kept-to-end k file e p = kept-from k (suc (length file)) file 0 nothingStated e p
+
+-- the commands are not refused, or with a number of at most 6
+abbrev Most6 : Commands → Type 0
+Most6 (stopped n p) = n ≤ 6
+Most6 (states g) = Unit
+
+by-test : (b : Bool) (x y : Commands) → Most6 x → Most6 y → Most6 (cond b x y)
+by-test true x y p q = p
+by-test false x y p q = q
+
+number-most : (a b c d e : Bool) → cond a (cond b (cond c (cond d (cond e 0 6) 5) 4) 3) 2 ≤ 6
+number-most true true true true true = omega arith
+number-most true true true true false = omega arith
+number-most true true true false e = omega arith
+number-most true true false d e = omega arith
+number-most true false c d e = omega arith
+number-most false b c d e = omega arith
+
+most-6 : (fuel : ℕ) (file : List ℕ) (i : ℕ) (g : Stated) → Most6 (commandsFrom fuel file i g)
+unfolding commandsFrom
+most-6 zero file i g = omega arith
+most-6 (suc fuel) file i g =
+    let c = commandAt file i in
+    by-test (eqb (g .phase) ended) _ _ (by-test (leb (length file) i) _ _ tt (omega arith))
+    (by-test (eqb (failed g c) 0) _ _ (most-6 fuel file (i + size c) (after g i c))
+    (number-most (isCommand c) (inOrder g c) (inRange g c) (withinCounts g c) (notGiven g c)))
+
+pub stopped-most : (file : List ℕ) {n p : ℕ} → commands file ≡ stopped n p → n ≤ 6
+unfolding commands
+stopped-most file e = subst Most6 e (most-6 (suc (length file)) file 0 nothingStated)

@@ -41,7 +41,7 @@ steps-back t (x ∷ xs) s h =
     ∙ sym (map-reverse (λ (x : Placed). x .step) x xs)
 
 -- a type's first step stands behind all steps of the types before it
-offset-back : (t : Tables) (bs : List Draft) → BlocksHold t bs → offset (t .counts) (length bs) ≡ stepCount bs
+pub offset-back : (t : Tables) (bs : List Draft) → BlocksHold t bs → offset (t .counts) (length bs) ≡ stepCount bs
 offset-back t [] h = refl
 offset-back t (d ∷ ds) h =
     offset-step (t .counts) (length ds) ∙ (λ i. offset-back t ds (h .1) i + h .0 .count i)

@@ -10,7 +10,9 @@ use Rattle.sdtd.specs.Schema.{Step}
 use Rattle.schema.specs.States.{insert}
 use Rattle.schema.specs.Value.{stepAt}
 use Rattle.schema_file.specs.File.{sameStep, hasStep, Placed, Draft, current, stepCount, withFinal, withStep}
+use Rattle.schema_file.specs.Answer.{EmptyFrom}
 use Rattle.schema_file.specs.Tables.{Tables, givenIn, withType, withAccepting, withOneStep, StepsHold, DraftHolds, BlocksHold, Sized}
+use Rattle.schema_file.specs.Tables.{EmptyPast}
 
 -- the block that the file is in is the last type, and its steps are the last
 pub current-holds : {t : Tables} (bs : List Draft) → 0 < length bs → BlocksHold t bs
@@ -105,6 +107,50 @@ module _ {t u : Tables} {a n : ℕ} (w : Below t u a n) where
 -- what is set at the place a leaves the places below it
 set-below : (l : List ℕ) (a v b : ℕ) → b < a → getD (set l a v) b 0 ≡ getD l b 0
 set-below l a v b h = getD-set-other l a b v 0 (omega arith)
+
+-- what is set below the place m leaves the table empty from there on
+set-empty : {n : ℕ} (l : List ℕ) (a v m : ℕ) → n ≤ m → a < m → EmptyFrom n l → EmptyFrom m (set l a v)
+set-empty {n} l a v m h b e i k = getD-set-other l a i v 0 (omega arith) ∙ e i (omega arith)
+
+module _ {t : Tables} {a n : ℕ} (e : EmptyPast t a n) where
+  -- one type more
+  pub type-empty : (b g k : ℕ) → a ≡ b → EmptyPast (withType t b g k) (b + 1) n
+  type-empty b g k q =
+      record {
+        tag = set-empty (t .tag) b g (b + 1) (omega arith) (omega arith) (e .tag);
+        states = set-empty (t .states) b k (b + 1) (omega arith) (omega arith) (e .states);
+        accepting = set-empty (t .accepting) b 0 (b + 1) (omega arith) (omega arith) (e .accepting);
+        counts = set-empty (t .counts) b 0 (b + 1) (omega arith) (omega arith) (e .counts);
+        from = e .from;
+        by = e .by;
+        to = e .to;
+      }
+
+  -- one accepting state more
+  pub accepting-empty : (b q : ℕ) → b < a → EmptyPast (withAccepting t b q) a n
+  accepting-empty b q l =
+      record {
+        tag = e .tag;
+        states = e .states;
+        accepting = set-empty (t .accepting) b (insert q (getD (t .accepting) b 0)) a (omega arith) l (e .accepting);
+        counts = e .counts;
+        from = e .from;
+        by = e .by;
+        to = e .to;
+      }
+
+  -- one step more
+  pub step-empty : (b m p j q i : ℕ) → b < a → n ≡ m → EmptyPast (withOneStep t b m p j q i) a (m + 1)
+  step-empty b m p j q i l d =
+      record {
+        tag = e .tag;
+        states = e .states;
+        accepting = e .accepting;
+        counts = set-empty (t .counts) b (getD (t .counts) b 0 % 1024 + 1) a (omega arith) l (e .counts);
+        from = set-empty (t .from) m p (m + 1) (omega arith) (omega arith) (e .from);
+        by = set-empty (t .by) m j (m + 1) (omega arith) (omega arith) (e .by);
+        to = set-empty (t .to) m q (m + 1) (omega arith) (omega arith) (e .to);
+      }
 
 module _ (t : Tables) (k : Sized t) where
   pub type-sized : (a g n : ℕ) → Sized (withType t a g n)

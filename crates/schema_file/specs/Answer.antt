@@ -4,24 +4,33 @@ use mathlib.Core.Logic.{_↔_, _⊎_}
 use mathlib.Core.List.{List, [], _∷_}
 use Prim.Native.Nat.{ℕ, _≤_}
 use lib.ListN.{length, getD, replicate}
-use Rattle.sdtd.specs.Limits.{leastWitness}
+use Rattle.sdtd.specs.Limits.{mostTypes, mostSteps, leastWitness}
 use Rattle.sdtd.specs.Schema.{Schema as Meaning}
 use Rattle.sdtd.specs.Document.{Ambiguous}
 use Rattle.sdtd.specs.Trim.{Bears}
 use Rattle.sdtd.specs.Competition.{Competition}
 use Rattle.sdtd.specs.Answer.{Question, Ordered}
-use Rattle.schema.specs.Value.{meaning}
-use Rattle.schema.specs.Search.{Written}
+use Rattle.schema.specs.Value.{offset, meaning}
+use Rattle.competition.specs.Search.{Written}
 use Rattle.schema.specs.declared.value.Schema.{Schema}
 use Rattle.schema_file.specs.File.{Stated, Commands, stopped, states, commands, schemaBy, unknown}
 use Rattle.schema_file.specs.declared.file.FileAnswer.{FileAnswer}
 use Rattle.schema_file.specs.declared.file.FileAnswer.the-variants.{Accepted, Refused}
 use Rattle.schema_file.specs.declared.file.SchemaFile.{SchemaFile}
 
--- The question that is answered with the number n and the place p where it does not hold: `Refused` is document 01's number and place,
--- and `Accepted` has neither.
+-- Document 01's answer to a schema file: accepted, or "number and place".
+pub data Outcome : Type 0 where
+  accepted : Outcome
+  refused : ℕ → ℕ → Outcome
+
+-- each case of it as the code's
+abbrev pub answerIn : Outcome → FileAnswer
+answerIn accepted = Accepted
+answerIn (refused n p) = Refused n p
+
+-- the question that is answered with the number n and the place p where it does not hold
 abbrev pub ask : ℕ → ℕ → Type 0 → Question FileAnswer
-ask n p holds = record { holds = holds; refusal = Refused n p }
+ask n p holds = record { holds = holds; refusal = answerIn (refused n p) }
 
 -- "After DONE": "Does each STEP name a type that was given? No: 7, at the first that does not." "Does the root type bear a tree? No: 8, place
 -- 0." "Is there no competition? No: 9, place 0."
@@ -33,17 +42,23 @@ afterDone g =
 
 -- the answer where the buffer is long enough
 abbrev pub AnswerBy : Commands → FileAnswer → Type 0
-AnswerBy (stopped n p) a = a ≡ Refused n p
-AnswerBy (states g) a = Ordered (afterDone g) (λ b. b ≡ Accepted) a
+AnswerBy (stopped n p) a = a ≡ answerIn (refused n p)
+AnswerBy (states g) a = Ordered (afterDone g) (λ b. b ≡ answerIn accepted) a
 
 -- "Has the witness buffer at least 532 bytes? No: 1, place 0." Then the questions of each command, and those after DONE.
 abbrev pub AnswerIs : List ℕ → List ℕ → FileAnswer → Type 0
 AnswerIs file was a = Ordered (ask 1 0 (leastWitness ≤ length was) ∷ []) (AnswerBy (commands file)) a
 
+-- the commands pass, and P holds of what they state
+abbrev pub OfStated : Commands → (Stated → Type 0) → Type 0
+OfStated (stopped n p) P = ⊥
+OfStated (states g) P = P g
+
 -- "On 9 the witness fills 5 + n bytes and the rest of the buffer is unchanged; on every other answer it is all unchanged."
 abbrev pub BufferBy : Commands → List ℕ → List ℕ → FileAnswer → Type 0
-BufferBy (stopped n p) was is a = is ≡ was
-BufferBy (states g) was is a = (a ≡ Refused 9 0 → Written (schemaBy g) was is) × (¬ (a ≡ Refused 9 0) → is ≡ was)
+BufferBy k was is a =
+    (a ≡ answerIn (refused 9 0) → OfStated k (λ g. Written (schemaBy g) was is))
+    × (¬ (a ≡ answerIn (refused 9 0)) → is ≡ was)
 
 -- the schema value beside a refusal: no tag, no type
 abbrev pub noSchema : Schema
@@ -52,19 +67,37 @@ noSchema =
       tags = 0;
       types = 0;
       root = record { 0 = 0 };
-      tag = replicate 64 0;
-      states = replicate 64 0;
-      accepting = replicate 64 0;
-      steps = replicate 64 0;
-      from = replicate 1024 0;
-      by = replicate 1024 0;
-      to = replicate 1024 0;
+      tag = replicate mostTypes 0;
+      states = replicate mostTypes 0;
+      accepting = replicate mostTypes 0;
+      steps = replicate mostTypes 0;
+      from = replicate mostSteps 0;
+      by = replicate mostSteps 0;
+      to = replicate mostSteps 0;
     }
+
+-- the table holds 0 from the place n on
+abbrev pub EmptyFrom : ℕ → List ℕ → Type 0
+EmptyFrom n table = (i : ℕ) → n ≤ i → getD table i 0 ≡ 0
+
+-- Past the types and the steps that the value uses, its tables hold 0.
+pub record UnusedEmpty (v : Schema) : Type 0 where
+  pub tag : EmptyFrom (v .types) (v .tag)
+  pub states : EmptyFrom (v .types) (v .states)
+  pub accepting : EmptyFrom (v .types) (v .accepting)
+  pub steps : EmptyFrom (v .types) (v .steps)
+  pub from : EmptyFrom (offset (v .steps) (v .types)) (v .from)
+  pub by : EmptyFrom (offset (v .steps) (v .types)) (v .by)
+  pub to : EmptyFrom (offset (v .steps) (v .types)) (v .to)
+
+-- The value of the schema that is stated: its used entries state that schema, and the others are 0. No other value is one (`one-result`).
+pub record StatedValue (g : Stated) (v : Schema) : Type 0 where
+  pub schema : meaning v ≡ schemaBy g
+  pub unused : UnusedEmpty v
 
 -- "The accepted schema is the one that the file states." Beside a refusal stands the value of no schema.
 abbrev pub SchemaBy : Commands → Schema → FileAnswer → Type 0
-SchemaBy (stopped n p) v a = v ≡ noSchema
-SchemaBy (states g) v a = (a ≡ Accepted → meaning v ≡ schemaBy g) × (¬ (a ≡ Accepted) → v ≡ noSchema)
+SchemaBy k v a = (a ≡ answerIn accepted → OfStated k (λ g. StatedValue g v)) × (¬ (a ≡ answerIn accepted) → v ≡ noSchema)
 
 -- What the schema file's call answers.
 pub record FileMeans (file was is : List ℕ) (r : SchemaFile) : Type 0 where

@@ -6,9 +6,10 @@ use Prim.Native.Nat.{ℕ, zero, suc, _+_, _-_, _%_, _≤_, _<_}
 use lib.Dec.{eqb, leb, ltb}
 use lib.ListN.{length, getD, set}
 use Rattle.schema.specs.States.{member, insert}
-use Rattle.schema.specs.Value.{stepAt, meaning}
+use Rattle.schema.specs.Value.{stepAt}
 use Rattle.schema.specs.declared.value.Schema.{Schema}
-use Rattle.schema_file.specs.File.{inside, sameStep, Placed, Draft, Stated, stepCount, unknown, stopped, states, commands, schemaBy}
+use Rattle.schema_file.specs.File.{inside, sameStep, Placed, Draft, Stated, stepCount, unknown, stopped, states, commands}
+use Rattle.schema_file.specs.Answer.{EmptyFrom, StatedValue}
 use Rattle.schema_file.specs.declared.command.Command.{Command}
 use Rattle.schema_file.specs.declared.command.Command.the-variants.{Tags, TypeBlock, Final, Step, Root, Done, NoCommand}
 use Rattle.schema_file.specs.declared.state.State.{State}
@@ -186,6 +187,16 @@ pub record Sized (t : Tables) : Type 0 where
   pub to : length (t .to) ≡ 1024
   pub places : length (t .places) ≡ 1024
 
+-- past the first a types and the first n steps the tables hold 0
+pub record EmptyPast (t : Tables) (a n : ℕ) : Type 0 where
+  pub tag : EmptyFrom a (t .tag)
+  pub states : EmptyFrom a (t .states)
+  pub accepting : EmptyFrom a (t .accepting)
+  pub counts : EmptyFrom a (t .counts)
+  pub from : EmptyFrom n (t .from)
+  pub by : EmptyFrom n (t .by)
+  pub to : EmptyFrom n (t .to)
+
 -- The state and the tables hold what is stated.
 pub record Holds (g : Stated) (s : State) (t : Tables) : Type 0 where
   pub sized : Sized t
@@ -198,6 +209,7 @@ pub record Holds (g : Stated) (s : State) (t : Tables) : Type 0 where
   pub count-most : s .count ≤ 1024
   pub some : g .phase ≡ inside → 0 < s .types
   pub blocks : BlocksHold t (g .blocks)
+  pub empty : EmptyPast t (s .types) (s .count)
 
 -- the places of those of the n steps from i on that name no type below the count
 unfoldable pub unknownAt : List ℕ → List ℕ → ℕ → ℕ → ℕ → List ℕ
@@ -210,11 +222,11 @@ abbrev pub UnknownMeans : List ℕ → Unknown → Type 0
 UnknownMeans found (At p) = (getD found 0 0 ≡ p) × (0 < length found)
 UnknownMeans found NoStep = found ≡ []
 
--- the value states what the commands state, and the places of the steps that name no given type are those of its table
+-- the value is that of what the commands state, and the places of the steps that name no given type are those of its table
 pub record StatedBy (file : List ℕ) (v : Schema) (places : List ℕ) (count : ℕ) : Type 0 where
   pub stated : Stated
   pub commands-state : commands file ≡ states stated
-  pub schema : meaning v ≡ schemaBy stated
+  pub value : StatedValue stated v
   pub count-most : count ≤ 1024
   pub unknown-steps : unknown stated ≡ unknownAt (v .by) places (v .types) 0 count
 

@@ -5,18 +5,22 @@ use crate::command::size_of;
 use crate::state::State;
 use crate::state::asked_of;
 use crate::state::state_after;
-use crate::tables::STEPS;
-use crate::tables::TYPES;
 use crate::tables::add_final;
 use crate::tables::add_step;
 use crate::tables::add_type;
 use crate::tables::given_already;
+use schema::STEPS;
 use schema::Schema;
+use schema::TYPES;
 use sdtd::TypeNo;
 ghost use mathlib.Core.Path.{_≡_};
 ghost use Prim.Native.Nat.{_≤_};
+ghost use Rattle.sdtd.specs.Limits.{mostSteps};
 ghost use Rattle.schema_file.specs.Tables.{tables, tablesAfter, unknownAt, UnknownMeans, ReadMeans};
 ghost use Rattle.schema_file.specs.Answer.{noSchema};
+
+// The largest type number. Added modulo `TYPES` it takes one away.
+const LAST_TYPE: usize = TYPES - 1;
 
 // A refusal's number and place, or that all commands passed.
 pub(crate) enum Outcome {
@@ -59,14 +63,14 @@ fn obey<'a>(
         (now (from .entry)) (now (by .entry)) (now (to .entry)) (now (places .entry)))
         at command ⌝ }
 {
-    let last = (state.types % 64 + 63) % 64;
+    let last = (state.types % TYPES + LAST_TYPE) % TYPES;
     match command {
         Command::TypeBlock(g, k) => add_type(
             tag,
             states,
             accepting,
             counts,
-            state.types % 64,
+            state.types % TYPES,
             g,
             k,
         ),
@@ -78,7 +82,7 @@ fn obey<'a>(
             to,
             places,
             last,
-            state.count % 1024,
+            state.count % STEPS,
             p,
             j,
             q,
@@ -140,7 +144,7 @@ pub(crate) fn read_commands(file: &[u8]) -> ReadFile
     let mut at = 0;
     while state.phase != 4 {
         let command = command_at(file, at);
-        let last = (state.types % 64 + 63) % 64;
+        let last = (state.types % TYPES + LAST_TYPE) % TYPES;
         let given = given_already(&from, &by, &to, state.count, counts[last], command);
         let failed = asked_of(state, states[last], accepting[last], given, command);
         if failed != 0 {
@@ -191,7 +195,7 @@ pub(crate) fn first_unknown<'a>(
     types: u8,
     count: usize,
 ) -> Unknown
-    requires { ⌜ count ≤ 1024 ⌝ }
+    requires { ⌜ count ≤ mostSteps ⌝ }
     ensures { λ r. ⌜ UnknownMeans (unknownAt (now (by .entry)) (now (places .entry)) types 0 count) r ⌝ }
 {
     let mut i = 0;

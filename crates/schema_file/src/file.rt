@@ -4,9 +4,10 @@ use crate::commands::Unknown;
 use crate::commands::first_unknown;
 use crate::commands::no_schema;
 use crate::commands::read_commands;
+use competition::LEAST_WITNESS;
+use competition::Searched;
+use competition::competition;
 use schema::Schema;
-use schema::Searched;
-use schema::competition;
 use schema::trim;
 ghost use mathlib.Core.Path.{_≡_};
 ghost use Rattle.schema_file.specs.Answer.{FileMeans, noSchema};
@@ -37,7 +38,7 @@ fn refused(number: u8, place: usize) -> SchemaFile
 pub fn read(file: &[u8], witness: &mut [u8]) -> SchemaFile
     ensures { λ r. ⌜ FileMeans (now (file .entry)) (now (witness .entry)) (now (witness .exit)) r ⌝ }
 {
-    if witness.len() < 532 {
+    if witness.len() < LEAST_WITNESS {
         return refused(1, 0);
     }
     let all = read_commands(file);

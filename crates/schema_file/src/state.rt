@@ -1,10 +1,17 @@
 // What each command is asked, and where the file stands after it.
 use crate::command::Command;
+use schema::STATES;
+use schema::STEPS;
 use schema::StateSet;
+use schema::TAGS;
+use schema::TYPES;
 ghost use mathlib.Core.Path.{_≡_};
 ghost use mathlib.Core.Bool.{false};
 ghost use Rattle.schema_file.specs.declared.command.Command.the-variants.{TypeBlock, Final, Step};
 ghost use Rattle.schema_file.specs.Tables.{asked, otherAsked, stateAfter};
+
+// the most types, as a byte
+const TYPE_NUMBERS: u8 = TYPES as u8;
 
 // Where the file stands: 0 before TAGS, 1 before the first TYPE, 2 in a block, 3 after ROOT, 4 after DONE. The counts and the root so far.
 pub(crate) struct State {
@@ -30,10 +37,10 @@ fn type_asked(state: State, tag: u8, states: u8) -> u8
     if states == 0 {
         return 4;
     }
-    if 32 < states {
+    if STATES < states {
         return 4;
     }
-    if 64 <= state.types {
+    if TYPES <= state.types {
         return 5;
     }
     0
@@ -65,13 +72,13 @@ fn step_asked(state: State, own: u8, given: bool, p: u8, j: u8, q: u8) -> u8
     if own <= p {
         return 4;
     }
-    if 64 <= j {
+    if TYPE_NUMBERS <= j {
         return 4;
     }
     if own <= q {
         return 4;
     }
-    if 1024 <= state.count {
+    if STEPS <= state.count {
         return 5;
     }
     if given {
@@ -93,7 +100,7 @@ fn other_asked(state: State, command: Command) -> u8
             if n == 0 {
                 return 4;
             }
-            if 32 < n {
+            if TAGS < n {
                 return 4;
             }
             0
@@ -145,7 +152,7 @@ pub(crate) fn state_after(state: State, command: Command) -> State
         Command::TypeBlock(_, _) => State {
             phase: 2,
             tags: state.tags,
-            types: state.types % 64 + 1,
+            types: state.types % TYPES + 1,
             root: state.root,
             count: state.count,
         },
@@ -154,7 +161,7 @@ pub(crate) fn state_after(state: State, command: Command) -> State
             tags: state.tags,
             types: state.types,
             root: state.root,
-            count: state.count % 1024 + 1,
+            count: state.count % STEPS + 1,
         },
         Command::Root(a) => State {
             phase: 3,

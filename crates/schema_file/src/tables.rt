@@ -1,17 +1,27 @@
 // The tables that the commands fill.
 use crate::command::Command;
+use schema::STEPS;
 use schema::StateSet;
+use schema::TYPES;
 ghost use mathlib.Core.Path.{_≡_};
 ghost use Prim.Native.Nat.{_+_, _%_, _≤_, _<_};
 ghost use lib.ListN.{getD, set};
+ghost use Rattle.sdtd.specs.Limits.{mostTypes, mostSteps};
 ghost use Rattle.schema.specs.States.{insert};
+ghost use Rattle.schema_file.specs.File.{sameStep};
 ghost use Rattle.schema_file.specs.Tables.{givenIn, givenLast, givenAlready};
 
-pub const TYPES: usize = 64;
+// the most steps, as a type's count of them
+const MOST_COUNT: u16 = STEPS as u16;
 
-pub const STEPS: usize = 1024;
+// Is the step f, b, t the step p, j, q? All three parts are compared, with no branch.
+fn same_step(f: u8, b: u8, t: u8, p: u8, j: u8, q: u8) -> bool
+    ensures { λ r. ⌜ r ≡ sameStep p j q (record { from = f; by = b; to = t }) ⌝ }
+{
+    (f == p) & ((b == j) & (t == q))
+}
 
-// Is one of the n steps from start on this one?
+// Is one of the n steps from start on this one? All of them are compared.
 fn has_step<'a>(
     from: &'a [u8; STEPS],
     by: &'a [u8; STEPS],
@@ -22,22 +32,18 @@ fn has_step<'a>(
     j: u8,
     q: u8,
 ) -> bool
-    requires { ⌜ start + n ≤ 1024 ⌝ }
+    requires { ⌜ start + n ≤ mostSteps ⌝ }
     ensures { λ r. ⌜ r ≡ givenIn (now (from .entry)) (now (by .entry)) (now (to .entry)) p j q start n ⌝ }
 {
     let end = start + n;
+    let mut found = false;
     let mut i = start;
     while i < end {
-        if from[i] == p {
-            if by[i] == j {
-                if to[i] == q {
-                    return true;
-                }
-            }
-        }
+        let same = same_step(from[i], by[i], to[i], p, j, q);
+        found = found | same;
         i += 1;
     }
-    false
+    found
 }
 
 // Is one of the last n steps of the count this one?
@@ -89,7 +95,7 @@ pub(crate) fn add_type<'a>(
     g: u8,
     k: u8,
 )
-    requires { ⌜ a < 64 ⌝ }
+    requires { ⌜ a < mostTypes ⌝ }
     ensures { λ _. ⌜ (now (tag .exit) ≡ set (now (tag .entry)) a g)
         × (now (states .exit) ≡ set (now (states .entry)) a k)
         × (now (accepting .exit) ≡ set (now (accepting .entry)) a 0)
@@ -103,7 +109,7 @@ pub(crate) fn add_type<'a>(
 
 // One accepting state more.
 pub(crate) fn add_final(accepting: &mut [u32; TYPES], a: usize, q: u8)
-    requires { ⌜ a < 64 ⌝ }
+    requires { ⌜ a < mostTypes ⌝ }
     ensures { λ _. ⌜ now (accepting .exit) ≡ set (now (accepting .entry)) a (insert q (getD (now (accepting .entry)) a 0)) ⌝ }
 {
     let grown = StateSet(accepting[a]).with(q);
@@ -124,14 +130,14 @@ pub(crate) fn add_step<'a>(
     q: u8,
     at: usize,
 )
-    requires { ⌜ (a < 64) × (n < 1024) ⌝ }
-    ensures { λ _. ⌜ (now (counts .exit) ≡ set (now (counts .entry)) a (getD (now (counts .entry)) a 0 % 1024 + 1))
+    requires { ⌜ (a < mostTypes) × (n < mostSteps) ⌝ }
+    ensures { λ _. ⌜ (now (counts .exit) ≡ set (now (counts .entry)) a (getD (now (counts .entry)) a 0 % mostSteps + 1))
         × (now (from .exit) ≡ set (now (from .entry)) n p)
         × (now (by .exit) ≡ set (now (by .entry)) n j)
         × (now (to .exit) ≡ set (now (to .entry)) n q)
         × (now (places .exit) ≡ set (now (places .entry)) n at) ⌝ }
 {
-    counts[a] = counts[a] % 1024 + 1;
+    counts[a] = counts[a] % MOST_COUNT + 1;
     from[n] = p;
     by[n] = j;
     to[n] = q;

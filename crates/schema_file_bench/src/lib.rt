@@ -1,26 +1,34 @@
 // Exports for the benchmark of the schema file in bench/schema_file.
 use schema_file::FileAnswer;
 use schema_file::read;
+ghost use mathlib.Core.Path.{_≡_};
+ghost use Rattle.schema_file_bench.specs.Numbers.{numbersOf, ReadNumbers};
 
-// The answer as one number: 0 for accepted, or the refusal's number and place.
-fn answer(file: &[u8]) -> u64 {
-    let mut witness = [0u8; 532];
-    let all = read(file, &mut witness);
-    let answer = all.answer;
+// An answer: a refusal's number and place; 0 and 0 for accepted.
+#[repr(C)]
+pub struct Numbers {
+    pub number: u8,
+    pub place: usize,
+}
+
+fn as_numbers(answer: FileAnswer) -> Numbers
+    ensures { λ r. ⌜ r ≡ numbersOf answer ⌝ }
+{
     match answer {
-        FileAnswer::Accepted => 0,
-        FileAnswer::Refused(n, p) => n as u64 * 65536 + (p % 65536) as u64,
+        FileAnswer::Accepted => Numbers {
+            number: 0,
+            place: 0,
+        },
+        FileAnswer::Refused(number, place) => Numbers { number, place },
     }
 }
 
-// The answer to the file, found as many times as asked.
+// The answer to the file; on 9 the witness goes to the buffer.
 #[no_mangle]
-pub extern "C" fn schema_file_bench_read(file: &[u8], rounds: u32) -> u64 {
-    let mut last = 0;
-    let mut i: u32 = 0;
-    while i < rounds {
-        last = answer(file);
-        i += 1;
-    }
-    last
+pub extern "C" fn schema_file_bench_read(file: &[u8], witness: &mut [u8]) -> Numbers
+    ensures { λ r. ⌜ ReadNumbers (now (file .entry)) (now (witness .entry)) (now (witness .exit)) r ⌝ }
+{
+    let all = read(file, witness);
+    let answer = all.answer;
+    as_numbers(answer)
 }

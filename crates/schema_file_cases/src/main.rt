@@ -3,8 +3,8 @@
 // A case is two numbers of two bytes, low byte first, the length of the witness buffer and that of
 // the file, and then the file. Two numbers of FF FF end the cases. The lines are `accepted`,
 // `refused N at P` or, for 9, `refused 9 at 0 type A`; `buffer changed` follows where a byte
-// changed that had to stay. J, K and w are the reader's choice, so they go to standard error, for
-// `tests/confirm.py`: `case I witness A J K n w..`.
+// changed that had to stay. J, K and w are the reader's choice, so after a 9 comes a line of its
+// own, `case I witness A J K n w..`, which `tests/confirm.py` confirms.
 use schema_file::FileAnswer;
 ghost use Prim.Native.Nat.{_<_};
 
@@ -16,8 +16,6 @@ const BUFFER: usize = 600;
 const PATTERN: u8 = 0xA5;
 
 const OUT: i32 = 1;
-
-const ERR: i32 = 2;
 
 fn wide(n: u8) -> u64 {
     n as u64
@@ -46,8 +44,8 @@ fn kept(buffer: &[u8; BUFFER], from: usize) -> bool {
 }
 
 fn print_byte(n: u8) {
-    io::write_all(ERR, b" ");
-    io::print_decimal(ERR, wide(n));
+    io::write_all(OUT, b" ");
+    io::print_decimal(OUT, wide(n));
 }
 
 // Prints the word of `n` types that stands in the buffer from byte 5 on.
@@ -60,16 +58,16 @@ fn print_word(buffer: &[u8; BUFFER], n: usize) {
 }
 
 fn print_witness(case: u32, buffer: &[u8; BUFFER], n: usize) {
-    io::write_all(ERR, b"case ");
-    io::print_decimal(ERR, case as u64);
-    io::write_all(ERR, b" witness");
+    io::write_all(OUT, b"case ");
+    io::print_decimal(OUT, case as u64);
+    io::write_all(OUT, b" witness");
     print_byte(buffer[0]);
     print_byte(buffer[1]);
     print_byte(buffer[2]);
-    io::write_all(ERR, b" ");
-    io::print_decimal(ERR, long(n));
+    io::write_all(OUT, b" ");
+    io::print_decimal(OUT, long(n));
     print_word(buffer, n);
-    io::write_all(ERR, b"\n");
+    io::write_all(OUT, b"\n");
 }
 
 fn print_refused(number: u8, place: usize) {

@@ -1,13 +1,13 @@
 // What the library answers, written to standard output.
+use competition::PairNumber;
+use competition::Searched;
+use competition::competition;
+use competition::pair_number;
 use libc::STDOUT_FILENO;
-use schema::PairNumber;
 use schema::STATES;
 use schema::Schema;
-use schema::Searched;
 use schema::StateSet;
 use schema::TYPES;
-use schema::competition;
-use schema::pair_number;
 use schema::trim;
 use schema::within;
 

@@ -1,46 +1,16 @@
--- `schema_bench_trim` is safe and ends.
-use Prim.Native.Nat.{_-_}
+-- `schema_bench_trim` meets its contract: it has the fields of `trim` of the value of the fields.
 use borrow.Author.Needs.{needs}
 use Rattle.schema_bench.proofs.schema_bench_trim.Statement.{statement}
 use Rattle.schema_bench.proofs.schema_bench_trim.Tie as tie
 
-abbrev Inv-loop : tie.InvT-loop
-Inv-loop flat rounds schema answer₀ i₀ answer i = Unit
+value-requires : tie.Need-value-requires
+value-requires c κs = search needs
 
-abbrev μ-loop : tie.MeasureT-loop
-μ-loop flat rounds schema answer₀ i₀ answer i = rounds - i
+trim-requires : tie.Need-trim-requires
+trim-requires c κs = search needs
 
-read-requires : tie.Need-read-requires Inv-loop μ-loop
-read-requires c κs = search needs
-
-loop-holds : tie.Need-loop-holds Inv-loop μ-loop
-loop-holds c = search needs
-
-trim-once-requires : tie.Need-trim-once-requires Inv-loop μ-loop
-trim-once-requires c κs = search needs
-
-add-i : tie.Need-add-i Inv-loop μ-loop
-add-i c = search needs
-
-loop-less : tie.Need-loop-less Inv-loop μ-loop
-loop-less c = search needs
-
-loop-again : tie.Need-loop-again Inv-loop μ-loop
-loop-again c = search needs
-
-returns : tie.Need-returns Inv-loop μ-loop
-returns c = search needs
+returns : tie.Need-returns
+returns c = rw (c .before .before .before .before .value .ensures) at (c .before .before .before .trim .ensures)
 
 pub schema-bench-trim-spec : {M : Type 1} → statement M
-schema-bench-trim-spec =
-    tie.close
-    (tie.spec
-    Inv-loop
-    μ-loop
-    read-requires
-    loop-holds
-    trim-once-requires
-    add-i
-    loop-less
-    loop-again
-    returns)
+schema-bench-trim-spec = tie.close (tie.spec value-requires trim-requires returns)

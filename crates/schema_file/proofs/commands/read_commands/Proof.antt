@@ -1,12 +1,13 @@
 -- `schema_file::commands::read_commands` meets its contract. The loop's invariant: the state and the tables hold what the commands so far
 -- state, and the commands from the place on decide. The measure is what is left of the file: a command that passed ends inside it.
-use mathlib.Core.Path.{_≡_, sym, _∙_}
+use mathlib.Core.Path.{_≡_, refl, sym, _∙_}
 use Prim.Native.Nat.{_+_, _-_, _≤_, _<_}
 use native.Mathlib.Omega.{arith}
 use lib.ListN.{length}
 use Rattle.schema_file.specs.Command.{commandAt}
 use Rattle.schema_file.specs.Tables.{Tables, askedBy}
 use Rattle.schema_file.specs.declared.command.Command.{Command}
+use Rattle.schema_file.proofs.Drafts.{zeros-empty}
 use Rattle.schema_file.proofs.CommandLaws.{Reads, reads-first, asked-by, reads-stopped}
 use Rattle.schema_file.proofs.CommandLaws.{reads-inside, reads-next, reads-over, reads-stated}
 use Rattle.schema_file.proofs.commands.read_commands.Statement.{statement}
@@ -78,7 +79,27 @@ inside c =
     reads-inside (at-loop a .loop .inv) (command a) (passed (passing c)) (c .size-of .ensures)
 
 loop-holds : tie.Need-loop-holds Inv-loop μ-loop
-loop-holds c = reads-first _
+loop-holds c =
+    reads-first _
+    (record {
+      tag = refl;
+      states = refl;
+      accepting = refl;
+      counts = refl;
+      from = refl;
+      by = refl;
+      to = refl;
+      places = refl;
+    })
+    (record {
+      tag = zeros-empty 64;
+      states = zeros-empty 64;
+      accepting = zeros-empty 64;
+      counts = zeros-empty 64;
+      from = zeros-empty 1024;
+      by = zeros-empty 1024;
+      to = zeros-empty 1024;
+    })
 
 command-at-requires : tie.Need-command-at-requires Inv-loop μ-loop
 command-at-requires c κs = tt

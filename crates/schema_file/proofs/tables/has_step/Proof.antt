@@ -1,53 +1,45 @@
--- `schema_file::tables::has_step` meets its contract. The loop's invariant: the step is one of those left exactly where it is one of all.
-use mathlib.Core.Path.{_≡_, sym, _∙_}
-use mathlib.Core.Logic.{⊎-elim}
-use mathlib.Core.Bool.{true, false}
+-- `schema_file::tables::has_step` meets its contract. The loop's invariant: the step was found, or is one of those left, exactly where it is
+-- one of all.
+use mathlib.Core.Path.{_≡_, refl, sym, _∙_}
+use mathlib.Core.Bool.{Bool, true, false, _||_}
 use mathlib.Core.List.{List}
 use Prim.Native.Nat.{ℕ, suc, _+_, _-_, _≤_, _<_}
 use native.Mathlib.Numerals.{add-one}
 use native.Mathlib.Omega.{arith}
-use borrow.Author.Tests.{eq-eqb, ne-eqb}
-use lib.ListN.{getD}
+use borrow.Author.Needs.{needs}
 use Rattle.schema.specs.Value.{stepAt}
 use Rattle.schema_file.specs.File.{sameStep}
 use Rattle.schema_file.specs.Tables.{givenIn}
 use Rattle.schema_file.proofs.tables.has_step.Statement.{statement}
 use Rattle.schema_file.proofs.tables.has_step.Tie as tie
 
-module _ (from by to : List ℕ) (p j q i : ℕ) where
-  here : (n : ℕ) → 0 < n → getD from i 0 ≡ p → getD by i 0 ≡ j → getD to i 0 ≡ q → givenIn from by to p j q i n ≡ true
-  unfolding givenIn
-  here n l a b d =
-      let e : n ≡ suc (n - 1) = omega arith in
-      rw (e, eq-eqb (getD from i 0) p a, eq-eqb (getD by i 0) j b, eq-eqb (getD to i 0) q d)
+or-step : (a b d : Bool) → ((a || b) || d) ≡ (a || (b || d))
+or-step true b d = refl
+or-step false b d = refl
 
-  later : (end : ℕ) → i < end → sameStep p j q (stepAt from by to i) ≡ false
-      → givenIn from by to p j q (i + 1) (end - (i + 1)) ≡ givenIn from by to p j q i (end - i)
+or-none : (a : Bool) → (a || false) ≡ a
+or-none true = refl
+or-none false = refl
+
+module _ (from by to : List ℕ) (p j q i : ℕ) (found : Bool) where
+  later : (end : ℕ) → i < end
+      → ((found || sameStep p j q (stepAt from by to i)) || givenIn from by to p j q (i + 1) (end - (i + 1)))
+      ≡ (found || givenIn from by to p j q i (end - i))
   unfolding givenIn
-  later end l f =
+  later end l =
       let e : end - i ≡ suc (end - (i + 1)) = omega arith in
-      rw (e, f, add-one i)
+      rw (e, add-one i) (or-step found _ _)
 
-  none-left : (n : ℕ) → n ≡ 0 → givenIn from by to p j q i n ≡ false
+  none-left : (n : ℕ) → n ≡ 0 → (found || givenIn from by to p j q i n) ≡ found
   unfolding givenIn
-  none-left n e = rw e
+  none-left n e = rw e (or-none found)
 
 abbrev Inv-loop : tie.InvT-loop
-Inv-loop from by to start n p j q end i₀ i =
-    (start ≤ i) × (i ≤ end) × (givenIn from by to p j q i (end - i) ≡ givenIn from by to p j q start n)
+Inv-loop from by to start n p j q end found₀ i₀ found i =
+    (start ≤ i) × (i ≤ end) × ((found || givenIn from by to p j q i (end - i)) ≡ givenIn from by to p j q start n)
 
 abbrev μ-loop : tie.MeasureT-loop
-μ-loop from by to start n p j q end i₀ i = end - i
-
--- another step stands at i
-other : (c : tie.Joined1 Inv-loop μ-loop)
-    → let a = c .before .before .before .before .args in
-    sameStep (a .p) (a .j) (a .q) (stepAt (a .from .now) (a .by .now) (a .to .now) (c .before .before .before .loop .i)) ≡ false
-other c =
-    ⊎-elim
-    (λ w. rw (eq-eqb _ _ (w .0 .taken), eq-eqb _ _ (w .2 .taken), ne-eqb _ _ (w .4 .left)))
-    (⊎-elim (λ w. rw (eq-eqb _ _ (w .0 .taken), ne-eqb _ _ (w .2 .left))) (λ w. rw (ne-eqb _ _ (w .left))))
-    (c .if1 .came)
+μ-loop from by to start n p j q end found₀ i₀ found i = end - i
 
 add-end : tie.Need-add-end Inv-loop μ-loop
 add-end c = omega arith
@@ -58,21 +50,17 @@ loop-holds c =
     let e : a .start + a .n - a .start ≡ a .n = omega arith in
     (omega arith, omega arith, rw e)
 
-element-copy-out-if1 : tie.Need-element-copy-out-if1 Inv-loop μ-loop
-element-copy-out-if1 c = omega arith
+element-copy-out-same-step : tie.Need-element-copy-out-same-step Inv-loop μ-loop
+element-copy-out-same-step c = omega arith
 
-element-copy-out-if2 : tie.Need-element-copy-out-if2 Inv-loop μ-loop
-element-copy-out-if2 c = omega arith
+element-copy-out-same-step-2 : tie.Need-element-copy-out-same-step-2 Inv-loop μ-loop
+element-copy-out-same-step-2 c = omega arith
 
-element-copy-out-if3 : tie.Need-element-copy-out-if3 Inv-loop μ-loop
-element-copy-out-if3 c = omega arith
+element-copy-out-same-step-3 : tie.Need-element-copy-out-same-step-3 Inv-loop μ-loop
+element-copy-out-same-step-3 c = omega arith
 
-returns : tie.Need-returns Inv-loop μ-loop
-returns c =
-    let t2 = c .before .before in
-    let t1 = t2 .before .before in
-    let l = t1 .before .before .before .loop in
-    sym (here _ _ _ _ _ _ _ _ (omega arith) (t1 .if1 .taken) (t2 .if2 .taken) (c .if3 .taken)) ∙ l .inv .2
+same-step-requires : tie.Need-same-step-requires Inv-loop μ-loop
+same-step-requires c κs = search needs
 
 add-i : tie.Need-add-i Inv-loop μ-loop
 add-i c = omega arith
@@ -81,10 +69,14 @@ loop-less : tie.Need-loop-less Inv-loop μ-loop
 loop-less c = omega arith
 
 loop-again : tie.Need-loop-again Inv-loop μ-loop
-loop-again c = (omega arith, omega arith, later _ _ _ _ _ _ _ _ (omega arith) (other c) ∙ c .before .before .before .loop .inv .2)
+loop-again c =
+    let k = c .before .before .before .before .before in
+    let a = k .before .args in
+    let more = later (a .from .now) (a .by .now) (a .to .now) (a .p) (a .j) (a .q) (k .loop .i) (k .loop .found) (a .start + a .n) (omega arith) in
+    (omega arith, omega arith, rw (c .same-step .ensures) (more ∙ k .loop .inv .2))
 
-returns-2 : tie.Need-returns-2 Inv-loop μ-loop
-returns-2 c = sym (none-left _ _ _ _ _ _ _ _ (omega arith)) ∙ c .before .loop .inv .2
+returns : tie.Need-returns Inv-loop μ-loop
+returns c = sym (none-left _ _ _ _ _ _ _ _ _ (omega arith)) ∙ c .before .loop .inv .2
 
 pub has-step-spec : {M : Type 1} → statement M
 has-step-spec =
@@ -94,11 +86,11 @@ has-step-spec =
     μ-loop
     add-end
     loop-holds
-    element-copy-out-if1
-    element-copy-out-if2
-    element-copy-out-if3
-    returns
+    element-copy-out-same-step
+    element-copy-out-same-step-2
+    element-copy-out-same-step-3
+    same-step-requires
     add-i
     loop-less
     loop-again
-    returns-2)
+    returns)

@@ -1,0 +1,137 @@
+-- The queue of the pair search: what holds of its entries and marks, and that a pair joins it keeping that.
+use mathlib.Core.Path.{_≡_, refl, sym, subst}
+use mathlib.Core.Logic.{_⊎_, inl, inr, ⊎-elim}
+use mathlib.Core.Bool.{Bool, true, false}
+use mathlib.Core.List.{List, [], _∷_}
+use Prim.Native.Nat.{ℕ, zero, suc, _+_, _<_, _≤_}
+use native.Mathlib.Decide.{decLt}
+use native.Mathlib.Omega.{arith}
+use lib.Dec.{T}
+use lib.ListN.{length, getD, set, length-set}
+use lib.Seq.{getD-set-same, getD-set-other}
+use Rattle.sdtd.specs.Competition.{pairNumber}
+use Rattle.sdtd.proofs.Rounds.{count, count-le, count-set}
+use Rattle.competition.specs.Marks.{Marks, firstOf, secondOf, parentOf}
+use Rattle.competition.specs.Queue.{FoundFrom}
+
+-- the pair with the number n is marked
+abbrev pub IsMarked : Marks → ℕ → Type 0
+IsMarked m n = T (getD (m .reached) n false)
+
+-- the entry at a place, and the number of an entry's pair
+abbrev pub entryAt : Marks → ℕ → ℕ
+entryAt m i = getD (m .queue) i 0
+
+abbrev pub numberOf : ℕ → ℕ
+numberOf e = pairNumber (firstOf e) (secondOf e)
+
+-- an entry of the queue has the pair number n
+pub record Placed (m : Marks) (n : ℕ) : Type 0 where
+  pub place : ℕ
+  pub inside : place < m .count
+  pub is : numberOf (entryAt m place) ≡ n
+
+-- The marked numbers are those of the entries, each number once; the first entry is the pair 0, 0, and each other was found from an
+-- earlier one.
+pub record Kept (next bears : List ℕ) (types : ℕ) (m : Marks) : Type 0 where
+  pub reached-length : length (m .reached) ≡ 528
+  pub queue-length : length (m .queue) ≡ 528
+  pub counted : count (m .reached) ≡ m .count
+  pub some : 0 < m .count
+  pub most : m .count ≤ 528
+  pub first : entryAt m 0 ≡ 0
+  pub marked : (i : ℕ) → i < m .count → IsMarked m (numberOf (entryAt m i))
+  pub placed : (n : ℕ) → IsMarked m n → Placed m n
+  pub linked : (i : ℕ) → 0 < i → i < m .count → parentOf (entryAt m i) < i
+  pub found : (i : ℕ) → 0 < i → i < m .count → FoundFrom next bears types (m .queue) (entryAt m i)
+
+-- a mark set leaves the others as they were
+pub set-marks : (l : List Bool) (n k : ℕ) → T (getD l k false) → T (getD (set l n true) k false)
+set-marks [] n k t = t
+set-marks (b ∷ l) zero zero t = tt
+set-marks (b ∷ l) zero (suc k) t = t
+set-marks (b ∷ l) (suc n) zero t = t
+set-marks (b ∷ l) (suc n) (suc k) t = set-marks l n k t
+
+pub set-marked : (l : List Bool) (n k : ℕ) → T (getD (set l n true) k false) → (k ≡ n) ⊎ T (getD l k false)
+set-marked [] n k t = inr t
+set-marked (b ∷ l) zero zero t = inl refl
+set-marked (b ∷ l) zero (suc k) t = inr t
+set-marked (b ∷ l) (suc n) zero t = inr t
+set-marked (b ∷ l) (suc n) (suc k) t = ⊎-elim (λ e. inl (omega arith)) (λ u. inr u) (set-marked l n k t)
+
+-- the marks with one more pair, that of the number n and the entry e
+abbrev pub joined : Marks → ℕ → ℕ → Marks
+joined m n e = record { reached = set (m .reached) n true; queue = set (m .queue) (m .count) e; count = m .count + 1 }
+
+module _ {next bears : List ℕ} {types : ℕ} {m : Marks} (kept : Kept next bears types m) (n e : ℕ) (is : numberOf e ≡ n) (inside : n < 528)
+    (new : getD (m .reached) n false ≡ false) where
+  pub room : m .count < 528
+  room =
+      omega (
+        arith,
+        count-le (set (m .reached) n true),
+        length-set (m .reached) n true,
+        count-set (m .reached) n (omega (arith, kept .reached-length)) new,
+        kept .reached-length,
+        kept .counted,
+      )
+
+  pub old-entry : (i : ℕ) → i < m .count → entryAt (joined m n e) i ≡ entryAt m i
+  old-entry i h = getD-set-other (m .queue) (m .count) i e 0 (omega arith)
+
+  new-entry : entryAt (joined m n e) (m .count) ≡ e
+  new-entry = getD-set-same (m .queue) (m .count) e 0 (omega (arith, room, kept .queue-length))
+
+  pub new-mark : IsMarked (joined m n e) n
+  new-mark = rw (getD-set-same (m .reached) n true false (omega (arith, kept .reached-length))) tt
+
+  -- what holds of the entries so far and of the new one holds of all
+  each : (P : ℕ → ℕ → Type 0) → ((i : ℕ) → i < m .count → P i (entryAt m i)) → P (m .count) e
+      → (i : ℕ) → i < m .count + 1 → P i (entryAt (joined m n e) i)
+  each P olds ne i h =
+      elim (decLt i (m .count)) [
+        | yes l ↦ subst (P i) (sym (old-entry i l)) (olds i l)
+        | no l ↦
+            let is-last : m .count ≡ i = omega arith in
+            subst (λ (j : ℕ). P j (entryAt (joined m n e) j)) is-last (subst (P (m .count)) (sym new-entry) ne)
+      ]
+
+  join-placed : (k : ℕ) → IsMarked (joined m n e) k → Placed (joined m n e) k
+  join-placed k t =
+      ⊎-elim
+      (λ same. record { place = m .count; inside = omega arith; is = rw new-entry (rw same is) })
+      (λ u. let r = kept .placed k u in
+      record { place = r .place; inside = omega (arith, r .inside); is = rw (old-entry (r .place) (r .inside)) (r .is) })
+      (set-marked (m .reached) n k t)
+
+  module _ (parent : parentOf e < m .count) (led : FoundFrom next bears types (m .queue) e) where
+    join-found : (i : ℕ) → i < m .count + 1 → 0 < i → FoundFrom next bears types (joined m n e .queue) (entryAt (joined m n e) i)
+    join-found =
+        each
+        (λ i x. 0 < i → FoundFrom next bears types (joined m n e .queue) x)
+        (λ i h p. still (entryAt m i) (omega (arith, kept .linked i p h)) (kept .found i p h))
+        (λ p. still e parent led)
+      where
+        still : (x : ℕ) → parentOf x < m .count → FoundFrom next bears types (m .queue) x
+            → FoundFrom next bears types (joined m n e .queue) x
+        still x h f = rw (old-entry (parentOf x) h) f
+
+    pub join-kept : Kept next bears types (joined m n e)
+    join-kept =
+        record {
+          reached-length = simp length-set (kept .reached-length);
+          queue-length = simp length-set (kept .queue-length);
+          counted = omega (arith, count-set (m .reached) n (omega (arith, kept .reached-length)) new, kept .counted);
+          some = omega arith;
+          most = omega (arith, room);
+          first = rw (old-entry 0 (kept .some)) (kept .first);
+          marked =
+              each
+              (λ i x. IsMarked (joined m n e) (numberOf x))
+              (λ i h. set-marks (m .reached) n (numberOf (entryAt m i)) (kept .marked i h))
+              (rw is new-mark);
+          placed = join-placed;
+          linked = λ i p h. each (λ j x. 0 < j → parentOf x < j) (λ j l z. kept .linked j z l) (λ z. parent) i h p;
+          found = λ i p h. join-found i h p;
+        }

@@ -1,0 +1,9 @@
+-- Laws of what the loops of the search compute.
+pub mod NextStates
+pub mod MarkLaws
+pub mod Kept
+pub mod MarkGrowth
+pub mod Queues
+pub mod Words
+pub mod Compete
+pub mod Outcome

@@ -1,0 +1,183 @@
+-- The loop of the pair search: its invariant, and what holds at its end.
+use mathlib.Core.Path.{_≡_, refl, sym}
+use mathlib.Core.Logic.{⊎-elim}
+use mathlib.Core.Bool.{true, false}
+use mathlib.Core.List.{List}
+use Prim.Native.Nat.{ℕ, zero, suc, _<_, _≤_}
+use native.Mathlib.Decide.{decLt}
+use native.Mathlib.Omega.{arith}
+use lib.Dec.{T}
+use lib.ListN.{length, getD, set, replicate, length-set, length-replicate}
+use lib.Seq.{getD-set-same}
+use Rattle.sdtd.specs.Competition.{pairNumber}
+use Rattle.sdtd.proofs.Pairs.{pair-swap-number, pair-one-number}
+use Rattle.sdtd.proofs.Rounds.{count, count-set}
+use Rattle.competition.specs.Marks.{Marks, firstOf, secondOf, markStep, firstMarks}
+use Rattle.competition.specs.Rivals.{AreRivals}
+use Rattle.competition.specs.Queue.{Leading, ClosedPairs, TrailToRivals}
+use Rattle.competition.proofs.Kept.{IsMarked, entryAt, numberOf, Placed, Kept, set-marked}
+use Rattle.competition.proofs.MarkGrowth.{Grows, LedBy, step-grows}
+
+-- all that the pair p, q leads to is marked, and it has no rivals
+pub record Done (next bears tag : List ℕ) (own types : ℕ) (m : Marks) (p q : ℕ) : Type 0 where
+  pub closed : (j p′ q′ : ℕ) → p′ < 32 → q′ < 32 → Leading next bears types p q j p′ q′ → IsMarked m (pairNumber p′ q′)
+  pub no-rivals : (j k : ℕ) → ¬ AreRivals next bears tag own types p q j k
+
+-- the pairs of the entries before the place `at` are done
+pub record SearchInv (next bears tag : List ℕ) (own types : ℕ) (at : ℕ) (m : Marks) : Type 0 where
+  pub kept : Kept next bears types m
+  pub before : at ≤ m .count
+  pub done : (i : ℕ) → i < at → Done next bears tag own types m (firstOf (entryAt m i)) (secondOf (entryAt m i))
+
+-- at the start no pair is marked
+no-mark : (n k : ℕ) → T (getD (replicate n false) k false) → ⊥
+no-mark zero k t = t
+no-mark (suc n) zero t = t
+no-mark (suc n) (suc k) t = no-mark n k t
+
+none-counted : (n : ℕ) → count (replicate n false) ≡ 0
+none-counted zero = refl
+none-counted (suc n) = none-counted n
+
+first-unmarked : (n : ℕ) → getD (replicate n false) 0 false ≡ false
+first-unmarked zero = refl
+first-unmarked (suc n) = refl
+
+-- then the pair 0, 0 is the only one
+module _ (next bears : List ℕ) (types n : ℕ) (full : n ≡ 528) (queue : List ℕ) (sized : length queue ≡ 528) where
+  first-entry : getD (set queue 0 0) 0 0 ≡ 0
+  first-entry = getD-set-same queue 0 0 0 (omega arith)
+
+  first-counted : count (set (replicate n false) 0 true) ≡ 1
+  first-counted =
+      omega (
+        arith,
+        count-set (replicate n false) 0 (omega (arith, length-replicate n false)) (first-unmarked n),
+        none-counted n,
+      )
+
+  first-marked : (i : ℕ) → i < 1 → IsMarked (firstMarks (replicate n false) queue) (numberOf (getD (set queue 0 0) i 0))
+  first-marked zero h =
+      rw (first-entry, getD-set-same (replicate n false) 0 true false (omega (arith, length-replicate n false))) tt
+  first-marked (suc i) h = absurd (omega arith)
+
+  first-placed : (k : ℕ) → IsMarked (firstMarks (replicate n false) queue) k → Placed (firstMarks (replicate n false) queue) k
+  first-placed k t =
+      ⊎-elim
+      (λ e. record { place = 0; inside = omega arith; is = rw first-entry (sym e) })
+      (λ u. absurd (no-mark n k u))
+      (set-marked (replicate n false) 0 k t)
+
+  first-kept : Kept next bears types (firstMarks (replicate n false) queue)
+  first-kept =
+      record {
+        reached-length = simp (length-set, length-replicate) full;
+        queue-length = simp length-set sized;
+        counted = first-counted;
+        some = omega arith;
+        most = omega arith;
+        first = first-entry;
+        marked = first-marked;
+        placed = first-placed;
+        linked = λ i p h. absurd (omega arith);
+        found = λ i p h. absurd (omega arith);
+      }
+
+-- of a pair the states change places
+leading-swap : {next bears : List ℕ} {types p q j p′ q′ : ℕ} → Leading next bears types p q j p′ q′ → Leading next bears types q p j q′ p′
+leading-swap l = record { below = l .below; bearing = l .bearing; left = l .right; right = l .left }
+
+module _ {next bears tag : List ℕ} {own types : ℕ} where
+  pub search-first : (queue : List ℕ) → length queue ≡ 528
+      → SearchInv next bears tag own types 0 (firstMarks (replicate 528 false) queue)
+  search-first queue h =
+      record { kept = first-kept next bears types 528 refl queue h; before = omega arith; done = λ i l. absurd (omega arith) }
+
+  -- a pair that is done stays done
+  done-grows : {at e : ℕ} {m m′ : Marks} {New : ℕ → ℕ → Type 0} {p q : ℕ} → Grows next bears types at e m m′ New
+      → Done next bears tag own types m p q → Done next bears tag own types m′ p q
+  done-grows g d =
+      record { closed = λ j p′ q′ hp hq l. g .marks (pairNumber p′ q′) (d .closed j p′ q′ hp hq l); no-rivals = d .no-rivals }
+
+  rivals-swap : {p q j k : ℕ} → AreRivals next bears tag own types p q j k → AreRivals next bears tag own types q p k j
+  rivals-swap r =
+      record {
+        below = r .rival .below;
+        ahead = r .rival .ahead;
+        rival =
+            record {
+              below = r .below;
+              different = λ e. r .rival .different (sym e);
+              one-tag = sym (r .rival .one-tag);
+              ahead = r .ahead;
+            };
+      }
+
+  done-swap : {m : Marks} {p q : ℕ} → Done next bears tag own types m p q → Done next bears tag own types m q p
+  done-swap d =
+      record {
+        closed = λ j p′ q′ hp hq l. rw (pair-swap-number p′ q′) (d .closed j q′ p′ hq hp (leading-swap l));
+        no-rivals = λ j k r. d .no-rivals k j (rivals-swap r);
+      }
+
+  module _ {at : ℕ} {m : Marks} (inv : SearchInv next bears tag own types at m) where
+    -- once its step is taken, the pair at the place `at` is done too
+    now-done : {e : ℕ} {m′ : Marks} → Grows next bears types at e m m′ (LedBy next bears types at e 0 types)
+        → ((j k : ℕ) → ¬ AreRivals next bears tag own types (firstOf e) (secondOf e) j k)
+        → (i : ℕ) → i < suc at → Done next bears tag own types m′ (firstOf (entryAt m′ i)) (secondOf (entryAt m′ i))
+    now-done g none i h =
+        elim (decLt i at) [
+          | yes l ↦ rw (g .entries i (omega (arith, inv .before))) (done-grows g (inv .done i l))
+          | no l ↦
+              let last : i ≡ at = omega arith in
+              rw (last, g .ready .here)
+              (record {
+                closed =
+                    λ j p q hp hq l.
+                    let below : j < types = l .below in
+                    g .new p q
+                    (record { by = j; least = omega arith; most = omega arith; first-below = hp; second-below = hq; leads = l });
+                no-rivals = none;
+              })
+        ]
+
+    pub search-next : at < m .count → types ≤ 64
+        → ((j k : ℕ) → ¬ AreRivals next bears tag own types (firstOf (entryAt m at)) (secondOf (entryAt m at)) j k)
+        → SearchInv next bears tag own types (suc at) (markStep next bears types at m)
+    search-next inside few none =
+        let g = step-grows next bears types at (entryAt m at) few m (record { kept = inv .kept; inside = inside; here = refl }) in
+        record { kept = g .ready .kept; before = g .ready .inside; done = now-done g none }
+
+    -- at the end each marked pair is done
+    done-marked : m .count ≤ at → (p q : ℕ) → IsMarked m (pairNumber p q) → Done next bears tag own types m p q
+    done-marked h p q t =
+        let r = inv .kept .placed (pairNumber p q) t in
+        let e : ℕ = entryAt m (r .place) in
+        let d : Done next bears tag own types m (firstOf e) (secondOf e) = inv .done (r .place) (omega (arith, r .inside)) in
+        ⊎-elim
+        (λ s. rw (s .0, s .1) at d)
+        (λ s. done-swap (rw (s .0, s .1) at d))
+        (pair-one-number (firstOf e) (secondOf e) p q (r .is))
+
+    pub search-done : m .count ≤ at → ClosedPairs next bears tag own types (m .reached)
+    search-done h =
+        record {
+          first = rw (inv .kept .first) at (inv .kept .marked 0 (inv .kept .some));
+          closed = λ p q j p′ q′ hp hq hp′ hq′ t l. done-marked h p q t .closed j p′ q′ hp′ hq′ l;
+          no-rivals = λ p q j k hp hq t. done-marked h p q t .no-rivals j k;
+        }
+
+    pub search-found : {j k : ℕ} → at < m .count
+        → AreRivals next bears tag own types (firstOf (entryAt m at)) (secondOf (entryAt m at)) j k
+        → TrailToRivals next bears tag own types (m .queue) at j k
+    search-found h r =
+        record {
+          trail =
+              record {
+                inside = omega (arith, inv .kept .most);
+                first = (rw (inv .kept .first), rw (inv .kept .first));
+                linked = λ i p l. inv .kept .linked i p (omega arith);
+                found = λ i p l. inv .kept .found i p (omega arith);
+              };
+          rivals = r;
+        }

@@ -1,0 +1,28 @@
+-- `schema::marks::search_step` meets its contract.
+use borrow.Author.Needs.{needs}
+use Rattle.competition.specs.Marks.{markStep}
+use Rattle.competition.proofs.marks.search_step.Statement.{statement}
+use Rattle.competition.proofs.marks.search_step.Tie as tie
+
+mul-entry : tie.Need-mul-entry
+mul-entry c = search needs
+
+element-copy-out-entry : tie.Need-element-copy-out-entry
+element-copy-out-entry c = search needs
+
+cast-p : tie.Need-cast-p
+cast-p c = search needs
+
+cast-q : tie.Need-cast-q
+cast-q c = search needs
+
+mark-types-requires : tie.Need-mark-types-requires
+mark-types-requires c κs = search needs
+
+returns : tie.Need-returns
+unfolding markStep
+returns c = c .mark-types .ensures
+
+pub search-step-spec : {M : Type 1} → statement M
+search-step-spec =
+    tie.close (tie.spec mul-entry element-copy-out-entry cast-p cast-q mark-types-requires returns)

@@ -1,0 +1,89 @@
+-- `schema::search::competition` meets its contract: by the tables of the trimming, what the search finds is the smallest type in which two
+-- compete, with a word after which they do; or there is none.
+use mathlib.Core.Path.{_≡_, refl, sym, subst}
+use mathlib.Core.Logic.{_↔_}
+use mathlib.Core.Bool.{Bool, false, not}
+use native.Mathlib.Omega.{arith}
+use borrow.Author.Needs.{needs}
+use borrow.Author.Tests.{not-false}
+use lib.Dec.{T, T-not}
+use Rattle.schema.proofs.LimitLaws.{within-room, passed}
+use Rattle.competition.proofs.Outcome.{none-compete, competing, found-written}
+use Rattle.competition.proofs.search.competition.Statement.{statement}
+use Rattle.competition.proofs.search.competition.Tie as tie
+
+returns : tie.Need-returns
+returns c = search needs
+
+within-requires : tie.Need-within-requires
+within-requires c κs = search needs
+
+returns-2 : tie.Need-returns-2
+returns-2 c = (λ w. T-not (c .before .within .result) (rw (c .if2 .taken) tt) (c .before .within .ensures .1 (w .0)), refl)
+
+trim-requires : tie.Need-trim-requires
+trim-requires c κs = search needs
+
+cast-types : tie.Need-cast-types
+cast-types c = search needs
+
+first-competing-requires : tie.Need-first-competing-requires
+first-competing-requires c κs =
+    let start = c .before .before .before .before .before .before .before .before .before .before .before .before in
+    let room = within-room _ (passed (start .before .within .result) (start .if2 .left) (start .before .within .ensures)) in
+    (room .types, room .steps)
+
+enum-known-found : tie.Need-enum-known-found
+enum-known-found c = search needs
+
+write-rivals-requires : tie.Need-write-rivals-requires
+write-rivals-requires c κs =
+    let start = c .before .before .before .before .before .before .before .before .before .before .before .before .before .before .before .before .before .before in
+    let w = passed (start .before .within .result) (start .if2 .left) (start .before .within .ensures) in
+    let f = rw (c .before .before .before .found .given .1) at (c .before .before .before .before .before .first-competing .ensures) in
+    let k = competing _ _ w (c .before .before .before .before .before .before .before .before .before .before .before .before .before .before .before .before .before .trim .ensures .inside w) _ _ _ _ _ (f .0) (f .1) (f .2) in
+    let room = within-room _ w in (
+      omega (arith, f .0),
+      omega (arith, k .first-below, w .types-most),
+      omega (arith, k .second-below, w .types-most),
+      f .1 .found .trail .inside,
+      f .1 .found .trail .linked,
+      omega arith,
+    )
+
+same-length : tie.Need-same-length
+same-length c = search needs
+
+returns-3 : tie.Need-returns-3
+returns-3 c =
+    let start = c .before .before .before .before .before .before .before .before .before .before .before .before .before .before .before .before .before .before .before .before .before in
+    let w = passed (start .before .within .result) (start .if2 .left) (start .before .within .ensures) in
+    let f = rw (c .before .before .before .before .before .before .found .given .1) at (c .before .before .before .before .before .before .before .before .first-competing .ensures) in
+    ((w, omega arith), found-written _ _ w (c .before .before .before .before .before .before .before .before .before .before .before .before .before .before .before .before .before .before .before .before .trim .ensures .inside w) _ _ _ _ _ (f .0) (f .1) (f .2) _ _ (c .before .before .write-rivals .ensures))
+
+enum-told : tie.Need-enum-told
+enum-told c = search needs
+
+returns-4 : tie.Need-returns-4
+returns-4 c =
+    let start = c .before .before .before .before .before .before .before .before .before .before .before .before .before .before .before in
+    let w = passed (start .before .within .result) (start .if2 .left) (start .before .within .ensures) in
+    let f = rw (c .enum-told .given .1) at (c .before .before .first-competing .ensures) in
+    ((w, omega arith), none-compete _ _ w (c .before .before .before .before .before .before .before .before .before .before .before .before .before .before .trim .ensures .inside w) f, refl)
+
+pub competition-spec : {M : Type 1} → statement M
+competition-spec =
+    tie.close
+    (tie.spec
+    returns
+    within-requires
+    returns-2
+    trim-requires
+    cast-types
+    first-competing-requires
+    enum-known-found
+    write-rivals-requires
+    same-length
+    returns-3
+    enum-told
+    returns-4)

@@ -1,0 +1,98 @@
+-- `schema::search::search_type` meets its contract. The loop's invariant: the pairs of the entries before the place `at` are done.
+-- The measure is what is left of the 528 places.
+use Prim.Native.Nat.{_-_}
+use native.Mathlib.Numerals.{add-one}
+use native.Mathlib.Omega.{arith}
+use borrow.Author.Needs.{needs}
+use Rattle.competition.specs.Marks.{marks}
+use Rattle.competition.proofs.Queues.{SearchInv, search-first, search-next, search-done, search-found}
+use Rattle.competition.proofs.search.search_type.Statement.{statement}
+use Rattle.competition.proofs.search.search_type.Tie as tie
+
+abbrev Inv-loop : tie.InvT-loop
+Inv-loop next bears tag own types queue₀ reached₀ count₀ at₀ queue reached count at =
+    SearchInv next bears tag own types at (marks reached queue count)
+
+abbrev μ-loop : tie.MeasureT-loop
+μ-loop next bears tag own types queue₀ reached₀ count₀ at₀ queue reached count at = 528 - at
+
+array-write-reached : tie.Need-array-write-reached Inv-loop μ-loop
+array-write-reached c = search needs
+
+slice-write-entries : tie.Need-slice-write-entries Inv-loop μ-loop
+slice-write-entries c = omega arith
+
+-- that the array behind the reference has 528 elements is known from its use as a slice
+loop-holds : tie.Need-loop-holds Inv-loop μ-loop
+loop-holds c = search-first (c .before .args .queue .now) (c .entries .given .0 .1)
+
+mul-entry : tie.Need-mul-entry Inv-loop μ-loop
+mul-entry c = omega arith
+
+element-copy-out-entry : tie.Need-element-copy-out-entry Inv-loop μ-loop
+element-copy-out-entry c = omega arith
+
+cast-p : tie.Need-cast-p Inv-loop μ-loop
+cast-p c = omega arith
+
+cast-q : tie.Need-cast-q Inv-loop μ-loop
+cast-q c = omega arith
+
+rivals-at-requires : tie.Need-rivals-at-requires Inv-loop μ-loop
+rivals-at-requires c κs = omega arith
+
+enum-known-rivals : tie.Need-enum-known-rivals Inv-loop μ-loop
+enum-known-rivals c = c .match .keys1
+
+returns : tie.Need-returns Inv-loop μ-loop
+returns c =
+    let r = c .before .before .before in
+    let l = r .before .before .before .loop in
+    search-found (l .inv) (r .before .before .loop-test .taken) (rw (c .before .rivals .given .1) at (r .rivals-at .ensures))
+
+enum-told : tie.Need-enum-told Inv-loop μ-loop
+enum-told c = c .match .keys2
+
+search-step-requires : tie.Need-search-step-requires Inv-loop μ-loop
+search-step-requires c κs = omega arith
+
+add-at : tie.Need-add-at Inv-loop μ-loop
+add-at c = omega arith
+
+loop-less : tie.Need-loop-less Inv-loop μ-loop
+loop-less c = omega arith
+
+loop-again : tie.Need-loop-again Inv-loop μ-loop
+loop-again c =
+    let s = c .before .search-step in
+    let r = c .before .before .before .before .before in
+    let l = r .before .before .before .loop in
+    rw (add-one, s .ensures)
+    (search-next (l .inv) (r .before .before .loop-test .taken) (omega arith)
+    (rw (c .before .before .before .enum-told .given .1) at (r .rivals-at .ensures)))
+
+returns-2 : tie.Need-returns-2 Inv-loop μ-loop
+returns-2 c = (c .before .loop .reached, search-done (c .before .loop .inv) (c .loop-test .left))
+
+pub search-type-spec : {M : Type 1} → statement M
+search-type-spec =
+    tie.close
+    (tie.spec
+    Inv-loop
+    μ-loop
+    array-write-reached
+    slice-write-entries
+    loop-holds
+    mul-entry
+    element-copy-out-entry
+    cast-p
+    cast-q
+    rivals-at-requires
+    enum-known-rivals
+    returns
+    enum-told
+    search-step-requires
+    add-at
+    loop-less
+    loop-again
+    returns-2)

@@ -1,0 +1,6 @@
+-- Competition. `Marks`, `Rivals` and `Queue` say what the private loops compute; no public promise cites them.
+pub mod Pairs
+pub mod Search
+pub mod Marks
+pub mod Rivals
+pub mod Queue

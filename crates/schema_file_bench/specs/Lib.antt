@@ -1,0 +1,2 @@
+-- What the benchmark's export promises.
+pub mod Numbers
