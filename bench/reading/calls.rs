@@ -1,0 +1,172 @@
+// The library's calls in plain Rust: limits of the schema and of the levels, live states round by round, the smallest type that leads on.
+// Schema and reading are handed over by value, and the reading handed back.
+use crate::plain::{Schema, has};
+
+pub const LEVELS: usize = 64;
+
+// As `Levels` of the crate reading_bench.
+#[derive(Clone, Copy, Debug, PartialEq)]
+#[repr(C)]
+pub struct Reading {
+    pub depth: u8,
+    pub rooted: bool,
+    pub finished: bool,
+    pub types: [u8; LEVELS],
+    pub sets: [u32; LEVELS],
+}
+
+// As `Answered` of the crate reading_bench.
+#[derive(Clone, Copy, Debug, PartialEq)]
+#[repr(C)]
+pub struct Answered {
+    pub kind: u8,
+    pub of: u8,
+    pub reading: Reading,
+}
+
+pub const TYPED: u8 = 0;
+pub const TAKEN: u8 = 1;
+pub const REFUSED: u8 = 2;
+
+pub const FRESH: Reading = Reading {
+    depth: 0,
+    rooted: false,
+    finished: false,
+    types: [0; LEVELS],
+    sets: [0; LEVELS],
+};
+
+impl Reading {
+    fn refused(self, number: u8) -> Answered {
+        Answered {
+            kind: REFUSED,
+            of: number,
+            reading: self,
+        }
+    }
+
+    fn levels_within(&self, schema: &Schema) -> bool {
+        let depth = self.depth as usize;
+        depth <= LEVELS
+            && (0..depth).all(|n| {
+                let a = self.types[n];
+                a < schema.types && u64::from(self.sets[n]) < 1u64 << schema.states[a as usize % 64]
+            })
+    }
+
+    // The smallest type of the tag that leads from the innermost set to a live state, and the live states that it leads to; with no
+    // element open, the root type.
+    fn coming(&self, schema: &Schema, live: &[u32; 64], tag: u8) -> Option<(u8, u32)> {
+        let depth = self.depth as usize;
+        if depth == 0 {
+            let root = schema.root as usize;
+            let may = !self.rooted && schema.tag[root] == tag && has(live[root], 0);
+            return may.then_some((schema.root, 0));
+        }
+        let a = self.types[depth - 1] as usize;
+        let set = self.sets[depth - 1];
+        let start: usize = schema.steps[..a].iter().map(|&n| n as usize).sum();
+        let mut best = (64, 0);
+        for i in start..start + schema.steps[a] as usize {
+            let by = schema.by[i] as usize;
+            if schema.tag[by] == tag
+                && has(live[by], 0)
+                && has(live[a], schema.to[i])
+                && has(set, schema.from[i])
+            {
+                let to = 1 << schema.to[i];
+                if by < best.0 {
+                    best = (by, to);
+                } else if by == best.0 {
+                    best.1 |= to;
+                }
+            }
+        }
+        (best.0 < 64).then_some((best.0 as u8, best.1))
+    }
+
+    #[inline(never)]
+    pub fn open(mut self, schema: Schema, tag: u8) -> Answered {
+        if !schema.within() {
+            return self.refused(10);
+        }
+        let live = schema.live_states();
+        if !self.levels_within(&schema) {
+            return self.refused(10);
+        }
+        if self.finished {
+            return self.refused(11);
+        }
+        if schema.tags <= tag {
+            return self.refused(12);
+        }
+        let Some((of, kept)) = self.coming(&schema, &live, tag) else {
+            return self.refused(13);
+        };
+        let depth = self.depth as usize;
+        if LEVELS <= depth {
+            return self.refused(14);
+        }
+        if 0 < depth {
+            self.sets[depth - 1] = kept;
+        }
+        self.types[depth] = of;
+        self.sets[depth] = 1;
+        self.depth += 1;
+        self.rooted = true;
+        Answered {
+            kind: TYPED,
+            of,
+            reading: self,
+        }
+    }
+
+    #[inline(never)]
+    pub fn close(mut self, schema: Schema, tag: u8) -> Answered {
+        if !schema.within() || !self.levels_within(&schema) {
+            return self.refused(10);
+        }
+        if self.finished {
+            return self.refused(11);
+        }
+        if schema.tags <= tag {
+            return self.refused(12);
+        }
+        if self.depth == 0 {
+            return self.refused(15);
+        }
+        let inner = self.depth as usize - 1;
+        let a = self.types[inner] as usize;
+        if schema.tag[a] != tag {
+            return self.refused(16);
+        }
+        if self.sets[inner] & schema.accepting[a] == 0 {
+            return self.refused(17);
+        }
+        self.depth -= 1;
+        Answered {
+            kind: TAKEN,
+            of: 0,
+            reading: self,
+        }
+    }
+
+    #[inline(never)]
+    pub fn finish(mut self, schema: Schema) -> Answered {
+        if !schema.within() || !self.levels_within(&schema) {
+            return self.refused(10);
+        }
+        if self.finished {
+            return self.refused(11);
+        }
+        if !self.rooted || 0 < self.depth {
+            return self.refused(18);
+        }
+        self.finished = true;
+        Answered {
+            kind: TAKEN,
+            of: 0,
+            reading: self,
+        }
+    }
+}

@@ -1,0 +1,42 @@
+-- An event's bytes are inside the file.
+use mathlib.Core.Path.{_≡_}
+use mathlib.Core.Bool.{Bool, true, false, cond}
+use mathlib.Core.List.{List}
+use Prim.Native.Nat.{ℕ, _+_, _≤_}
+use lib.Dec.{T, eqb, leb, leb→le}
+use lib.ListN.{length}
+use Rattle.reading.specs.Events.{eventFrom, eventAt}
+use Rattle.reading.specs.declared.events.FileEvent.{FileEvent}
+use Rattle.reading.specs.declared.events.FileEvent.the-variants.{Open, Close, Finish, NoEvent}
+
+-- the event at the place i, if it is one, ends inside the file
+abbrev pub Ends : List ℕ → ℕ → FileEvent → Type 0
+Ends file i (Open g) = i + 2 ≤ length file
+Ends file i (Close g) = i + 2 ≤ length file
+Ends file i Finish = i + 1 ≤ length file
+Ends file i NoEvent = Unit
+
+module _ (file : List ℕ) (i : ℕ) where
+  by-test : (t : Bool) (d e : FileEvent) → Ends file i d → Ends file i e → Ends file i (cond t d e)
+  by-test true d e p q = p
+  by-test false d e p q = q
+
+  if-whole : (t : Bool) (e : FileEvent) → (T t → Ends file i e) → Ends file i (cond t e NoEvent)
+  if-whole true e p = p tt
+  if-whole false e p = tt
+
+  whole : (n : ℕ) (e : FileEvent) → (i + n ≤ length file → Ends file i e) → Ends file i (cond (leb (i + n) (length file)) e NoEvent)
+  whole n e p = if-whole (leb (i + n) (length file)) e (λ t. p (leb→le (i + n) (length file) t))
+
+  from-byte : (b : ℕ) → Ends file i (eventFrom file i b)
+  unfolding eventFrom
+  from-byte b =
+      by-test (eqb b 0x21) _ _ (whole 2 _ (λ h. h))
+      (by-test (eqb b 0x22) _ _ (whole 2 _ (λ h. h)) (by-test (eqb b 0x2f) _ _ (whole 1 _ (λ h. h)) tt))
+
+  pub event-ends : Ends file i (eventAt file i)
+  event-ends = by-test (leb (i + 1) (length file)) _ NoEvent (from-byte _) tt
+
+  -- the case matched is what is found at the place
+  pub matched-ends : {e d : FileEvent} → e ≡ eventAt file i → e ≡ d → Ends file i d
+  matched-ends found case = rw (← case, found) event-ends

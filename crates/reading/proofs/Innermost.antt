@@ -1,0 +1,135 @@
+-- What the promise asks of the innermost level, by the type of its element and its children so far.
+use mathlib.Core.Path.{_≡_, refl, sym, _∙_}
+use mathlib.Core.Logic.{_↔_, _≢_, Iff·trans}
+use mathlib.Core.Bool.{Bool, true, false, true≢false}
+use mathlib.Core.List.{List, [], _∷_, _++_, append-assoc, nil≢cons, List·Memᴰ}
+use Prim.Native.Nat.{ℕ, suc, _<_}
+use native.Mathlib.Omega.{arith}
+use lib.Dec.{T}
+use lib.ListN.{getD}
+use Rattle.sdtd.specs.Schema.{Block, Schema, blockOf, tagOf, Leads, stay, go, Word}
+use Rattle.sdtd.specs.Document.{Event}
+use Rattle.sdtd.specs.Trim.{Bears, AllBear, Live}
+use Rattle.sdtd.proofs.Automata.{leads-append, leads-split, accepts-after}
+use Rattle.sdtd.proofs.Fixpoint.{live-closed, bears-live}
+use Rattle.sdtd.proofs.Machine.{Owner, top, own, rootBlock, word-is-root, Frame, frame}
+use Rattle.sdtd.proofs.Follow.{Candidate, Grown, grown}
+use Rattle.sdtd.proofs.Position.{Position}
+use Rattle.sdtd.proofs.Next.{candidate-inside, candidate-outside}
+use Rattle.sdtd.proofs.Questions.{root-child}
+use Rattle.schema.specs.States.{member}
+use Rattle.reading.specs.declared.value.Reading.{Reading}
+use Rattle.reading.specs.Levels.{innerType, innerSet}
+use Rattle.reading.specs.Questions.{LeadsTo, CanOpen, Ends, RootOver}
+use Rattle.reading.proofs.Keeping.{Level, Levels, outermost, level, OwnerKeeps}
+
+last-step : {b : Block} {p j q : ℕ} → Leads b p (j ∷ []) q → List·Memᴰ (record { from = p; by = j; to = q }) (b .steps)
+last-step (go s stay) = s
+
+-- The innermost element's questions, by its type a and its children w.
+module _ {S : Schema} {r : Reading} {a : ℕ} {w : List ℕ} (v : Level S (innerType r) (innerSet r) a w) where
+  -- the states kept after one child more
+  leads-to : {j q : ℕ} → Bears S j → LeadsTo S r j q ↔ (Leads (blockOf S a) 0 (w ++ (j ∷ [])) q × Live S a q)
+  leads-to {j} {q} b = (
+    λ x.
+        let step = rw (v .same-type) at (x .step) in
+        (leads-append (v .states (x .from) .0 (x .kept) .0) (go step stay), rw (v .same-type) at (x .live)),
+    λ h.
+        let m = leads-split w (h .0) in
+        let s = last-step (m .back) in
+        let live = live-closed .step a (record { from = m .middle; by = j; to = q }) s (bears-live .0 b) (h .1) in
+        record {
+          from = m .middle;
+          kept = v .states (m .middle) .1 (m .front, live);
+          step = rw (v .same-type) s;
+          live = rw (v .same-type) (h .1);
+        },
+  )
+
+  -- 13
+  can-open-inside : {g j : ℕ} → 0 < r .depth → AllBear S w → CanOpen S r g j ↔ ((tagOf S j ≡ g) × Candidate S (own a) w j)
+  can-open-inside {g} {j} inside bear = (
+    λ c.
+        let h = leads-to (c .bears) .0 (c .inside inside .1) in
+        let word : Word (blockOf S a) (w ++ (j ∷ h .1 .word)) = rw append-assoc at (accepts-after (h .0) (h .1 .accepts)) in
+        (c .tag, record { rest = h .1 .word; word = word; bears = c .bears; bear = h .1 .bear }),
+    λ c.
+        let p = candidate-inside bear .0 (c .1) in
+        record {
+          bears = p .by-bearing;
+          tag = c .0;
+          inside = λ l. (p .to, leads-to (p .by-bearing) .1 (leads-append (p .leads) (go (p .step) stay), p .to-live));
+          outside = λ z. absurd (omega arith);
+        },
+  )
+
+  -- 17
+  pub ends-word : Ends S r ↔ Word (blockOf S a) w
+  ends-word = (
+    λ x.
+        let accepting = rw (v .same-type) at (x .accepting) in
+        record { last = x .state; leads = v .states (x .state) .0 (x .kept) .0; accepting = accepting },
+    λ x.
+        record {
+          state = x .last;
+          kept = v .states (x .last) .1 (x .leads, live-closed .accepting a (x .last) (x .accepting));
+          accepting = rw (v .same-type) (x .accepting);
+        },
+  )
+
+-- 13, with nothing open
+can-open-outside : {S : Schema} {r : Reading} {w : List ℕ} {g j : ℕ} → r .depth ≡ 0 → (w ≡ []) ↔ (r .rooted ≡ false)
+    → CanOpen S r g j ↔ ((tagOf S j ≡ g) × Candidate S top w j)
+can-open-outside z rooted = (
+  λ c. let o = c .outside z in (c .tag, candidate-outside .1 (rooted .1 (o .1), o .0, c .bears)),
+  λ c.
+      let o = candidate-outside .0 (c .1) in
+      record {
+        bears = o .2;
+        tag = c .0;
+        inside = λ h. absurd (omega arith);
+        outside = λ e. (o .1, rooted .0 (o .0));
+      },
+)
+
+is-true : (b : Bool) → b ≢ false → b ≡ true
+is-true true h = refl
+is-true false h = absurd (h refl)
+
+-- the outside's children are the root once there is one
+some-child : {S : Schema} {e : List Event} (w : List ℕ) → Position S e (frame top w ∷ []) → w ≢ [] → Word (rootBlock S) w
+some-child [] p h = absurd (h refl)
+some-child (a ∷ w) p h = root-child p
+
+-- 18, with nothing open
+pub root-over : {S : Schema} {e : List Event} (r : Reading) {w : List ℕ} → r .depth ≡ 0 → (w ≡ []) ↔ (r .rooted ≡ false)
+    → Position S e (frame top w ∷ []) → RootOver r ↔ Word (rootBlock S) w
+root-over {S} r {w} z rooted p = (
+  λ c. some-child w p (λ q. true≢false (sym (c .opened) ∙ rooted .0 q)),
+  λ v. record { opened = is-true (r .rooted) (λ q. nil≢cons (sym (rooted .1 q) ∙ word-is-root S v)); closed = z },
+)
+
+children-bear : {S : Schema} {o : Owner} {w : List ℕ} {fs : List Frame} → Grown S (frame o w ∷ fs) → AllBear S w
+children-bear (grown r b g) = b
+
+-- the level that the reading has innermost
+pub inner-level : {S : Schema} (r : Reading) {n a : ℕ} {w : List ℕ} → r .depth ≡ suc n
+    → Level S (getD (r .types) n 0) (getD (r .sets) n 0) a w → Level S (innerType r) (innerSet r) a w
+inner-level r e v = rw e v
+
+-- What an opening asks of the innermost owner with the children w: which types it can give, and the states kept after one.
+pub record Opens (S : Schema) (r : Reading) (o : Owner) (w : List ℕ) : Type 0 where
+  pub can-open : (g j : ℕ) → CanOpen S r g j ↔ ((tagOf S j ≡ g) × Candidate S o w j)
+  pub keeps :
+      (j kept : ℕ) → Bears S j → (0 < r .depth → (q : ℕ) → T (member q kept) ↔ LeadsTo S r j q) → OwnerKeeps S kept o (w ++ (j ∷ []))
+
+pub opens : {S : Schema} {r : Reading} {n : ℕ} {o : Owner} {w : List ℕ} {fs : List Frame} → r .depth ≡ n → Grown S (frame o w ∷ fs)
+    → Levels S (r .types) (r .sets) (r .rooted) n (frame o w ∷ fs) → Opens S r o w
+opens e grows (outermost rooted) = record { can-open = λ g j. can-open-outside e rooted; keeps = λ j kept b k. tt }
+opens {r = r} e grows (level b v l) =
+    let i = inner-level r e v in
+    let inside : 0 < r .depth = omega arith in
+    record {
+      can-open = λ g j. can-open-inside i inside (children-bear grows);
+      keeps = λ j kept b k q. Iff·trans (k inside q) (leads-to i b);
+    }

@@ -1,0 +1,105 @@
+-- The levels that the code checks are those of question 10.
+use mathlib.Core.Path.{_≡_, refl, sym, ap, _∙_}
+use mathlib.Core.Bool.{Bool, true, false, not, true≢false}
+use mathlib.Core.Logic.{_↔_, _≢_}
+use mathlib.Core.List.{List, List·Memᴰ}
+use Prim.Native.Nat.{ℕ, zero, suc, pred, _-_, _%_, _^_, _≤_, _<_}
+use native.Mathlib.Nat.{mod-eq-of-lt}
+use native.Mathlib.Omega.{arith}
+use lib.Bits.{bitAnd}
+use lib.Dec.{T, T-not}
+use lib.ListN.{getD, set}
+use Rattle.sdtd.specs.Schema.{Block, blockOf, tagOf}
+use Rattle.schema.specs.States.{member, members}
+use Rattle.schema.specs.Value.{meaning, blockAt}
+use Rattle.schema.specs.declared.value.Schema.{Schema}
+use Rattle.schema.proofs.Bits.{mem-members, and-meets}
+use Rattle.schema.proofs.Values.{types-count, block-of}
+use Rattle.schema.proofs.LimitLaws.{within-room}
+use Rattle.reading.specs.declared.value.Reading.{Reading}
+use Rattle.reading.specs.Levels.{innerType, innerSet, LevelWithin, LevelsWithin, Within}
+use Rattle.reading.specs.Questions.{Ends, setsAfter}
+use Rattle.reading.specs.Coming.{LevelFits, LevelsFit}
+
+-- a check that fails; a flag is not both
+pub failed : {A : Type 0} (r : Bool) → not r ≡ true → T r ↔ A → ¬ A
+failed r e m a = T-not r (rw e tt) (m .1 a)
+
+pub not-both : {b : Bool} → b ≡ true → b ≡ false → ⊥
+not-both t f = true≢false (sym t ∙ f)
+
+pub not-true : {b : Bool} → not b ≡ true → b ≡ false
+not-true {b = false} e = refl
+not-true {b = true} e = sym e
+
+pub not-false : {b : Bool} → not b ≡ false → b ≡ true
+not-false {b = false} e = sym e
+not-false {b = true} e = refl
+
+-- the code's index of the innermost level
+pub sub-one : (n : ℕ) → n - 1 ≡ pred n
+sub-one n = omega arith
+
+-- the sets that the code stores are those after an opening
+pub inside-sets : (sets : List ℕ) (d kept : ℕ) → 0 < d → set (set sets (d - 1) kept) d 1 ≡ setsAfter sets d kept
+inside-sets sets zero kept l = absurd (omega arith)
+inside-sets sets (suc d) kept l = rw (sub-one (suc d))
+
+pub outside-sets : (sets : List ℕ) (d kept : ℕ) → d ≤ 0 → set sets d 1 ≡ setsAfter sets d kept
+outside-sets sets zero kept l = refl
+outside-sets sets (suc d) kept l = absurd (omega arith)
+
+pub tags-of : (v : Schema) → meaning v .tags ≡ v .tags
+unfolding meaning
+tags-of v = refl
+
+module _ (v : Schema) (most : v .types ≤ 64) where
+  own-states : (a : ℕ) → a < v .types → getD (v .states) (a % 64) 0 ≡ blockOf (meaning v) a .states
+  unfolding blockAt
+  own-states a l = let same : a % 64 ≡ a = mod-eq-of-lt (omega arith) in rw (block-of v a l, same)
+
+  level-fits : (a set : ℕ) → LevelFits (v .types) (v .states) a set ↔ LevelWithin (meaning v) a set
+  level-fits a set = (
+    λ f. record { type = rw types-count (f .type); states = λ q m. rw (← own-states a (f .type)) (f .below q m) },
+    λ w.
+        let l : a < v .types = rw types-count at (w .type) in
+        record { type = l; below = λ q m. rw (own-states a l) (w .states q m) },
+  )
+
+  pub levels-fit : (r : Reading) → LevelsFit (v .types) (v .states) r ↔ LevelsWithin (meaning v) r
+  levels-fit r = (
+    λ f. record { depth = f .depth; levels = λ n l. level-fits _ _ .0 (f .levels n l) },
+    λ w. record { depth = w .depth; levels = λ n l. level-fits _ _ .1 (w .levels n l) },
+  )
+
+-- what the value says of the type a
+own-block : (v : Schema) (a : ℕ) → a < v .types
+    → (blockOf (meaning v) a .tag ≡ getD (v .tag) a 0) × (blockOf (meaning v) a .accepting ≡ members (getD (v .accepting) a 0))
+unfolding blockAt
+own-block v a l = (ap (λ (b : Block). b .tag) (block-of v a l), ap (λ (b : Block). b .accepting) (block-of v a l))
+
+-- inside the limits, with an element open, the innermost type is below the counts
+module _ (v : Schema) (r : Reading) (w : Within (meaning v) r) (open-one : 0 < r .depth) where
+  pub inner-below : innerType r < v .types
+  inner-below = rw types-count at (w .reading .levels (pred (r .depth)) (omega arith) .type)
+
+  pub inner-most : innerType r < 64
+  inner-most = omega (arith, inner-below, within-room v (w .schema) .types)
+
+  -- question 16's tag
+  pub inner-tag : tagOf (meaning v) (innerType r) ≡ getD (v .tag) (innerType r) 0
+  inner-tag = own-block v (innerType r) inner-below .0
+
+  -- question 17: the kept states and the accepting ones have one in common
+  pub ends-meets : innerSet r < 2 ^ 32 → getD (v .accepting) (innerType r) 0 < 2 ^ 32
+      → Ends (meaning v) r ↔ (bitAnd (innerSet r) (getD (v .accepting) (innerType r) 0) ≢ 0)
+  ends-meets x y =
+      let is = own-block v (innerType r) inner-below .1 in
+      let meets = and-meets (innerSet r) (getD (v .accepting) (innerType r) 0) x y in
+      let mem : (q : ℕ) → List·Memᴰ q (members (getD (v .accepting) (innerType r) 0)) ↔ T (member q (getD (v .accepting) (innerType r) 0)) =
+      λ q. mem-members q (getD (v .accepting) (innerType r) 0) y in (
+        λ e. meets .1 (record { state = e .state; left = e .kept; right = mem (e .state) .0 (rw is at (e .accepting)) }),
+        λ n.
+            let m = meets .0 n in
+            record { state = m .state; kept = m .left; accepting = rw is (mem (m .state) .1 (m .right)) },
+      )

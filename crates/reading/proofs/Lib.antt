@@ -1,0 +1,34 @@
+-- First what the private steps of the calls compute, then what lists of calls mean and that each call has exactly one answer; last, lent
+-- readings and event files.
+pub mod LevelLaws
+pub mod StepWays
+pub mod ComingLaws
+pub mod LabelLaws
+pub mod InsideMeans
+pub mod RootMeans
+pub mod StepLaws
+pub mod Keeping
+pub mod Innermost
+pub mod CallAnswers
+pub mod ListOfCalls
+pub mod OneAnswer
+pub mod StateSets
+pub mod Decisions
+pub mod AnswerExists
+pub mod WithinKept
+pub mod LentWalk
+pub mod LentCall
+pub mod LentTagged
+pub mod EventLaws
+pub mod TurnWays
+pub mod WalkerParts
+pub mod EventBytes
+pub mod EventPlaces
+pub mod SetsKept
+pub mod StepSound
+pub mod TurnLaws
+pub mod EventWalk
+pub mod EventWhole
+pub mod EventTheory
+pub mod WalkExists
+pub mod EventModel

@@ -1,0 +1,53 @@
+-- Whatever call is made, the state sets of a reading stay below 2 ^ 32.
+use mathlib.Core.Path.{_≡_, sym, subst}
+use mathlib.Core.Logic.{_⊎_, inl, inr}
+use mathlib.Core.List.{List}
+use Prim.Native.Nat.{ℕ, zero, suc, _^_, _<_}
+use native.Mathlib.Decide.{ℕ-discrete, decLt}
+use native.Mathlib.Omega.{arith}
+use lib.ListN.{length, getD, set}
+use lib.Seq.{getD-set-same, getD-set-other, set-out}
+use Rattle.sdtd.specs.Schema.{Schema}
+use Rattle.sdtd.specs.Document.{Event, opening, closing, finish}
+use Rattle.reading.specs.declared.value.Reading.{Reading}
+use Rattle.reading.specs.declared.calls.EventAnswer.the-variants.{Refused}
+use Rattle.reading.specs.declared.calls.Next.{Next}
+use Rattle.reading.specs.Levels.{onlyStart}
+use Rattle.reading.specs.Questions.{gives, setsAfter, OpeningTaken, CallMeans}
+
+abbrev pub Below : List ℕ → Type 0
+Below sets = (n : ℕ) → getD sets n 0 < 2 ^ 32
+
+set-below : (l : List ℕ) (i v : ℕ) → v < 2 ^ 32 → Below l → Below (set l i v)
+set-below l i v h b n =
+    elim (ℕ-discrete n i) [
+      | yes e ↦
+          elim (decLt i (length l)) [
+            | yes w ↦ rw (e, getD-set-same l i v 0 w) h
+            | no o ↦ rw (set-out l i v (omega arith)) (b n)
+          ]
+      | no d ↦ rw (getD-set-other l i n v 0 d) (b n)
+    ]
+
+after-below : (sets : List ℕ) (n kept : ℕ) → kept < 2 ^ 32 → Below sets → Below (setsAfter sets n kept)
+after-below sets zero kept h b = set-below sets 0 onlyStart (omega arith) b
+after-below sets (suc n) kept h b = set-below (set sets n kept) (suc n) onlyStart (omega arith) (set-below sets n kept h b)
+
+-- by an equal answer
+by-equal : {m n : Next} → Below (m .reading .sets) → n ≡ m → Below (n .reading .sets)
+by-equal h e = subst (λ (m : Next). Below (m .reading .sets)) (sym e) h
+
+module _ {r : Reading} (b : Below (r .sets)) where
+  -- a question that is answered no leaves the reading
+  asked : {i : ℕ} {P R : Type 0} {n : Next} → (R → Below (n .reading .sets)) → ((¬ P) × (n ≡ gives (Refused i) r)) ⊎ (P × R)
+      → Below (n .reading .sets)
+  asked next (inl o) = by-equal b (o .1)
+  asked next (inr o) = next (o .1)
+
+  opening-below : {S : Schema} {g : ℕ} {n : Next} → OpeningTaken S r g n → Below (n .reading .sets)
+  opening-below t = by-equal (after-below (r .sets) (r .depth) (t .kept) (t .kept-below) b) (t .next)
+
+pub sets-kept : (S : Schema) (r : Reading) (x : Event) (n : Next) → Below (r .sets) → CallMeans S r x n → Below (n .reading .sets)
+sets-kept S r (opening g) n b = asked b (asked b (asked b (asked b (asked b (opening-below b)))))
+sets-kept S r (closing g) n b = asked b (asked b (asked b (asked b (asked b (asked b (by-equal b))))))
+sets-kept S r finish n b = asked b (asked b (asked b (by-equal b)))

@@ -1,0 +1,44 @@
+-- The ways through a turn: what each computes, by the event found and what its step did.
+use mathlib.Core.Path.{_≡_, sym, ap, _∙_}
+use mathlib.Core.List.{List}
+use Prim.Native.Nat.{ℕ}
+use lib.ListN.{length}
+use Rattle.sdtd.specs.declared.Tag.{Tag}
+use Rattle.reading.specs.declared.calls.Next.{Next}
+use Rattle.reading.specs.declared.events.FileEvent.{FileEvent}
+use Rattle.reading.specs.declared.events.FileEvent.the-variants.{Open, Close, Finish, NoEvent}
+use Rattle.reading.specs.declared.event_file.Walking.{Walking}
+use Rattle.reading.specs.declared.steps.Stepped.{Stepped}
+use Rattle.reading.specs.Events.{eventAt}
+use Rattle.reading.specs.Steps.{Tables, readingOf, nextOf, openStep, closeStep, Finishes}
+use Rattle.reading.specs.Turns.{stateOf, turnTo, AfterStep, EndsHere, turnOn, turnOf}
+
+-- a step that comes to x moves the walk to what x makes of it
+turned : (w : Walking) (types sets was : List ℕ) (s : Stepped) (n : ℕ) (types′ sets′ is : List ℕ) (r : Walking) (x : Next)
+    → AfterStep w s n was is r → nextOf s types′ sets′ ≡ x → stateOf r types′ sets′ is ≡ turnTo (stateOf w types sets was) n x
+turned w types sets was s n types′ sets′ is r x a e =
+    a types sets types′ sets′ ∙ ap (λ (y : Next). turnTo (stateOf w types sets was) n y) e
+
+module _ (t : Tables) (tag accepting file : List ℕ) (w : Walking) (types sets was : List ℕ) {e : FileEvent} (found : e ≡ eventAt file (w .at)) where
+  -- the turn is that of the case matched
+  matched : (d : FileEvent) → e ≡ d
+      → turnOn t tag accepting (length file) (stateOf w types sets was) d ≡ turnOf t tag accepting file (stateOf w types sets was)
+  unfolding turnOf
+  matched d case = ap (λ (x : FileEvent). turnOn t tag accepting (length file) (stateOf w types sets was) x) (sym case ∙ found)
+
+  module _ (s : Stepped) (types′ sets′ is : List ℕ) (r : Walking) where
+    pub turn-open : (g : Tag) → e ≡ Open g → nextOf s types′ sets′ ≡ openStep t (readingOf (w .standing) types sets) (g .0)
+        → AfterStep w s 2 was is r → stateOf r types′ sets′ is ≡ turnOf t tag accepting file (stateOf w types sets was)
+    turn-open g case step after = turned w types sets was s 2 types′ sets′ is r _ after step ∙ matched (Open g) case
+
+    pub turn-close : (g : Tag) → e ≡ Close g → nextOf s types′ sets′ ≡ closeStep tag accepting (t .tags) (readingOf (w .standing) types sets) (g .0)
+        → AfterStep w s 2 was is r → stateOf r types′ sets′ is ≡ turnOf t tag accepting file (stateOf w types sets was)
+    turn-close g case step after = turned w types sets was s 2 types′ sets′ is r _ after step ∙ matched (Close g) case
+
+  pub turn-finish : (s : Stepped) (is : List ℕ) (r : Walking) → e ≡ Finish → Finishes (w .standing) s → AfterStep w s 1 was is r
+      → stateOf r types sets is ≡ turnOf t tag accepting file (stateOf w types sets was)
+  turn-finish s is r case step after = turned w types sets was s 1 types sets is r _ after (step types sets) ∙ matched Finish case
+
+  pub turn-ends : (r : Walking) → e ≡ NoEvent → EndsHere (length file) w r
+      → stateOf r types sets was ≡ turnOf t tag accepting file (stateOf w types sets was)
+  turn-ends r case after = after types sets was ∙ matched NoEvent case

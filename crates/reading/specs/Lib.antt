@@ -1,0 +1,12 @@
+-- Readings and event files: document 01's sections "A reading" and "The event file". `Coming`, `Examined`, `Steps` and `Turns` say what the
+-- private steps compute; no public promise cites them.
+pub mod Levels
+pub mod Questions
+pub mod Calls
+pub mod Events
+pub mod EventFile
+pub mod EventMeaning
+pub mod Coming
+pub mod Examined
+pub mod Steps
+pub mod Turns

@@ -1,0 +1,89 @@
+-- What the private turns of a walk over an event file compute.
+use mathlib.Core.Path.{_≡_}
+use mathlib.Core.Bool.{Bool, true, false, cond, _&&_}
+use mathlib.Core.List.{List}
+use Prim.Native.Nat.{ℕ, _+_}
+use lib.Dec.{leb, ltb}
+use lib.ListN.{length, set}
+use Rattle.reading.specs.declared.value.Reading.{Reading}
+use Rattle.reading.specs.declared.calls.EventAnswer.{EventAnswer}
+use Rattle.reading.specs.declared.calls.EventAnswer.the-variants.{Typed, Taken, Refused}
+use Rattle.reading.specs.declared.calls.Next.{Next}
+use Rattle.reading.specs.declared.events.FileEvent.{FileEvent}
+use Rattle.reading.specs.declared.events.FileEvent.the-variants.{Open, Close, Finish, NoEvent}
+use Rattle.reading.specs.declared.event_file.Walking.{Walking}
+use Rattle.reading.specs.declared.steps.Stepped.{Stepped}
+use Rattle.reading.specs.Events.{eventAt}
+use Rattle.reading.specs.Steps.{Tables, readingOf, openStep, closeStep, finishStep}
+
+-- how far a walk has come: whether it goes on, the number and the place so far, the openings taken, the reading and the buffer
+pub record State : Type 0 where
+  pub going : Bool
+  pub number : ℕ
+  pub at : ℕ
+  pub count : ℕ
+  pub reading : Reading
+  pub out : List ℕ
+
+abbrev pub stateOf : Walking → List ℕ → List ℕ → List ℕ → State
+stateOf w types sets out =
+    record {
+      going = w .going;
+      number = w .number;
+      at = w .at;
+      count = w .count;
+      reading = readingOf (w .standing) types sets;
+      out = out;
+    }
+
+-- the walk stops with the number n, at the reading r
+abbrev pub stop : State → ℕ → Reading → State
+stop s n r = record { going = false; number = n; at = s .at; count = s .count; reading = r; out = s .out }
+
+-- the walk goes on past an event of n bytes, to the reading r
+abbrev pub goOn : State → ℕ → Reading → State
+goOn s n r = record { going = true; number = s .number; at = s .at + n; count = s .count; reading = r; out = s .out }
+
+-- the same, with one opening more, whose type goes to the buffer
+abbrev pub goOnTyped : State → ℕ → ℕ → Reading → State
+goOnTyped s n j r =
+    record { going = true; number = s .number; at = s .at + n; count = s .count + 1; reading = r; out = set (s .out) (s .count) j }
+
+-- after what an event of n bytes got
+abbrev pub turnBy : State → ℕ → EventAnswer → Reading → State
+turnBy s n (Refused k) r = stop s k r
+turnBy s n (Typed j) r = cond (ltb (s .count) (length (s .out))) (goOnTyped s n (j .0) r) (stop s 20 r)
+turnBy s n Taken r = goOn s n r
+
+-- what a step of n bytes makes of the walk and the buffer, whatever the levels hold
+abbrev pub AfterStep : Walking → Stepped → ℕ → List ℕ → List ℕ → Walking → Type 0
+AfterStep w s n was is r =
+    (types sets types′ sets′ : List ℕ)
+    → stateOf r types′ sets′ is ≡ turnBy (stateOf w types sets was) n (s .answer) (readingOf (s .standing) types′ sets′)
+
+abbrev pub turnTo : State → ℕ → Next → State
+turnTo s n x = turnBy s n (x .answer) (x .reading)
+
+-- what stands where there is no event: the file is taken whole if it ends here and is finished
+abbrev pub turnEnd : ℕ → State → State
+turnEnd end s = stop s (cond (s .reading .finished && leb end (s .at)) 0 19) (s .reading)
+
+abbrev pub EndsHere : ℕ → Walking → Walking → Type 0
+EndsHere end w r = (types sets out : List ℕ) → stateOf r types sets out ≡ turnEnd end (stateOf w types sets out)
+
+-- one event of the file, by the tables of the schema
+abbrev pub turnOn : Tables → List ℕ → List ℕ → ℕ → State → FileEvent → State
+turnOn t tag accepting end s (Open g) = turnTo s 2 (openStep t (s .reading) (g .0))
+turnOn t tag accepting end s (Close g) = turnTo s 2 (closeStep tag accepting (t .tags) (s .reading) (g .0))
+turnOn t tag accepting end s Finish = turnTo s 1 (finishStep (s .reading))
+turnOn t tag accepting end s NoEvent = turnEnd end s
+
+unfoldable pub turnOf : Tables → List ℕ → List ℕ → List ℕ → State → State
+turnOf t tag accepting file s = turnOn t tag accepting (length file) s (eventAt file (s .at))
+
+-- an event file under a schema outside the limits: 19 where the first bytes are no event, else 10
+abbrev pub outsideNumber : FileEvent → ℕ
+outsideNumber (Open g) = 10
+outsideNumber (Close g) = 10
+outsideNumber Finish = 10
+outsideNumber NoEvent = 19

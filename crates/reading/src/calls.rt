@@ -1,0 +1,172 @@
+// Opening, closing and finish: each takes a reading and hands back the one that follows, with the answer.
+use crate::examined::examine;
+use crate::levels::levels_within;
+use crate::steps::Standing;
+use crate::steps::Stepped;
+use crate::steps::step_close;
+use crate::steps::step_finish;
+use crate::steps::step_open;
+use crate::value::LEVELS;
+use crate::value::Reading;
+use schema::Schema;
+use schema::StateSet;
+use schema::within;
+use sdtd::Tag;
+use sdtd::TypeNo;
+ghost use mathlib.Core.Path.{_≡_};
+ghost use mathlib.Core.Logic.{_↔_};
+ghost use lib.Dec.{T};
+ghost use Rattle.sdtd.specs.Document.{opening, closing, finish};
+ghost use Rattle.schema.specs.Value.{meaning};
+ghost use Rattle.reading.specs.Levels.{Within, fresh};
+ghost use Rattle.reading.specs.Questions.{CallMeans, gives};
+ghost use Rattle.reading.specs.Steps.{nextOf};
+
+// The answer to an event: an opening's type, taken for a closing or a finish, or a refusal's number.
+pub enum EventAnswer {
+    Typed(TypeNo),
+    Taken,
+    Refused(u8),
+}
+
+// The answer, and the reading that follows; beside a refusal, the reading handed in.
+pub struct Next {
+    pub answer: EventAnswer,
+    pub reading: Reading,
+}
+
+fn refused(number: u8, reading: Reading) -> Next
+    ensures { λ n. ⌜ n ≡ gives (EventAnswer.Refused number) reading ⌝ }
+{
+    Next {
+        answer: EventAnswer::Refused(number),
+        reading,
+    }
+}
+
+// What a step hands back, with these levels.
+fn with_levels(s: Stepped, types: [u8; LEVELS], sets: [u32; LEVELS]) -> Next
+    ensures { λ n. ⌜ n ≡ nextOf s types sets ⌝ }
+{
+    let standing = s.standing;
+    let answer = s.answer;
+    Next {
+        answer,
+        reading: Reading {
+            depth: standing.depth,
+            rooted: standing.rooted,
+            finished: standing.finished,
+            types,
+            sets,
+        },
+    }
+}
+
+// Question 10.
+fn both_within(schema: Schema, reading: Reading) -> bool
+    ensures { λ r. ⌜ T r ↔ Within (meaning schema) reading ⌝ }
+{
+    if !within(schema) {
+        return false;
+    }
+    let states = schema.states;
+    levels_within(reading, schema.types, states)
+}
+
+impl Reading {
+    // A reading that has taken no event.
+    pub fn fresh() -> Reading
+        ensures { λ r. ⌜ r ≡ fresh ⌝ }
+    {
+        let none = StateSet::NONE;
+        Reading {
+            depth: 0,
+            rooted: false,
+            finished: false,
+            types: [0; LEVELS],
+            sets: [none.0; LEVELS],
+        }
+    }
+
+    // An opening of the tag.
+    pub fn open(self, schema: Schema, tag: Tag) -> Next
+        ensures { λ n. ⌜ CallMeans (meaning schema) self (opening (tag .0)) n ⌝ }
+    {
+        let examined = examine(schema);
+        if !examined.inside {
+            return refused(10, self);
+        }
+        let states = schema.states;
+        if !levels_within(self, schema.types, states) {
+            return refused(10, self);
+        }
+        let at = Standing {
+            depth: self.depth,
+            rooted: self.rooted,
+            finished: self.finished,
+        };
+        let mut types = self.types;
+        let mut sets = self.sets;
+        let root = schema.root.0;
+        let step = step_open(
+            &schema.from,
+            &schema.by,
+            &schema.to,
+            &examined.label,
+            &examined.start,
+            &schema.steps,
+            schema.tags,
+            root,
+            examined.root,
+            &mut types,
+            &mut sets,
+            at,
+            tag.0,
+        );
+        with_levels(step, types, sets)
+    }
+
+    // A closing of the tag.
+    pub fn close(self, schema: Schema, tag: Tag) -> Next
+        ensures { λ n. ⌜ CallMeans (meaning schema) self (closing (tag .0)) n ⌝ }
+    {
+        if !both_within(schema, self) {
+            return refused(10, self);
+        }
+        let at = Standing {
+            depth: self.depth,
+            rooted: self.rooted,
+            finished: self.finished,
+        };
+        let types = self.types;
+        let sets = self.sets;
+        let step = step_close(
+            &schema.tag,
+            &schema.accepting,
+            schema.tags,
+            &types,
+            &sets,
+            at,
+            tag.0,
+        );
+        with_levels(step, types, sets)
+    }
+
+    // The finish.
+    pub fn finish(self, schema: Schema) -> Next
+        ensures { λ n. ⌜ CallMeans (meaning schema) self finish n ⌝ }
+    {
+        if !both_within(schema, self) {
+            return refused(10, self);
+        }
+        let at = Standing {
+            depth: self.depth,
+            rooted: self.rooted,
+            finished: self.finished,
+        };
+        let types = self.types;
+        let sets = self.sets;
+        let step = step_finish(at);
+        with_levels(step, types, sets)
+    }
+}

@@ -1,0 +1,118 @@
+// Which type comes next under a tag, inside an element: the smallest that leads from the states kept to a live state.
+use schema::STEPS;
+use schema::StateSet;
+use schema::TYPES;
+ghost use mathlib.Core.Path.{_≡_};
+ghost use Prim.Native.Nat.{ℕ, _+_, _≤_, _<_};
+ghost use lib.ListN.{length, getD};
+ghost use Rattle.schema.specs.States.{member};
+ghost use Rattle.reading.specs.Coming.{Labelled, labelOf, comingFrom, found};
+ghost use Rattle.reading.specs.Coming.{join as joined};
+
+// No step is taken under this tag: tags are below 32.
+pub(crate) const NO_TAG: u8 = 255;
+
+// No type: types are below 64.
+pub(crate) const NO_TYPE: u8 = 64;
+
+// The type that comes next, or NO_TYPE, and the states that it leads to.
+pub(crate) struct Coming {
+    pub of: u8,
+    pub kept: u32,
+}
+
+// The tag under which a step by the type j to the state q is taken: that of j, where j bears a tree and q is live; else NO_TAG.
+fn label_of<'a>(tag: &'a [u8; TYPES], live: &'a [u32; TYPES], own: u32, j: u8, q: u8) -> u8
+    ensures { λ r. ⌜ r ≡ labelOf (now (tag .entry)) (now (live .entry)) own j q ⌝ }
+{
+    let j = (j % 64) as usize;
+    if !StateSet(live[j]).has(0) {
+        return NO_TAG;
+    }
+    if !StateSet(own).has(q) {
+        return NO_TAG;
+    }
+    tag[j]
+}
+
+// The labels of the n steps from start on, which are those of a type with the live states `own`.
+pub(crate) fn label_type<'a>(
+    label: &'a mut [u8; STEPS],
+    by: &'a [u8; STEPS],
+    to: &'a [u8; STEPS],
+    start: usize,
+    n: usize,
+    tag: &'a [u8; TYPES],
+    live: &'a [u32; TYPES],
+    own: u32,
+)
+    requires { ⌜ start + n ≤ 1024 ⌝ }
+    ensures { λ _. ⌜ Labelled (now (tag .entry)) (now (live .entry)) own (now (by .entry)) (now (to .entry)) start (start + n)
+        (now (label .entry)) (now (label .exit)) ⌝ }
+{
+    let end = start + n;
+    let mut i = start;
+    while i < end {
+        label[i] = label_of(tag, live, own, by[i], to[i]);
+        i += 1;
+    }
+}
+
+// A step by j to q, beside what came so far: the same type adds the state, a smaller type replaces it. The state is known to be below 32, so
+// it is not asked for again.
+fn join(best: Coming, j: u8, q: u8) -> Coming
+    requires { ⌜ q < 32 ⌝ }
+    ensures { λ r. ⌜ r ≡ joined best j q ⌝ }
+{
+    let only = 1u32 << (q as u32);
+    if j == best.of {
+        return Coming {
+            of: j,
+            kept: best.kept | only,
+        };
+    }
+    if j < best.of {
+        return Coming { of: j, kept: only };
+    }
+    best
+}
+
+// Is the state, which is known to be below 32, in the set?
+fn holds(states: u32, p: u8) -> bool
+    requires { ⌜ p < 32 ⌝ }
+    ensures { λ r. ⌜ r ≡ member p states ⌝ }
+{
+    states >> (p as u32) & 1 == 1
+}
+
+// What comes next under the tag g from the states of the set, by the n labelled steps from start on.
+// The length of the labels is asked for, since behind a reference it is not known.
+pub(crate) fn coming_from<'a>(
+    from: &'a [u8; STEPS],
+    by: &'a [u8; STEPS],
+    to: &'a [u8; STEPS],
+    label: &'a [u8; STEPS],
+    start: usize,
+    n: usize,
+    states: u32,
+    g: u8,
+) -> Coming
+    requires { ⌜ (start + n ≤ 1024) × (length (now label) ≡ 1024) × ((i : ℕ) → start ≤ i → i < start + n → (getD (now from) i 0 < 32) × (getD (now to) i 0 < 32)) ⌝ }
+    ensures { λ r. ⌜ r ≡ comingFrom (now (from .entry)) (now (by .entry)) (now (to .entry)) (now (label .entry)) states g start n (found 64 0) ⌝ }
+{
+    let mut next = Coming {
+        of: NO_TYPE,
+        kept: 0,
+    };
+    let end = start + n;
+    let mut i = start;
+    while i < end {
+        if label[i] == g {
+            if holds(states, from[i]) {
+                next = join(next, by[i], to[i]);
+            }
+        }
+        i += 1;
+    }
+    next
+}

@@ -1,0 +1,46 @@
+// A walker over the lent bytes of an event file. It stands at a place, gives the event there, and moves past it.
+// Each function over it is thin: the work is that of `event_at` and `place_after`.
+use crate::events::FileEvent;
+use crate::events::event_at;
+use crate::events::place_after;
+ghost use mathlib.Core.Path.{_≡_};
+ghost use Rattle.reading.specs.Events.{eventAt, placeAfter};
+
+pub struct Walker<'a> {
+    pub events: &'a [u8],
+    pub at: usize,
+}
+
+impl<'a> Walker<'a> {
+    // A walker at a place, which may be past the end.
+    pub fn new(events: &'a [u8], at: usize) -> Walker<'a>
+        ensures { λ w. ⌜ (w .events ≡ events .entry) × (w .at ≡ at) ⌝ }
+    {
+        Walker { events, at }
+    }
+
+    // The event at the walker's place.
+    pub fn event(self) -> FileEvent
+        ensures { λ r. ⌜ r ≡ eventAt (now (self .entry .events)) (self .entry .at) ⌝ }
+    {
+        event_at(self.events, self.at)
+    }
+
+    // The walker past that event; where there is none it stays.
+    pub fn next(self) -> Walker<'a>
+        ensures { λ w. ⌜ (w .events ≡ self .entry .events) × (w .at ≡ placeAfter (now (self .entry .events)) (self .entry .at)) ⌝ }
+    {
+        let at = place_after(self.events, self.at);
+        Walker {
+            events: self.events,
+            at,
+        }
+    }
+}
+
+// The event that a walker over the bytes gives at a place. Its parameters are plain, so whoever calls it needs no walker.
+pub fn walk_to(events: &[u8], at: usize) -> FileEvent
+    ensures { λ r. ⌜ r ≡ eventAt (now (events .entry)) at ⌝ }
+{
+    Walker::new(events, at).event()
+}

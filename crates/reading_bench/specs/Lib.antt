@@ -1,0 +1,2 @@
+-- What the benchmark's exports promise.
+pub mod Handed
