@@ -1,0 +1,72 @@
+-- The demands are met.
+use mathlib.Core.Path.{refl, sym}
+use mathlib.Core.List.{List, _++_}
+use Prim.Native.Nat.{ℕ}
+use lib.ListN.{length, drop}
+use Rattle.schema.specs.Value.{meaning}
+use Rattle.sdtd.specs.Schema.{Schema as Meaning}
+use Rattle.schema_file.proofs.FileAnswers.{file-ambiguous, accepted-file}
+use Rattle.schema_file.proofs.FileExists.{one-file-answer, buffer-exists}
+use Rattle.reading.proofs.AnswerExists.{one-answer}
+use Rattle.reading.proofs.OneAnswer.{refused-unchanged}
+use Rattle.reading.proofs.ListOfCalls.{list-meets, whole-meets}
+use Rattle.reading.specs.Levels.{fresh}
+use Rattle.reading.specs.EventFile.{eventsOf, Walk, EventsMean}
+use Rattle.reading.proofs.EventWalk.{events-unique}
+use Rattle.reading.proofs.EventTheory.{event-file-meets}
+use Rattle.reading.proofs.WalkExists.{walk-exists, one-walk}
+use Rattle.typing.specs.Demands.{One, Walked, Answered, Demand1, Demand2, Demand2File, Demand3}
+
+walked : (S : Meaning) (file was : List ℕ)
+    → One (λ (w : Walked). Walk S fresh (length was) 0 (eventsOf file) (w .verdict) (w .types))
+walked S file was =
+    let w = one-walk S fresh (length was) 0 (eventsOf file) in
+    record {
+      it = record { verdict = w .0; types = w .1 };
+      has = w .2;
+      only = λ o h. let same = w .3 (o .verdict) (o .types) h in λ i. record { verdict = sym (same .0) i; types = sym (same .1) i };
+    }
+
+-- the answer and the buffer of the walk's verdict and types
+answered : (S : Meaning) (file was : List ℕ) → One (λ (a : Answered). EventsMean S file was (a .buffer) (a .answer))
+answered S file was =
+    let w = walk-exists S fresh (length was) 0 (eventsOf file) in
+    let means :
+    EventsMean S file was (w .1 ++ drop (length (w .1)) was)
+    (record { number = w .0 .number; place = w .0 .place; count = length (w .1) }) =
+    record { types = w .1; walk = w .2; count = refl; buffer = refl } in
+    record {
+      it =
+          record {
+            answer = record { number = w .0 .number; place = w .0 .place; count = length (w .1) };
+            buffer = w .1 ++ drop (length (w .1)) was;
+          };
+      has = means;
+      only = λ o h. let same = events-unique h means in λ i. record { answer = same .0 i; buffer = same .1 i };
+    }
+
+pub demand-1 : Demand1
+demand-1 =
+    record {
+      file = λ file was. let a = one-file-answer file was in record { it = a .0; has = a .1; only = λ b h. sym (a .2 b h) };
+      lent = buffer-exists;
+      left = λ file was is f m. m .buffer;
+      call = λ v r x. let a = one-answer (meaning v) r x in record { it = a .0; has = a .1; only = λ b h. sym (a .2 b h) };
+      unchanged = λ v r x n number m e. refused-unchanged (meaning v) r x m e;
+      events = λ v file was. walked (meaning v) file was;
+      events-lent = λ v file was. answered (meaning v) file was;
+    }
+
+pub demand-2 : Demand2
+demand-2 file was is f m a xs calls = whole-meets (accepted-file m a .schema) xs calls
+
+pub demand-2-file : Demand2File
+demand-2-file file was is f m a events lent after r e h = event-file-meets (accepted-file m a .schema) events (length lent) h (e .walk)
+
+pub demand-3 : Demand3
+demand-3 file was is f m =
+    record {
+      refused-exactly = λ S l states some. file-ambiguous m states l some;
+      states = λ a. accepted-file m a .states;
+      calls = λ a xs calls. list-meets (accepted-file m a .schema) xs calls;
+    }

@@ -1,0 +1,122 @@
+-- What the whole job answers, by the schema file's answer: one answer, and what it says of documents.
+use mathlib.Core.Path.{_≡_, refl, sym, ap, subst, _∙_}
+use mathlib.Core.List.{List}
+use Prim.Native.Nat.{ℕ, _≤_}
+use native.Mathlib.Omega.{arith}
+use lib.ListN.{length}
+use Rattle.sdtd.specs.Document.{openings}
+use Rattle.sdtd.specs.Schema.{Schema as Meaning}
+use Rattle.schema.specs.Value.{meaning}
+use Rattle.schema.specs.declared.value.Schema.{Schema}
+use Rattle.schema_file.specs.File.{Commands, stopped, states, commands}
+use Rattle.schema_file.specs.Answer.{StatedValue, OfStated, FileMeans}
+use Rattle.schema_file.specs.declared.file.FileAnswer.{FileAnswer}
+use Rattle.schema_file.specs.declared.file.FileAnswer.the-variants.{Accepted, Refused}
+use Rattle.schema_file.specs.declared.file.SchemaFile.{SchemaFile}
+use Rattle.schema_file.proofs.FileAnswers.{file-unique, refused-accepted, accepted-file}
+use Rattle.reading.specs.EventFile.{eventsOf, EventsMean}
+use Rattle.reading.specs.EventMeaning.{eventList}
+use Rattle.reading.specs.declared.event_file.EventFile.{EventFile}
+use Rattle.reading.proofs.EventWalk.{events-unique}
+use Rattle.reading.proofs.EventTheory.{event-file-meets}
+use Rattle.typing.specs.declared.job.Job.{Job}
+use Rattle.typing.specs.declared.job.Job.the-variants.{SchemaRefused, EventsRead}
+use Rattle.typing.specs.Job.{JobMeans, JobMeets}
+use Rattle.typing.specs.Outline.{outline}
+use Rattle.typing.proofs.Lines.{lines-enough}
+
+module _ {file wasWitness isWitness : List ℕ} {f : SchemaFile} (m : FileMeans file wasWitness isWitness f) where
+  -- an accepted schema leaves the witness buffer as it was
+  no-witness : f .answer ≡ Accepted → isWitness ≡ wasWitness
+  no-witness a = m .buffer .1 (λ q. refused-accepted q a)
+
+  pub job-refused : {events types : List ℕ} {n p : ℕ} → f .answer ≡ Refused n p
+      → JobMeans file events wasWitness isWitness types types (SchemaRefused n p)
+  job-refused {n = n} {p} q =
+      record {
+        file = f;
+        schema-file = m;
+        refused = λ k l h. let same : Refused n p ≡ Refused k l = sym q ∙ h in (cc, refl);
+        accepted = λ a. refused-accepted q a;
+        unchanged = no-witness;
+      }
+
+  pub job-read : {events wasTypes isTypes : List ℕ} {e : EventFile} → f .answer ≡ Accepted
+      → EventsMean (meaning (f .schema)) events wasTypes isTypes e
+      → JobMeans file events wasWitness isWitness wasTypes isTypes (EventsRead e)
+  job-read {e = e} q k =
+      record {
+        file = f;
+        schema-file = m;
+        refused = λ n p h. refused-accepted h q;
+        accepted = λ a. (e, refl, k);
+        unchanged = no-witness;
+      }
+
+-- two values of the schema that the commands state mean one schema
+one-meaning : (k : Commands) (v w : Schema) → OfStated k (λ g. StatedValue g v) → OfStated k (λ g. StatedValue g w)
+    → meaning v ≡ meaning w
+one-meaning (stopped n p) v w s t = absurd s
+one-meaning (states g) v w s t = s .schema ∙ sym (t .schema)
+
+-- What the job's call promises fixes its answer and each byte of the types' buffer.
+module _ {file events wasWitness is₁ is₂ wasTypes types₁ types₂ : List ℕ} {r₁ r₂ : Job}
+    (j : JobMeans file events wasWitness is₁ wasTypes types₁ r₁) (k : JobMeans file events wasWitness is₂ wasTypes types₂ r₂) where
+  same-answer : j .file .answer ≡ k .file .answer
+  same-answer = file-unique file wasWitness (j .schema-file .answer) (k .schema-file .answer)
+
+  by-answer : (a : FileAnswer) → j .file .answer ≡ a → (r₁ ≡ r₂) × (types₁ ≡ types₂)
+  by-answer (Refused n p) q =
+      let x = j .refused n p q in
+      let y = k .refused n p (sym same-answer ∙ q) in
+      (x .0 ∙ sym (y .0), x .1 ∙ sym (y .1))
+  by-answer Accepted q =
+      let p = sym same-answer ∙ q in
+      let (e, s, m) = j .accepted q in
+      let (d, t, n) = k .accepted p in
+      let one = one-meaning (commands file) _ _ (j .schema-file .schema .0 q) (k .schema-file .schema .0 p) in
+      let u = events-unique (subst (λ (S : Meaning). EventsMean S events wasTypes types₁ e) one m) n in
+      (s ∙ ap EventsRead (u .0) ∙ sym t, u .1)
+
+  pub one-job : (r₁ ≡ r₂) × (types₁ ≡ types₂)
+  one-job = by-answer (j .file .answer) refl
+
+-- A job that read its events, with a byte of the buffer for each opening of the file, meets demands 2 and 3.
+module _ {file events wasWitness isWitness wasTypes isTypes : List ℕ} {e : EventFile}
+    (j : JobMeans file events wasWitness isWitness wasTypes isTypes (EventsRead e))
+    (room : openings (eventList (eventsOf events)) ≤ length wasTypes) where
+  meets-by : (a : FileAnswer) → j .file .answer ≡ a → JobMeets file events wasTypes isTypes e
+  meets-by (Refused n p) q =
+      let s = j .refused n p q .0 in
+      let z : _≡_ {A = ℕ} 0 1 = cc in absurd (omega arith)
+  meets-by Accepted q =
+      let (d, s, n) = j .accepted q in
+      let same : d ≡ e = cc in
+      let m = subst (EventsMean (meaning (j .file .schema)) events wasTypes isTypes) same n in
+      let a = accepted-file (j .schema-file) q in
+      record {
+        schema = meaning (j .file .schema);
+        stated = a .states;
+        types = m .types;
+        meets = event-file-meets (a .schema) events (length wasTypes) room (m .walk);
+        count = m .count;
+        buffer = m .buffer;
+      }
+
+  pub job-meets : JobMeets file events wasTypes isTypes e
+  job-meets = meets-by (j .file .answer) refl
+
+-- Each opening that the count counts has its line in the outline of the events.
+pub job-lines : {file events wasWitness isWitness wasTypes isTypes : List ℕ} {e : EventFile}
+    → JobMeans file events wasWitness isWitness wasTypes isTypes (EventsRead e) → e .count ≤ length (outline 0 (eventsOf events))
+job-lines {events = events} {e = e} j = by (j .file .answer) refl
+  where
+    by : (a : FileAnswer) → j .file .answer ≡ a → e .count ≤ length (outline 0 (eventsOf events))
+    by (Refused n p) q =
+        let s = j .refused n p q .0 in
+        let z : _≡_ {A = ℕ} 0 1 = cc in absurd (omega arith)
+    by Accepted q =
+        let (d, s, n) = j .accepted q in
+        let same : d ≡ e = cc in
+        let h = lines-enough (accepted-file (j .schema-file) q .schema) n in
+        omega (arith, ap (λ (x : EventFile). x .count) same)

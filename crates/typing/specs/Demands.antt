@@ -1,0 +1,93 @@
+-- The demands, as statements about the promises that the calls are proved to keep: `FileMeans` is the promise of `schema_file::read`,
+-- `CallMeans` that of `Reading::open`, `close` and `finish`, `EventsMean` that of `reading::read_events`, and `fresh` that of
+-- `Reading::fresh`. What the words mean (valid, begins, ambiguous, competition) is in `crates/sdtd/specs/`. `proofs/DemandsMet.antt` proves
+-- them.
+use mathlib.Core.Path.{_≡_}
+use mathlib.Core.List.{List}
+use Prim.Native.Nat.{ℕ, _≤_}
+use lib.ListN.{length}
+use Rattle.sdtd.specs.Limits.{leastWitness}
+use Rattle.sdtd.specs.Schema.{Schema as Meaning}
+use Rattle.sdtd.specs.Document.{Event, SomeValid, openings}
+use Rattle.sdtd.specs.Calls.{Exchange, ListMeets, WholeMeets}
+use Rattle.schema.specs.Value.{meaning}
+use Rattle.schema.specs.declared.value.Schema.{Schema}
+use Rattle.schema_file.specs.File.{commands, StatesSchema}
+use Rattle.schema_file.specs.Answer.{AnswerIs, BufferBy, FileMeans, Demand3File}
+use Rattle.schema_file.specs.declared.file.FileAnswer.{FileAnswer}
+use Rattle.schema_file.specs.declared.file.FileAnswer.the-variants.{Accepted}
+use Rattle.schema_file.specs.declared.file.SchemaFile.{SchemaFile}
+use Rattle.reading.specs.Levels.{fresh}
+use Rattle.reading.specs.Questions.{CallMeans}
+use Rattle.reading.specs.Calls.{Called}
+use Rattle.reading.specs.EventFile.{eventsOf, Verdict, verdict, Walk, EventsMean}
+use Rattle.reading.specs.EventMeaning.{eventList, EventFileMeets}
+use Rattle.reading.specs.declared.value.Reading.{Reading}
+use Rattle.reading.specs.declared.calls.EventAnswer.the-variants.{Refused}
+use Rattle.reading.specs.declared.calls.Next.{Next}
+use Rattle.reading.specs.declared.event_file.EventFile.{EventFile}
+
+-- exactly one thing has the property
+pub record One {A : Type 0} (P : A → Type 0) : Type 0 where
+  pub it : A
+  pub has : P it
+  pub only : (other : A) → P other → other ≡ it
+
+-- what a walk over an event file gives: number and place, and the types of the openings taken
+pub record Walked : Type 0 where
+  pub verdict : Verdict
+  pub types : List ℕ
+
+-- what the event file's call leaves: its answer, and the buffer
+pub record Answered : Type 0 where
+  pub answer : EventFile
+  pub buffer : List ℕ
+
+-- Demand 1: "A schema file, an event or an event file may hold anything at all. Each gets one of document 01's answers by its ordered
+-- questions. A refused event leaves the reading unchanged; what each lent byte holds afterwards is stated there."
+pub record Demand1 : Type 0 where
+  -- a schema file has one answer, whatever its bytes and the buffer's are; what the buffer holds after that answer can be had, and what the
+  -- call leaves there is that
+  pub file : (file was : List ℕ) → One (AnswerIs file was)
+  pub lent : (file was : List ℕ) (a : FileAnswer) → AnswerIs file was a → (is : List ℕ) × BufferBy (commands file) was is a
+  pub left : (file was is : List ℕ) (f : SchemaFile) → FileMeans file was is f → BufferBy (commands file) was is (f .answer)
+  -- a call has one answer, with the whole reading beside it, whatever the schema value and the reading are
+  pub call : (v : Schema) (r : Reading) (x : Event) → One (CallMeans (meaning v) r x)
+  pub unchanged : (v : Schema) (r : Reading) (x : Event) (n : Next) (number : ℕ) → CallMeans (meaning v) r x n
+      → n .answer ≡ Refused number → n .reading ≡ r
+  -- an event file has one number and place and one list of types, whatever the schema value, the bytes and the buffer's length are; and so
+  -- its call has one answer, and each byte of the buffer after it is fixed
+  pub events : (v : Schema) (file was : List ℕ)
+      → One (λ (w : Walked). Walk (meaning v) fresh (length was) 0 (eventsOf file) (w .verdict) (w .types))
+  pub events-lent : (v : Schema) (file was : List ℕ) → One (λ (a : Answered). EventsMean (meaning v) file was (a .buffer) (a .answer))
+
+-- Demand 2: "Under an accepted schema, an event list is taken whole, through its finish, exactly when it is the tag stream of a valid tree,
+-- by the published definition of specialised DTDs, nested at most 64 deep; the types given out are then that tree's typing."
+abbrev pub Demand2 : Type 0
+Demand2 =
+    (file was is : List ℕ) (f : SchemaFile) → FileMeans file was is f → f .answer ≡ Accepted
+    → (xs : List Exchange) → Called (meaning (f .schema)) fresh xs
+    → WholeMeets (meaning (f .schema)) xs
+
+-- Demand 2 of event files: with a byte of the buffer for each opening of the file, it is answered 0 exactly when its bytes are the encoding
+-- of the document of a valid tree nested at most 64 deep, and the types written are then that tree's typing.
+abbrev pub Demand2File : Type 0
+Demand2File =
+    (file was is : List ℕ) (f : SchemaFile) → FileMeans file was is f → f .answer ≡ Accepted
+    → (events lent after : List ℕ) (r : EventFile) (m : EventsMean (meaning (f .schema)) events lent after r)
+    → openings (eventList (eventsOf events)) ≤ length lent
+    → EventFileMeets (meaning (f .schema)) (length lent) events (verdict (r .number) (r .place)) (m .types)
+
+-- Demand 3 of a file and what its call gave.
+pub record Demand3Of (file was : List ℕ) (f : SchemaFile) : Type 0 where
+  -- "Suppose a schema file passes document 01's questions 1 to 7 and at least one document is valid under it. It is refused for competition
+  -- exactly when two valid documents [..] agree in every event through some opening tag and differ in that element's type. Otherwise it is
+  -- accepted".
+  pub refused-exactly : (S : Meaning) → leastWitness ≤ length was → StatesSchema file S → SomeValid S → Demand3File S (f .answer)
+  -- "and then what follows holds for every list of opening, closing and finishing calls from a fresh reading, with any tags and refused
+  -- calls included, where each call gets the reading as the last one left it."
+  pub states : f .answer ≡ Accepted → StatesSchema file (meaning (f .schema))
+  pub calls : f .answer ≡ Accepted → (xs : List Exchange) → Called (meaning (f .schema)) fresh xs → ListMeets (meaning (f .schema)) xs
+
+abbrev pub Demand3 : Type 0
+Demand3 = (file was is : List ℕ) (f : SchemaFile) → FileMeans file was is f → Demand3Of file was f
