@@ -116,3 +116,11 @@ module _ (v : Schema) (t : Trimming) (within : WithinLimits (meaning v)) (exact 
               };
           filled = rw n at e;
         }
+
+-- a witness shows a competition
+pub witness-competes : {S : Meaning} {bytes : List ℕ} → Witness S bytes → Competition S
+witness-competes w =
+    record { type = w .type; compete-in = record { word = w .word; first = w .first; second = w .second; compete = w .compete } }
+
+pub written-competes : {S : Meaning} {was is : List ℕ} → Written S was is → Competition S
+written-competes w = witness-competes (w .witness)

@@ -2,10 +2,11 @@
 use mathlib.Core.Bool.{cond, _&&_}
 use Prim.Native.Nat.{ℕ}
 use lib.Dec.{ltb}
+use Rattle.sdtd.specs.Limits.{mostStates}
 use Rattle.sdtd.specs.Competition.{pairNumber}
 use Rattle.competition.specs.declared.pairs.PairNumber.{PairNumber}
 use Rattle.competition.specs.declared.pairs.PairNumber.the-variants.{At, Outside}
 
 -- the number of the pair, where both are states below 32
 abbrev pub pairAnswer : ℕ → ℕ → PairNumber
-pairAnswer s t = cond (ltb s 32 && ltb t 32) (At (pairNumber s t)) Outside
+pairAnswer s t = cond (ltb s mostStates && ltb t mostStates) (At (pairNumber s t)) Outside

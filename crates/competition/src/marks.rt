@@ -9,7 +9,7 @@ ghost use Prim.Native.Nat.{_<_, _≤_};
 ghost use Rattle.competition.specs.Marks.{marks, markOf, markRow, markProduct, markTypes, markStep};
 
 // Entries of the table of next states: 32 states by 64 types.
-pub const NEXT: usize = STATES as usize * TYPES;
+pub(crate) const NEXT: usize = STATES as usize * TYPES;
 
 // The pair joins the queue, unless it is reached already. An entry's 5 lowest bits are p, the next 5 are q, and `link` stands above them.
 // The test for a full queue is there for the bound. It never holds in a search: there are only 528 pairs, and each joins once.

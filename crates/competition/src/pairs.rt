@@ -6,7 +6,7 @@ ghost use Rattle.sdtd.specs.Competition.{pairNumber};
 ghost use Rattle.competition.specs.Pairs.{pairAnswer};
 
 // "0 to 527"
-pub const PAIRS: usize = 528;
+pub(crate) const PAIRS: usize = 528;
 
 // The number of a pair of states, or that one of them is 32 or more.
 pub enum PairNumber {

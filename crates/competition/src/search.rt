@@ -23,8 +23,10 @@ ghost use Rattle.competition.specs.Search.{SearchMeans};
 
 // What the search of a schema answers.
 pub enum Searched {
-    // outside the limits, or a witness buffer below 532 bytes
-    Unsearched,
+    // the witness buffer has fewer than 532 bytes
+    ShortBuffer,
+    // the schema is outside the limits
+    OutsideLimits,
     // no two types compete anywhere
     Restrained,
     // two types compete, and the buffer has the witness
@@ -174,10 +176,10 @@ pub fn competition(schema: Schema, witness: &mut [u8]) -> Searched
     ensures { λ r. ⌜ SearchMeans (meaning schema) (now (witness .entry)) (now (witness .exit)) r ⌝ }
 {
     if witness.len() < LEAST_WITNESS {
-        return Searched::Unsearched;
+        return Searched::ShortBuffer;
     }
     if !within(schema) {
-        return Searched::Unsearched;
+        return Searched::OutsideLimits;
     }
     let trimming = trim(schema);
     let live = trimming.live;

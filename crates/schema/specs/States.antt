@@ -3,6 +3,7 @@ use mathlib.Core.Bool.{Bool, cond}
 use mathlib.Core.List.{List, [], _∷_, _++_}
 use Prim.Native.Nat.{ℕ, zero, suc, _+_, _/_, _%_, _^_}
 use lib.Dec.{eqb, ltb}
+use Rattle.sdtd.specs.Limits.{mostStates}
 
 -- the state s is in the set x; no state of 32 or more is in a set below 2 ^ 32
 abbrev pub member : ℕ → ℕ → Bool
@@ -10,7 +11,7 @@ member s x = eqb (x / 2 ^ s % 2) 1
 
 -- the set x with the state s; unchanged for a state of 32 or more
 unfoldable pub insert : ℕ → ℕ → ℕ
-insert s x = cond (ltb s 32) (cond (member s x) x (x + 2 ^ s)) x
+insert s x = cond (ltb s mostStates) (cond (member s x) x (x + 2 ^ s)) x
 
 -- the states of the set below n, rising
 unfoldable pub membersBelow : ℕ → ℕ → List ℕ
@@ -19,4 +20,4 @@ membersBelow (suc n) x = membersBelow n x ++ cond (member n x) (n ∷ []) []
 
 -- the states of the set, rising
 abbrev pub members : ℕ → List ℕ
-members x = membersBelow 32 x
+members x = membersBelow mostStates x

@@ -5,6 +5,7 @@ use mathlib.Core.Logic.{_↔_}
 use Prim.Native.Nat.{ℕ}
 use lib.Dec.{T}
 use lib.ListN.{getD, replicate}
+use Rattle.sdtd.specs.Limits.{mostTypes}
 use Rattle.sdtd.specs.Schema.{Schema, WithinLimits}
 use Rattle.sdtd.specs.Trim.{Bears, Live, Reached}
 use Rattle.schema.specs.States.{member}
@@ -19,7 +20,7 @@ pub record Exact (S : Schema) (t : Trimming) : Type 0 where
 
 -- tables of nothing
 abbrev pub nothing : Trimming
-nothing = record { live = replicate 64 0; bears = replicate 64 false; reached = replicate 64 false }
+nothing = record { live = replicate mostTypes 0; bears = replicate mostTypes false; reached = replicate mostTypes false }
 
 -- exactly the definitions inside the limits, and nothing outside them
 pub record TrimMeans (S : Schema) (t : Trimming) : Type 0 where
@@ -30,4 +31,4 @@ pub record TrimMeans (S : Schema) (t : Trimming) : Type 0 where
 pub record LiveMeans (S : Schema) (r : LiveStates) : Type 0 where
   pub inside : T (r .inside) ↔ WithinLimits S
   pub live : WithinLimits S → (a q : ℕ) → T (member q (getD (r .live) a 0)) ↔ Live S a q
-  pub outside : ¬ WithinLimits S → r .live ≡ replicate 64 0
+  pub outside : ¬ WithinLimits S → r .live ≡ replicate mostTypes 0

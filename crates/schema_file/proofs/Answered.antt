@@ -1,8 +1,8 @@
 -- What each answer of the schema file's call means.
 use mathlib.Core.Path.{_≡_, refl, sym, ap, subst, _∙_}
-use mathlib.Core.Logic.{_↔_, inl, inr}
+use mathlib.Core.Logic.{_↔_, inl, inr, ⊎-elim}
 use mathlib.Core.Bool.{true, false, not}
-use mathlib.Core.List.{List, []}
+use mathlib.Core.List.{List, [], _∷_}
 use Prim.Native.Nat.{ℕ, _≤_, _<_}
 use native.Mathlib.Omega.{arith}
 use lib.Dec.{T, T-not}
@@ -10,29 +10,28 @@ use lib.ListN.{length, getD}
 use Rattle.sdtd.specs.Limits.{leastWitness}
 use Rattle.sdtd.specs.Schema.{Schema as Meaning, WithinLimits}
 use Rattle.sdtd.specs.Trim.{Bears}
-use Rattle.sdtd.specs.Competition.{Competition, Witness}
+use Rattle.sdtd.specs.Competition.{Competition}
 use Rattle.schema.specs.Value.{meaning}
 use Rattle.schema.specs.Trimming.{TrimMeans}
-use Rattle.competition.specs.Search.{Written, SearchMeans}
+use Rattle.competition.specs.Search.{Written, numberFor, SearchMeans}
+use Rattle.competition.proofs.Outcome.{witness-competes}
 use Rattle.schema.specs.declared.tables.Trimming.{Trimming}
 use Rattle.competition.specs.declared.search.Searched.{Searched}
-use Rattle.competition.specs.declared.search.Searched.the-variants.{Unsearched, Restrained, Competes}
+use Rattle.competition.specs.declared.search.Searched.the-variants.{ShortBuffer, OutsideLimits, Restrained, Competes}
 use Rattle.schema.proofs.LimitLaws.{passed}
 use Rattle.schema.specs.declared.value.Schema.{Schema}
-use Rattle.schema_file.specs.File.{Stated, Commands, stopped, states, commands, schemaBy, unknown}
-use Rattle.schema_file.specs.Tables.{unknownAt, UnknownMeans, StatedBy}
-use Rattle.schema_file.specs.declared.commands.Unknown.the-variants.{At, NoStep}
-use Rattle.schema_file.proofs.Passing.{stopped-most}
-use Rattle.schema_file.proofs.StatedLimits.{stated-within}
-use Rattle.schema_file.specs.Answer.{AnswerIs, AnswerBy, BufferBy, StatedValue, SchemaBy, noSchema, FileMeans}
+use Rattle.commands.specs.File.{Stated, Commands, stopped, states, commands, schemaBy, unknown}
+use Rattle.commands.specs.declared.commands.Outcome.{Outcome}
+use Rattle.commands.specs.declared.commands.Outcome.the-variants.{Stopped, AllStated}
+use Rattle.commands.specs.declared.commands.StatedSchema.{StatedSchema}
+use Rattle.commands.proofs.Passing.{stopped-most}
+use Rattle.commands.proofs.StatedLimits.{stated-within}
+use Rattle.commands.specs.Value.{StatedValue, noSchema}
+use Rattle.commands.specs.Answer.{KnownBy, CommandsBy}
+use Rattle.schema_file.specs.Answer.{AnswerIs, AnswerBy, BufferBy, SchemaBy, FileMeans}
 use Rattle.schema_file.specs.declared.file.FileAnswer.{FileAnswer}
 use Rattle.schema_file.specs.declared.file.FileAnswer.the-variants.{Accepted, Refused}
 use Rattle.schema_file.specs.declared.file.SchemaFile.{SchemaFile}
-
--- a witness shows a competition
-pub witness-competes : {S : Meaning} {bytes : List ℕ} → Witness S bytes → Competition S
-witness-competes w =
-    record { type = w .type; compete-in = record { word = w .word; first = w .first; second = w .second; compete = w .compete } }
 
 -- a refusal with no schema beside it
 abbrev pub refusal : ℕ → ℕ → SchemaFile
@@ -100,66 +99,109 @@ pub as-refusal : {file was is : List ℕ} {r : SchemaFile} {n p : ℕ} → (r .a
     → FileMeans file was is (refusal n p) → FileMeans file was is r
 as-refusal {file} {was} {is} e m = subst (FileMeans file was is) (λ i. record { answer = sym (e .0) i; schema = sym (e .1) i }) m
 
--- each step names a given type, and so the value is inside the limits
-all-known : {file : List ℕ} {v : Schema} {places : List ℕ} {count : ℕ} (s : StatedBy file v places count)
-    → UnknownMeans (unknownAt (v .by) places (v .types) 0 count) NoStep → unknown (s .stated) ≡ []
-all-known s n = s .unknown-steps ∙ n
+-- a refusal's number and place
+numberOf : Outcome → ℕ
+numberOf (Stopped n p) = n
+numberOf AllStated = 0
 
-pub value-within : {file : List ℕ} {v : Schema} {places : List ℕ} {count : ℕ} → StatedBy file v places count
-    → UnknownMeans (unknownAt (v .by) places (v .types) 0 count) NoStep → WithinLimits (meaning v)
-value-within {file} s n =
-    subst WithinLimits (sym (s .value .schema)) (stated-within file (s .stated) (s .commands-state) (all-known s n))
+placeOf : Outcome → ℕ
+placeOf (Stopped n p) = p
+placeOf AllStated = 0
 
--- The answers after the commands have passed, by the value and the tables that they gave.
-module _ {file : List ℕ} {v : Schema} {places : List ℕ} {count : ℕ} (s : StatedBy file v places count)
-    (was : List ℕ) (long : leastWitness ≤ length was) where
-  abbrev found : List ℕ
-  found = unknownAt (v .by) places (v .types) 0 count
+-- The refusal of questions 2 to 7 is the file's.
+module _ (file was : List ℕ) (long : leastWitness ≤ length was) (r : StatedSchema) {n p : ℕ} (o : r .outcome ≡ Stopped n p) where
+  same-refusal : {m q : ℕ} → r .outcome ≡ Stopped m q → FileMeans file was was (refusal m q) → FileMeans file was was (refusal n p)
+  unfolding numberOf placeOf
+  same-refusal {m} {q} e f =
+      let d : Stopped m q ≡ Stopped n p = sym e ∙ o in
+      let number : m ≡ n = ap numberOf d in
+      let place : q ≡ p = ap placeOf d in
+      subst (λ (x : ℕ). FileMeans file was was (refusal n x)) place (subst (λ (x : ℕ). FileMeans file was was (refusal x q)) number f)
 
-  pub unknown-answer : {p : ℕ} → UnknownMeans found (At p) → FileMeans file was was (refusal 7 p)
-  unknown-answer {p} m =
-      let e = s .unknown-steps in
-      unknown-means file was long (s .commands-state) (rw e (m .0)) (rw e (m .1))
+  unknown-refused : {g : Stated} → commands file ≡ states g → (found : List ℕ) → unknown g ≡ found → KnownBy g found r
+      → FileMeans file was was (refusal n p)
+  unknown-refused e [] u b = let z : _≡_ {A = ℕ} 0 1 = cc in absurd (omega arith)
+  unknown-refused {g} e (q ∷ qs) u b =
+      let l : length (unknown g) ≡ length (q ∷ qs) = ap length u in
+      same-refusal (b .0) (unknown-means file was long e {p = q} (rw u refl) (omega arith))
 
-  module _ (none-found : UnknownMeans found NoStep) where
-    known : unknown (s .stated) ≡ []
-    known = all-known s none-found
+  by-commands : (k : Commands) → commands file ≡ k → CommandsBy k r → FileMeans file was was (refusal n p)
+  by-commands (stopped m q) e b = same-refusal (b .0) (stopped-means file was long e)
+  by-commands (states g) e b = unknown-refused e (unknown g) refl b
 
-    within : WithinLimits (meaning v)
-    within = value-within s none-found
+  pub commands-refused : CommandsBy (commands file) r → FileMeans file was was (refusal n p)
+  commands-refused b = by-commands (commands file) refl b
 
-    root-bears : Bears (meaning v) (v .root .0) ↔ Bears (schemaBy (s .stated)) (s .stated .root)
-    unfolding meaning schemaBy
-    root-bears = (
-      λ b. subst (λ (S : Meaning). Bears S (S .root)) (s .value .schema) b,
-      λ b. subst (λ (S : Meaning). Bears S (S .root)) (sym (s .value .schema)) b,
-    )
+-- Questions 2 to 7 are passed: what the commands state, and its value.
+pub record Passed (file : List ℕ) (v : Schema) : Type 0 where
+  pub stated : Stated
+  pub commands-state : commands file ≡ states stated
+  pub known : unknown stated ≡ []
+  pub value : StatedValue stated v
 
-    module _ {t : Trimming} (trimmed : TrimMeans (meaning v) t) where
-      bears-by : T (getD (t .bears) (v .root .0) false) ↔ Bears (schemaBy (s .stated)) (s .stated .root)
-      bears-by =
-          let e = trimmed .inside within .bears (v .root .0) in
-          (λ h. root-bears .0 (e .0 h), λ b. e .1 (root-bears .1 b))
+module _ (file : List ℕ) (r : StatedSchema) (o : r .outcome ≡ AllStated) where
+  known-passed : {g : Stated} → commands file ≡ states g → (found : List ℕ) → unknown g ≡ found → KnownBy g found r → Passed file (r .schema)
+  known-passed {g} e [] u b = record { stated = g; commands-state = e; known = u; value = b .1 }
+  known-passed e (q ∷ qs) u b = let z : _≡_ {A = ℕ} 0 1 = cc in absurd (omega arith)
 
-      pub treeless-answer : not (getD (t .bears) (v .root .0) false) ≡ true → FileMeans file was was (refusal 8 0)
-      treeless-answer e =
-          treeless-means file was long (s .commands-state) known
-          (λ b. T-not (getD (t .bears) (v .root .0) false) (subst T (sym e) tt) (bears-by .1 b))
+  by-passed : (k : Commands) → commands file ≡ k → CommandsBy k r → Passed file (r .schema)
+  by-passed (stopped m q) e b = let z : _≡_ {A = ℕ} 0 1 = cc in absurd (omega arith)
+  by-passed (states g) e b = known-passed e (unknown g) refl b
 
-      module _ (e : not (getD (t .bears) (v .root .0) false) ≡ false) where
-        bears : Bears (schemaBy (s .stated)) (s .stated .root)
-        bears = passed (getD (t .bears) (v .root .0) false) e bears-by
+  pub commands-passed : CommandsBy (commands file) r → Passed file (r .schema)
+  commands-passed b = by-passed (commands file) refl b
 
-        pub competing-answer : {is : List ℕ} → SearchMeans (meaning v) was is Competes → FileMeans file was is (refusal 9 0)
-        competing-answer {is} m =
-            compete-means file was long (s .commands-state) known bears is
-            (subst (λ (S : Meaning). Written S was is) (s .value .schema) (m .1))
+-- such a value is inside the limits
+pub value-within : {file : List ℕ} {v : Schema} → Passed file v → WithinLimits (meaning v)
+value-within {file} s =
+    subst WithinLimits (sym (s .value .schema)) (stated-within file (s .stated) (s .commands-state) (s .known))
 
-        pub restrained-answer : {is : List ℕ} (r : Searched) → ¬ (r ≡ Competes) → SearchMeans (meaning v) was is r
-            → FileMeans file was is (record { answer = Accepted; schema = v })
-        restrained-answer Unsearched n m = absurd (m .0 (within, long))
-        restrained-answer {is} Restrained n m =
-            subst (λ (l : List ℕ). FileMeans file was l (record { answer = Accepted; schema = v })) (sym (m .2))
-            (accepted-means file was long (s .commands-state) known bears v (s .value)
-            (subst (λ (S : Meaning). ¬ Competition S) (s .value .schema) (m .1)))
-        restrained-answer Competes n m = absurd (n refl)
+-- a search with another answer than `Competes` found no competition
+not-nine : (r : Searched) → ¬ (r ≡ Competes) → ¬ (numberFor r ≡ 9)
+not-nine ShortBuffer n e = omega arith
+not-nine OutsideLimits n e = omega arith
+not-nine Restrained n e = omega arith
+not-nine Competes n e = n refl
+
+none-competes : {S : Meaning} {was is : List ℕ} {r : Searched} → leastWitness ≤ length was → WithinLimits S → SearchMeans S was is r
+    → ¬ (numberFor r ≡ 9) → ¬ Competition S
+none-competes long within m n =
+    ⊎-elim (λ o. absurd (o .0 long))
+    (λ o. ⊎-elim (λ p. absurd (p .0 within)) (λ p. ⊎-elim (λ q. absurd (n (q .1))) (λ q. q .0) (p .1)) (o .1)) (m .answer)
+
+-- The answers after the commands have passed, by the value that they gave.
+module _ {file : List ℕ} {v : Schema} (s : Passed file v) (was : List ℕ) (long : leastWitness ≤ length was) where
+  root-bears : Bears (meaning v) (v .root .0) ↔ Bears (schemaBy (s .stated)) (s .stated .root)
+  unfolding meaning schemaBy
+  root-bears = (
+    λ b. subst (λ (S : Meaning). Bears S (S .root)) (s .value .schema) b,
+    λ b. subst (λ (S : Meaning). Bears S (S .root)) (sym (s .value .schema)) b,
+  )
+
+  module _ {t : Trimming} (trimmed : TrimMeans (meaning v) t) where
+    bears-by : T (getD (t .bears) (v .root .0) false) ↔ Bears (schemaBy (s .stated)) (s .stated .root)
+    bears-by =
+        let e = trimmed .inside (value-within s) .bears (v .root .0) in
+        (λ h. root-bears .0 (e .0 h), λ b. e .1 (root-bears .1 b))
+
+    pub treeless-answer : not (getD (t .bears) (v .root .0) false) ≡ true → FileMeans file was was (refusal 8 0)
+    treeless-answer e =
+        treeless-means file was long (s .commands-state) (s .known)
+        (λ b. T-not (getD (t .bears) (v .root .0) false) (subst T (sym e) tt) (bears-by .1 b))
+
+    module _ (e : not (getD (t .bears) (v .root .0) false) ≡ false) where
+      bears : Bears (schemaBy (s .stated)) (s .stated .root)
+      bears = passed (getD (t .bears) (v .root .0) false) e bears-by
+
+      pub competing-answer : {is : List ℕ} → SearchMeans (meaning v) was is Competes → FileMeans file was is (refusal 9 0)
+      competing-answer {is} m =
+          compete-means file was long (s .commands-state) (s .known) bears is
+          (subst (λ (S : Meaning). Written S was is) (s .value .schema) (m .written refl))
+
+      pub restrained-answer : {is : List ℕ} (r : Searched) → ¬ (r ≡ Competes) → SearchMeans (meaning v) was is r
+          → FileMeans file was is (record { answer = Accepted; schema = v })
+      restrained-answer {is} r n m =
+          let none = none-competes long (value-within s) m (not-nine r n) in
+          subst (λ (l : List ℕ). FileMeans file was l (record { answer = Accepted; schema = v })) (sym (m .unchanged (not-nine r n)))
+          (accepted-means file was long (s .commands-state) (s .known) bears v (s .value)
+          (subst (λ (S : Meaning). ¬ Competition S) (s .value .schema) none))

@@ -14,14 +14,14 @@ use Rattle.sdtd.specs.Answer.{Ordered}
 use Rattle.sdtd.proofs.Answers.{ordered-unique}
 use Rattle.sdtd.proofs.Ambiguity.{competition-is-ambiguity}
 use Rattle.sdtd.proofs.Trimming.{root-bears}
-use Rattle.schema_file.specs.File.{Stated, Commands, stopped, states, commands, schemaBy, unknown, StatesSchema, mostBytes}
+use Rattle.commands.specs.File.{Stated, Commands, stopped, states, commands, schemaBy, unknown, StatesSchema, mostBytes}
 use Rattle.schema.specs.Value.{meaning}
 use Rattle.schema.specs.declared.value.Schema.{Schema}
 use Rattle.schema_file.specs.Answer.{ask, afterDone, AnswerBy, AnswerIs, BufferBy, SchemaBy, FileMeans, Demand3File}
 use Rattle.schema_file.specs.declared.file.SchemaFile.{SchemaFile}
-use Rattle.schema_file.proofs.StatedLimits.{stated-within}
-use Rattle.schema_file.proofs.Lengths.{longest}
-use Rattle.schema_file.proofs.Answered.{witness-competes}
+use Rattle.commands.proofs.StatedLimits.{stated-within}
+use Rattle.commands.proofs.Lengths.{longest}
+use Rattle.competition.proofs.Outcome.{witness-competes}
 use Rattle.schema_file.specs.declared.file.FileAnswer.{FileAnswer}
 use Rattle.schema_file.specs.declared.file.FileAnswer.the-variants.{Accepted, Refused}
 

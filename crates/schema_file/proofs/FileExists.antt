@@ -14,12 +14,12 @@ use Rattle.sdtd.proofs.LiveStates.{live-table}
 use Rattle.sdtd.proofs.Competing.{competition-decided}
 use Rattle.sdtd.proofs.Witnesses.{witness-exists}
 use Rattle.competition.specs.Search.{Written}
-use Rattle.schema_file.specs.File.{Stated, Commands, stopped, states, commands, schemaBy, unknown}
+use Rattle.commands.specs.File.{Stated, Commands, stopped, states, commands, schemaBy, unknown}
 use Rattle.schema_file.specs.Answer.{ask, afterDone, AnswerBy, AnswerIs, BufferBy}
 use Rattle.schema_file.specs.declared.file.FileAnswer.{FileAnswer}
 use Rattle.schema_file.specs.declared.file.FileAnswer.the-variants.{Accepted, Refused}
-use Rattle.schema_file.proofs.Passing.{stopped-most}
-use Rattle.schema_file.proofs.StatedLimits.{stated-within}
+use Rattle.commands.proofs.Passing.{stopped-most}
+use Rattle.commands.proofs.StatedLimits.{stated-within}
 use Rattle.schema_file.proofs.FileAnswers.{file-unique, not-both}
 
 none-decided : (l : List ℕ) → Dec (l ≡ [])

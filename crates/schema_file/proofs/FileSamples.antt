@@ -13,12 +13,13 @@ use Rattle.sdtd.specs.Competition.{Accepted as IsAccepted}
 use Rattle.sdtd.proofs.SampleSchemas.{acceptedR, acceptedNoD, acceptedTwoTypes, acceptedLastButOne, acceptedOptional}
 use Rattle.sdtd.proofs.SampleSchemas.{refusedChoice, refusedTwoWays, bearsNoneEndless}
 use Rattle.schema.specs.States.{insert, membersBelow}
-use Rattle.schema_file.specs.Command.{commandOf}
-use Rattle.schema_file.specs.File.{Stated, nothingStated, Commands, stopped, states, after, commandsFrom, commands, schemaBy, StatesSchema}
+use Rattle.commands.specs.Command.{commandOf}
+use Rattle.commands.specs.File.{Stated, nothingStated, Commands, stopped, states, after, commandsFrom, commands, schemaBy, StatesSchema}
 use Rattle.schema_file.specs.Answer.{AnswerIs, AnswerBy, BufferBy}
 use Rattle.schema_file.specs.Samples.{AllHold, starredFiles, shortFiles, FilesState, fileR, fileChoice, fileNoD, fileTwoWays}
 use Rattle.schema_file.specs.Samples.{fileTwoTypes, fileLastButOne, fileOptional, fileEndless}
-use Rattle.schema_file.proofs.Answered.{witness-competes, buffer-same}
+use Rattle.competition.proofs.Outcome.{witness-competes}
+use Rattle.schema_file.proofs.Answered.{buffer-same}
 use Rattle.schema_file.proofs.FileAnswers.{not-both}
 use Rattle.schema_file.specs.declared.file.FileAnswer.{FileAnswer}
 use Rattle.schema_file.specs.declared.file.FileAnswer.the-variants.{Accepted, Refused}

@@ -14,8 +14,9 @@ use Rattle.schema.specs.Value.{stepAt, stepsOf, offset, blockAt, meaning}
 use Rattle.schema.specs.declared.value.Schema.{Schema}
 use Rattle.schema.proofs.Bits.{same-members, mem-members}
 use Rattle.schema.proofs.Values.{steps-cons, steps-count, offset-step, types-count, block-of}
-use Rattle.schema_file.specs.File.{Commands, stopped, states, commands}
-use Rattle.schema_file.specs.Answer.{OfStated, EmptyFrom, UnusedEmpty, StatedValue, FileMeans}
+use Rattle.commands.specs.File.{Commands, stopped, states, commands}
+use Rattle.commands.specs.Value.{EmptyFrom, UnusedEmpty, StatedValue}
+use Rattle.schema_file.specs.Answer.{OfStated, FileMeans}
 use Rattle.schema_file.specs.declared.file.FileAnswer.{FileAnswer}
 use Rattle.schema_file.specs.declared.file.FileAnswer.the-variants.{Accepted, Refused}
 use Rattle.schema_file.specs.declared.file.SchemaFile.{SchemaFile}

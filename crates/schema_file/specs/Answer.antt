@@ -3,17 +3,17 @@ use mathlib.Core.Path.{_≡_}
 use mathlib.Core.Logic.{_↔_, _⊎_}
 use mathlib.Core.List.{List, [], _∷_}
 use Prim.Native.Nat.{ℕ, _≤_}
-use lib.ListN.{length, getD, replicate}
-use Rattle.sdtd.specs.Limits.{mostTypes, mostSteps, leastWitness}
+use lib.ListN.{length, getD}
+use Rattle.sdtd.specs.Limits.{leastWitness}
 use Rattle.sdtd.specs.Schema.{Schema as Meaning}
 use Rattle.sdtd.specs.Document.{Ambiguous}
 use Rattle.sdtd.specs.Trim.{Bears}
 use Rattle.sdtd.specs.Competition.{Competition}
 use Rattle.sdtd.specs.Answer.{Question, Ordered}
-use Rattle.schema.specs.Value.{offset, meaning}
 use Rattle.competition.specs.Search.{Written}
 use Rattle.schema.specs.declared.value.Schema.{Schema}
-use Rattle.schema_file.specs.File.{Stated, Commands, stopped, states, commands, schemaBy, unknown}
+use Rattle.commands.specs.File.{Stated, Commands, stopped, states, commands, schemaBy, unknown}
+use Rattle.commands.specs.Value.{noSchema, StatedValue}
 use Rattle.schema_file.specs.declared.file.FileAnswer.{FileAnswer}
 use Rattle.schema_file.specs.declared.file.FileAnswer.the-variants.{Accepted, Refused}
 use Rattle.schema_file.specs.declared.file.SchemaFile.{SchemaFile}
@@ -59,41 +59,6 @@ abbrev pub BufferBy : Commands → List ℕ → List ℕ → FileAnswer → Type
 BufferBy k was is a =
     (a ≡ answerIn (refused 9 0) → OfStated k (λ g. Written (schemaBy g) was is))
     × (¬ (a ≡ answerIn (refused 9 0)) → is ≡ was)
-
--- the schema value beside a refusal: no tag, no type
-abbrev pub noSchema : Schema
-noSchema =
-    record {
-      tags = 0;
-      types = 0;
-      root = record { 0 = 0 };
-      tag = replicate mostTypes 0;
-      states = replicate mostTypes 0;
-      accepting = replicate mostTypes 0;
-      steps = replicate mostTypes 0;
-      from = replicate mostSteps 0;
-      by = replicate mostSteps 0;
-      to = replicate mostSteps 0;
-    }
-
--- the table holds 0 from the place n on
-abbrev pub EmptyFrom : ℕ → List ℕ → Type 0
-EmptyFrom n table = (i : ℕ) → n ≤ i → getD table i 0 ≡ 0
-
--- Past the types and the steps that the value uses, its tables hold 0.
-pub record UnusedEmpty (v : Schema) : Type 0 where
-  pub tag : EmptyFrom (v .types) (v .tag)
-  pub states : EmptyFrom (v .types) (v .states)
-  pub accepting : EmptyFrom (v .types) (v .accepting)
-  pub steps : EmptyFrom (v .types) (v .steps)
-  pub from : EmptyFrom (offset (v .steps) (v .types)) (v .from)
-  pub by : EmptyFrom (offset (v .steps) (v .types)) (v .by)
-  pub to : EmptyFrom (offset (v .steps) (v .types)) (v .to)
-
--- The value of the schema that is stated: its used entries state that schema, and the others are 0. No other value is one (`one-result`).
-pub record StatedValue (g : Stated) (v : Schema) : Type 0 where
-  pub schema : meaning v ≡ schemaBy g
-  pub unused : UnusedEmpty v
 
 -- "The accepted schema is the one that the file states." Beside a refusal stands the value of no schema.
 abbrev pub SchemaBy : Commands → Schema → FileAnswer → Type 0

@@ -1,7 +1,3 @@
--- The schema file: document 01's section of that name, in its order, and its samples. `Tables` says what the private steps compute; no
--- public promise cites it.
-pub mod Command
-pub mod File
+-- The schema file's answer: document 01's questions 1 to 9, and its samples. Questions 2 to 7 are those of crate `commands`.
 pub mod Answer
 pub mod Samples
-pub mod Tables

@@ -1,16 +1,15 @@
 // The schema file's answer: questions 1 to 9 in order.
-use crate::commands::Outcome;
-use crate::commands::Unknown;
-use crate::commands::first_unknown;
-use crate::commands::no_schema;
-use crate::commands::read_commands;
+use commands::Outcome;
+use commands::no_schema;
+use commands::read_commands;
 use competition::LEAST_WITNESS;
 use competition::Searched;
 use competition::competition;
 use schema::Schema;
 use schema::trim;
 ghost use mathlib.Core.Path.{_≡_};
-ghost use Rattle.schema_file.specs.Answer.{FileMeans, noSchema};
+ghost use Rattle.commands.specs.Value.{noSchema};
+ghost use Rattle.schema_file.specs.Answer.{FileMeans};
 
 // The answer to a schema file: accepted, or a refusal's number and place.
 pub enum FileAnswer {
@@ -47,11 +46,6 @@ pub fn read(file: &[u8], witness: &mut [u8]) -> SchemaFile
         return refused(n, p);
     }
     let schema = all.schema;
-    let places = all.places;
-    let unknown = first_unknown(&schema.by, &places, schema.types, all.count);
-    if let Unknown::At(p) = unknown {
-        return refused(7, p);
-    }
     let trimming = trim(schema);
     let root = schema.root.0 as usize;
     if !trimming.bears[root] {

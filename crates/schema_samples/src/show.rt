@@ -149,8 +149,12 @@ fn show_kept(kept: bool) {
 fn show_search(schema: Schema) {
     let mut witness = [BLANK; 532];
     match competition(schema, &mut witness) {
-        Searched::Unsearched => {
-            text(b"; unsearched");
+        Searched::ShortBuffer => {
+            text(b"; short buffer");
+            show_kept(blank_from(&witness, 0));
+        }
+        Searched::OutsideLimits => {
+            text(b"; not searched");
             show_kept(blank_from(&witness, 0));
         }
         Searched::Restrained => {
@@ -184,7 +188,8 @@ pub(crate) fn show_short(name: &[u8], schema: Schema) {
     let mut witness = [BLANK; 531];
     text(name);
     match competition(schema, &mut witness) {
-        Searched::Unsearched => text(b": unsearched"),
+        Searched::ShortBuffer => text(b": short buffer"),
+        Searched::OutsideLimits => text(b": not searched"),
         Searched::Restrained => text(b": restrained"),
         Searched::Competes => text(b": competes"),
     }

@@ -1,25 +1,31 @@
--- `schema::search::competition` meets its contract: by the tables of the trimming, what the search finds is the smallest type in which two
+-- `competition::search::competition` meets its contract: by the tables of the trimming, what the search finds is the smallest type in which two
 -- compete, with a word after which they do; or there is none.
 use mathlib.Core.Path.{_≡_, refl, sym, subst}
-use mathlib.Core.Logic.{_↔_}
+use mathlib.Core.Logic.{_↔_, inl, inr}
 use mathlib.Core.Bool.{Bool, false, not}
 use native.Mathlib.Omega.{arith}
 use borrow.Author.Needs.{needs}
 use borrow.Author.Tests.{not-false}
 use lib.Dec.{T, T-not}
 use Rattle.schema.proofs.LimitLaws.{within-room, passed}
-use Rattle.competition.proofs.Outcome.{none-compete, competing, found-written}
+use Rattle.competition.proofs.Outcome.{none-compete, competing, found-written, written-competes}
 use Rattle.competition.proofs.search.competition.Statement.{statement}
 use Rattle.competition.proofs.search.competition.Tie as tie
 
 returns : tie.Need-returns
-returns c = search needs
+returns c =
+    record { answer = inl (λ h. omega arith, refl); written = λ e. absurd (omega arith); unchanged = λ d. refl }
 
 within-requires : tie.Need-within-requires
 within-requires c κs = search needs
 
 returns-2 : tie.Need-returns-2
-returns-2 c = (λ w. T-not (c .before .within .result) (rw (c .if2 .taken) tt) (c .before .within .ensures .1 (w .0)), refl)
+returns-2 c =
+    record {
+      answer = inr (omega arith, inl (λ w. T-not (c .before .within .result) (rw (c .if2 .taken) tt) (c .before .within .ensures .1 w), refl));
+      written = λ e. absurd (omega arith);
+      unchanged = λ d. refl;
+    }
 
 trim-requires : tie.Need-trim-requires
 trim-requires c κs = search needs
@@ -59,7 +65,12 @@ returns-3 c =
     let start = c .before .before .before .before .before .before .before .before .before .before .before .before .before .before .before .before .before .before .before .before .before in
     let w = passed (start .before .within .result) (start .if2 .left) (start .before .within .ensures) in
     let f = rw (c .before .before .before .before .before .before .found .given .1) at (c .before .before .before .before .before .before .before .before .first-competing .ensures) in
-    ((w, omega arith), found-written _ _ w (c .before .before .before .before .before .before .before .before .before .before .before .before .before .before .before .before .before .before .before .before .trim .ensures .inside w) _ _ _ _ _ (f .0) (f .1) (f .2) _ _ (c .before .before .write-rivals .ensures))
+    let written = found-written _ _ w (c .before .before .before .before .before .before .before .before .before .before .before .before .before .before .before .before .before .before .before .before .trim .ensures .inside w) _ _ _ _ _ (f .0) (f .1) (f .2) _ _ (c .before .before .write-rivals .ensures) in
+    record {
+      answer = inr (omega arith, inr (w, inl (λ n. n (written-competes written), refl)));
+      written = λ e. written;
+      unchanged = λ d. absurd (d refl);
+    }
 
 enum-told : tie.Need-enum-told
 enum-told c = search needs
@@ -69,7 +80,8 @@ returns-4 c =
     let start = c .before .before .before .before .before .before .before .before .before .before .before .before .before .before .before in
     let w = passed (start .before .within .result) (start .if2 .left) (start .before .within .ensures) in
     let f = rw (c .enum-told .given .1) at (c .before .before .first-competing .ensures) in
-    ((w, omega arith), none-compete _ _ w (c .before .before .before .before .before .before .before .before .before .before .before .before .before .before .trim .ensures .inside w) f, refl)
+    let none = none-compete _ _ w (c .before .before .before .before .before .before .before .before .before .before .before .before .before .before .trim .ensures .inside w) f in
+    record { answer = inr (omega arith, inr (w, inr (none, refl))); written = λ e. absurd (omega arith); unchanged = λ d. refl }
 
 pub competition-spec : {M : Type 1} → statement M
 competition-spec =

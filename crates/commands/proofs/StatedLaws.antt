@@ -1,0 +1,131 @@
+-- What is read back from the tables: the blocks, and the places of the steps that name no given type.
+use mathlib.Core.Path.{_≡_, refl, sym, ap, _∙_}
+use mathlib.Core.Bool.{Bool, true, false, cond}
+use mathlib.Core.List.{List, [], _∷_, _++_, map, reverse, reverse-cons}
+use Prim.Native.Nat.{ℕ, zero, suc, _+_}
+use native.Mathlib.Nat.{suc-add}
+use native.Mathlib.Omega.{arith}
+use lib.Dec.{ltb}
+use lib.ListN.{length, getD}
+use Rattle.schema.specs.States.{members}
+use Rattle.schema.specs.Value.{upFrom, stepAt, stepsOf, offset, blockAt}
+use Rattle.schema.specs.declared.value.Schema.{Schema}
+use Rattle.schema.proofs.Values.{offset-step}
+use Rattle.commands.specs.File.{Placed, Draft, stepCount, blockBy, unknownIn, unknownBy}
+use Rattle.commands.specs.Tables.{Tables, unknownAt}
+use Rattle.commands.proofs.Holding.{StepsHold, DraftHolds, BlocksHold}
+
+-- the last of the numbers
+up-last : {A : Type 0} (f : ℕ → A) (s n : ℕ) → map f (upFrom s (suc n)) ≡ map f (upFrom s n) ++ (f (s + n) ∷ [])
+unfolding upFrom
+up-last f s zero = rw (let e : s + 0 ≡ s = omega arith in e)
+up-last f s (suc n) =
+    let e : s + suc n ≡ suc s + n = omega arith in
+    rw e (ap (λ (l : List _). f s ∷ l) (up-last f (suc s) n))
+
+map-last : {A B : Type 0} (f : A → B) (xs : List A) (x : A) → map f (xs ++ (x ∷ [])) ≡ map f xs ++ (f x ∷ [])
+map-last f [] x = refl
+map-last f (y ∷ ys) x = ap (λ (l : List _). f y ∷ l) (map-last f ys x)
+
+-- what is reversed, with one more
+map-reverse : {A B : Type 0} (f : A → B) (x : A) (xs : List A) → map f (reverse (x ∷ xs)) ≡ map f (reverse xs) ++ (f x ∷ [])
+map-reverse f x xs = ap (map f) (reverse-cons x xs) ∙ map-last f (reverse xs) x
+
+-- the steps at a block's places are its steps in file order
+steps-back : (t : Tables) (xs : List Placed) (s : ℕ) → StepsHold t xs s
+    → stepsOf (t .from) (t .by) (t .to) s (length xs) ≡ map (λ (x : Placed). x .step) (reverse xs)
+unfolding stepsOf upFrom
+steps-back t [] s h = refl
+steps-back t (x ∷ xs) s h =
+    up-last (stepAt (t .from) (t .by) (t .to)) s (length xs)
+    ∙ (λ i. steps-back t xs s (h .2) i ++ (h .0 i ∷ []))
+    ∙ sym (map-reverse (λ (x : Placed). x .step) x xs)
+
+-- a type's first step stands behind all steps of the types before it
+pub offset-back : (t : Tables) (bs : List Draft) → BlocksHold t bs → offset (t .counts) (length bs) ≡ stepCount bs
+offset-back t [] h = refl
+offset-back t (d ∷ ds) h =
+    offset-step (t .counts) (length ds) ∙ (λ i. offset-back t ds (h .1) i + h .0 .count i)
+
+-- the schema value of the tables
+abbrev pub valueOf : Tables → ℕ → ℕ → ℕ → Schema
+valueOf t tags types root =
+    record {
+      tags = tags;
+      types = types;
+      root = record { 0 = root };
+      tag = t .tag;
+      states = t .states;
+      accepting = t .accepting;
+      steps = t .counts;
+      from = t .from;
+      by = t .by;
+      to = t .to;
+    }
+
+module _ (t : Tables) (tags types root : ℕ) where
+  block-back : (d : Draft) (a s : ℕ) → offset (t .counts) a ≡ s → DraftHolds t d a s
+      → blockAt (valueOf t tags types root) a ≡ blockBy d
+  unfolding blockAt
+  block-back d a s e h i =
+      record {
+        tag = h .tag i;
+        states = h .states i;
+        accepting = members (h .accepting i);
+        steps = ((λ j. stepsOf (t .from) (t .by) (t .to) (e j) (h .count j)) ∙ steps-back t (d .steps) s (h .steps)) i;
+      }
+
+  pub blocks-back : (bs : List Draft) → BlocksHold t bs
+      → map (blockAt (valueOf t tags types root)) (upFrom 0 (length bs)) ≡ map blockBy (reverse bs)
+  unfolding upFrom
+  blocks-back [] h = refl
+  blocks-back (d ∷ ds) h =
+      let z : 0 + length ds ≡ length ds = omega arith in
+      up-last (blockAt (valueOf t tags types root)) 0 (length ds)
+      ∙ rw z (λ i. blocks-back ds (h .1) i ++ (block-back d (length ds) (stepCount ds) (offset-back t ds (h .1)) (h .0) i ∷ []))
+      ∙ sym (map-reverse blockBy d ds)
+
+module _ (by places : List ℕ) (types : ℕ) where
+  -- the places among n + m steps
+  unknown-add : (i n m : ℕ)
+      → unknownAt by places types i (n + m) ≡ unknownAt by places types i n ++ unknownAt by places types (i + n) m
+  unfolding unknownAt
+  unknown-add i zero m =
+      let e : 0 + m ≡ m = omega arith in
+      let z : i + 0 ≡ i = omega arith in
+      rw (e, z)
+  unknown-add i (suc n) m =
+      let z : i + suc n ≡ suc i + n = omega arith in
+      let found = unknownAt by places types in
+      rw (suc-add, z) (one (ltb (getD by i 0) types) (found (suc i) n) (found (suc i + n) m) (unknown-add (suc i) n m))
+    where
+      one : (b : Bool) {x : List ℕ} (y z : List ℕ) → x ≡ y ++ z → cond b x (getD places i 0 ∷ x) ≡ cond b y (getD places i 0 ∷ y) ++ z
+      one true y z e = e
+      one false y z e = ap (λ (l : List ℕ). getD places i 0 ∷ l) e
+
+  unknown-one : (i : ℕ) → unknownAt by places types i 1 ≡ cond (ltb (getD by i 0) types) [] (getD places i 0 ∷ [])
+  unfolding unknownAt
+  unknown-one i = refl
+
+-- the places of a block's steps
+unknown-steps : (t : Tables) (types : ℕ) (xs : List Placed) (s : ℕ) → StepsHold t xs s
+    → unknownIn types xs ≡ unknownAt (t .by) (t .places) types s (length xs)
+unfolding unknownAt
+unknown-steps t types [] s h = refl
+unknown-steps t types (x ∷ xs) s h =
+    let e : suc (length xs) ≡ length xs + 1 = omega arith in
+    let u = unknownAt (t .by) (t .places) types in
+    (λ i. unknown-steps t types xs s (h .2) i ++ cond (ltb (sym (h .0) i .by) types) [] (sym (h .1) i ∷ []))
+    ∙ ap (λ (l : List ℕ). u s (length xs) ++ l) (sym (unknown-one (t .by) (t .places) types (s + length xs)))
+    ∙ sym (unknown-add (t .by) (t .places) types s (length xs) 1)
+    ∙ ap (u s) (sym e)
+
+-- the places of all of them
+pub unknown-back : (t : Tables) (types : ℕ) (bs : List Draft) → BlocksHold t bs
+    → unknownBy types bs ≡ unknownAt (t .by) (t .places) types 0 (stepCount bs)
+unfolding unknownAt
+unknown-back t types [] h = refl
+unknown-back t types (d ∷ ds) h =
+    let z : 0 + stepCount ds ≡ stepCount ds = omega arith in
+    (λ i. unknown-back t types ds (h .1) i ++ unknown-steps t types (d .steps) (stepCount ds) (h .0 .steps) i)
+    ∙ sym (rw z at (unknown-add (t .by) (t .places) types 0 (stepCount ds) (length (d .steps))))

@@ -1,0 +1,86 @@
+-- `commands::state::state_after` meets its contract, command by command.
+use mathlib.Core.Path.{_≡_, refl}
+use mathlib.Core.List.{[], _∷_}
+use types.Run.{OneOf, miss}
+use denote.Enum.Declared.{tagOf}
+use Rattle.commands.specs.declared.command.Command.{Command}
+use Rattle.commands.specs.declared.command.Command.the-variants.{Tags, TypeBlock, Final, Step, Root, Done, NoCommand}
+use Rattle.commands.specs.declared.state.State.{State}
+use Rattle.commands.proofs.command.Command.{the-type}
+use Rattle.commands.specs.Tables.{stateAfter}
+use borrow.Author.Needs.{needs}
+use Rattle.commands.proofs.state.state_after.Statement.{statement}
+use Rattle.commands.proofs.state.state_after.Tie as tie
+
+-- FINAL changes nothing here
+others : (s : State) (c : Command) → OneOf (2 ∷ 6 ∷ []) (tagOf the-type c) → s ≡ stateAfter s c
+unfolding stateAfter
+others s (Tags n) k = absurd (miss (2 ∷ 6 ∷ []) 0 tt k)
+others s (TypeBlock t n) k = absurd (miss (2 ∷ 6 ∷ []) 1 tt k)
+others s (Final q) k = refl
+others s (Step p j q) k = absurd (miss (2 ∷ 6 ∷ []) 3 tt k)
+others s (Root a) k = absurd (miss (2 ∷ 6 ∷ []) 4 tt k)
+others s Done k = absurd (miss (2 ∷ 6 ∷ []) 5 tt k)
+others s NoCommand k = refl
+
+enum-known-command : tie.Need-enum-known-command
+enum-known-command c = search needs
+
+enum-told : tie.Need-enum-told
+enum-told c = search needs
+
+add-t7 : tie.Need-add-t7
+add-t7 c = search needs
+
+enum-told-2 : tie.Need-enum-told-2
+enum-told-2 c = search needs
+
+add-t9 : tie.Need-add-t9
+add-t9 c = search needs
+
+enum-known-command-2 : tie.Need-enum-known-command-2
+enum-known-command-2 c = search needs
+
+enum-told-3 : tie.Need-enum-told-3
+enum-told-3 c = search needs
+
+returns : tie.Need-returns
+unfolding stateAfter
+returns c = rw (c .before .command .given .1)
+
+returns-2 : tie.Need-returns-2
+unfolding stateAfter
+returns-2 c = rw (c .before .enum-told .given .1)
+
+returns-3 : tie.Need-returns-3
+unfolding stateAfter
+returns-3 c = rw (c .before .enum-told2 .given .1)
+
+returns-4 : tie.Need-returns-4
+unfolding stateAfter
+returns-4 c = rw (c .before .command2 .given .1)
+
+returns-5 : tie.Need-returns-5
+unfolding stateAfter
+returns-5 c = rw (c .enum-told3 .given .1)
+
+returns-6 : tie.Need-returns-6
+returns-6 c = others _ _ (c .match .keys6)
+
+pub state-after-spec : {M : Type 1} → statement M
+state-after-spec =
+    tie.close
+    (tie.spec
+    enum-known-command
+    enum-told
+    add-t7
+    enum-told-2
+    add-t9
+    enum-known-command-2
+    enum-told-3
+    returns
+    returns-2
+    returns-3
+    returns-4
+    returns-5
+    returns-6)

@@ -1,0 +1,44 @@
+-- The schema value that stands for what a file states, and the one that stands for no schema.
+use mathlib.Core.Path.{_≡_}
+use mathlib.Core.List.{List}
+use Prim.Native.Nat.{ℕ, _≤_}
+use lib.ListN.{getD, replicate}
+use Rattle.sdtd.specs.Limits.{mostTypes, mostSteps}
+use Rattle.schema.specs.Value.{offset, meaning}
+use Rattle.schema.specs.declared.value.Schema.{Schema}
+use Rattle.commands.specs.File.{Stated, schemaBy}
+
+-- the schema value beside a refusal: no tag, no type
+abbrev pub noSchema : Schema
+noSchema =
+    record {
+      tags = 0;
+      types = 0;
+      root = record { 0 = 0 };
+      tag = replicate mostTypes 0;
+      states = replicate mostTypes 0;
+      accepting = replicate mostTypes 0;
+      steps = replicate mostTypes 0;
+      from = replicate mostSteps 0;
+      by = replicate mostSteps 0;
+      to = replicate mostSteps 0;
+    }
+
+-- the table holds 0 from the place n on
+abbrev pub EmptyFrom : ℕ → List ℕ → Type 0
+EmptyFrom n table = (i : ℕ) → n ≤ i → getD table i 0 ≡ 0
+
+-- Past the types and the steps that the value uses, its tables hold 0.
+pub record UnusedEmpty (v : Schema) : Type 0 where
+  pub tag : EmptyFrom (v .types) (v .tag)
+  pub states : EmptyFrom (v .types) (v .states)
+  pub accepting : EmptyFrom (v .types) (v .accepting)
+  pub steps : EmptyFrom (v .types) (v .steps)
+  pub from : EmptyFrom (offset (v .steps) (v .types)) (v .from)
+  pub by : EmptyFrom (offset (v .steps) (v .types)) (v .by)
+  pub to : EmptyFrom (offset (v .steps) (v .types)) (v .to)
+
+-- The value of the schema that is stated: its used entries state that schema, and the others are 0. No other value is one (`one-result`).
+pub record StatedValue (g : Stated) (v : Schema) : Type 0 where
+  pub schema : meaning v ≡ schemaBy g
+  pub unused : UnusedEmpty v

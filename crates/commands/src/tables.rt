@@ -1,0 +1,145 @@
+// The tables that the commands fill.
+use crate::command::Command;
+use schema::STEPS;
+use schema::StateSet;
+use schema::TYPES;
+ghost use mathlib.Core.Path.{_≡_};
+ghost use Prim.Native.Nat.{_+_, _%_, _≤_, _<_};
+ghost use lib.ListN.{getD, set};
+ghost use Rattle.sdtd.specs.Limits.{mostTypes, mostSteps};
+ghost use Rattle.schema.specs.States.{insert};
+ghost use Rattle.commands.specs.File.{sameStep};
+ghost use Rattle.commands.specs.Tables.{givenIn, givenLast, givenAlready};
+
+// the most steps, as a type's count of them
+const MOST_COUNT: u16 = STEPS as u16;
+
+// Is the step f, b, t the step p, j, q? All three parts are compared, with no branch.
+fn same_step(f: u8, b: u8, t: u8, p: u8, j: u8, q: u8) -> bool
+    ensures { λ r. ⌜ r ≡ sameStep p j q (record { from = f; by = b; to = t }) ⌝ }
+{
+    (f == p) & ((b == j) & (t == q))
+}
+
+// Is one of the n steps from start on this one? All of them are compared.
+fn has_step<'a>(
+    from: &'a [u8; STEPS],
+    by: &'a [u8; STEPS],
+    to: &'a [u8; STEPS],
+    start: usize,
+    n: usize,
+    p: u8,
+    j: u8,
+    q: u8,
+) -> bool
+    requires { ⌜ start + n ≤ mostSteps ⌝ }
+    ensures { λ r. ⌜ r ≡ givenIn (now (from .entry)) (now (by .entry)) (now (to .entry)) p j q start n ⌝ }
+{
+    let end = start + n;
+    let mut found = false;
+    let mut i = start;
+    while i < end {
+        let same = same_step(from[i], by[i], to[i], p, j, q);
+        found = found | same;
+        i += 1;
+    }
+    found
+}
+
+// Is one of the last n steps of the count this one?
+fn has_last<'a>(
+    from: &'a [u8; STEPS],
+    by: &'a [u8; STEPS],
+    to: &'a [u8; STEPS],
+    count: usize,
+    n: usize,
+    p: u8,
+    j: u8,
+    q: u8,
+) -> bool
+    ensures { λ r. ⌜ r ≡ givenLast (now (from .entry)) (now (by .entry)) (now (to .entry)) p j q count n ⌝ }
+{
+    if count < n {
+        return false;
+    }
+    if STEPS < count {
+        return false;
+    }
+    has_step(from, by, to, count - n, n, p, j, q)
+}
+
+// Has the block that the file is in, whose n steps are the last of the count, the command's STEP already?
+pub(crate) fn given_already<'a>(
+    from: &'a [u8; STEPS],
+    by: &'a [u8; STEPS],
+    to: &'a [u8; STEPS],
+    count: usize,
+    n: u16,
+    command: Command,
+) -> bool
+    ensures { λ r. ⌜ r ≡ givenAlready count (now (from .entry)) (now (by .entry)) (now (to .entry)) n command ⌝ }
+{
+    match command {
+        Command::Step(p, j, q) => has_last(from, by, to, count, n as usize, p, j, q),
+        _ => false,
+    }
+}
+
+// One type more.
+pub(crate) fn add_type<'a>(
+    tag: &'a mut [u8; TYPES],
+    states: &'a mut [u8; TYPES],
+    accepting: &'a mut [u32; TYPES],
+    counts: &'a mut [u16; TYPES],
+    a: usize,
+    g: u8,
+    k: u8,
+)
+    requires { ⌜ a < mostTypes ⌝ }
+    ensures { λ _. ⌜ (now (tag .exit) ≡ set (now (tag .entry)) a g)
+        × (now (states .exit) ≡ set (now (states .entry)) a k)
+        × (now (accepting .exit) ≡ set (now (accepting .entry)) a 0)
+        × (now (counts .exit) ≡ set (now (counts .entry)) a 0) ⌝ }
+{
+    tag[a] = g;
+    states[a] = k;
+    accepting[a] = 0;
+    counts[a] = 0;
+}
+
+// One accepting state more.
+pub(crate) fn add_final(accepting: &mut [u32; TYPES], a: usize, q: u8)
+    requires { ⌜ a < mostTypes ⌝ }
+    ensures { λ _. ⌜ now (accepting .exit) ≡ set (now (accepting .entry)) a (insert q (getD (now (accepting .entry)) a 0)) ⌝ }
+{
+    let grown = StateSet(accepting[a]).with(q);
+    accepting[a] = grown.0;
+}
+
+// One step more, at the place n of the tables.
+pub(crate) fn add_step<'a>(
+    counts: &'a mut [u16; TYPES],
+    from: &'a mut [u8; STEPS],
+    by: &'a mut [u8; STEPS],
+    to: &'a mut [u8; STEPS],
+    places: &'a mut [usize; STEPS],
+    a: usize,
+    n: usize,
+    p: u8,
+    j: u8,
+    q: u8,
+    at: usize,
+)
+    requires { ⌜ (a < mostTypes) × (n < mostSteps) ⌝ }
+    ensures { λ _. ⌜ (now (counts .exit) ≡ set (now (counts .entry)) a (getD (now (counts .entry)) a 0 % mostSteps + 1))
+        × (now (from .exit) ≡ set (now (from .entry)) n p)
+        × (now (by .exit) ≡ set (now (by .entry)) n j)
+        × (now (to .exit) ≡ set (now (to .entry)) n q)
+        × (now (places .exit) ≡ set (now (places .entry)) n at) ⌝ }
+{
+    counts[a] = counts[a] % MOST_COUNT + 1;
+    from[n] = p;
+    by[n] = j;
+    to[n] = q;
+    places[n] = at;
+}
