@@ -17,20 +17,20 @@ use Rattle.reading.specs.Coming.{noTag, noType, found, join, comingFrom}
 
 -- c has the smallest type of P, and the states that P has with it; noType where P has none below it
 pub record Smallest (P : ℕ → ℕ → Type 0) (c : Coming) : Type 0 where
-  pub most : c .of ≤ noType
+  pub most : c .of .0 ≤ noType
   pub kept-below : c .kept < 2 ^ mostStates
-  pub some : c .of < noType → (q : ℕ) × P (c .of) q
-  pub least : (j q : ℕ) → P j q → c .of ≤ j
-  pub keeps : (q : ℕ) → T (member q (c .kept)) ↔ P (c .of) q
+  pub some : c .of .0 < noType → (q : ℕ) × P (c .of .0) q
+  pub least : (j q : ℕ) → P j q → c .of .0 ≤ j
+  pub keeps : (q : ℕ) → T (member q (c .kept)) ↔ P (c .of .0) q
 
 pub smallest-same : {P Q : ℕ → ℕ → Type 0} {c : Coming} → ((j q : ℕ) → P j q ↔ Q j q) → Smallest P c → Smallest Q c
 smallest-same {c = c} same s =
     record {
       most = s .most;
       kept-below = s .kept-below;
-      some = λ l. let p = s .some l in (p .0, same (c .of) (p .0) .0 (p .1));
+      some = λ l. let p = s .some l in (p .0, same (c .of .0) (p .0) .0 (p .1));
       least = λ j q p. s .least j q (same j q .1 p);
-      keeps = λ q. (λ m. same (c .of) q .0 (s .keeps q .0 m), λ p. s .keeps q .1 (same (c .of) q .1 p));
+      keeps = λ q. (λ m. same (c .of .0) q .0 (s .keeps q .0 m), λ p. s .keeps q .1 (same (c .of .0) q .1 p));
     }
 
 -- P, and the type j with the state q
@@ -39,7 +39,7 @@ With P j q k p = P k p ⊎ ((k ≡ j) × (p ≡ q))
 
 module _ (P : ℕ → ℕ → Type 0) (c : Coming) (j q : ℕ) (type : j < noType) (state : q < mostStates) (s : Smallest P c) where
   -- a smaller type replaces the one so far
-  join-smaller : j < c .of → Smallest (With P j q) (found j (insert q 0))
+  join-smaller : j < c .of .0 → Smallest (With P j q) (found j (insert q 0))
   join-smaller l =
       record {
         most = omega arith;
@@ -53,7 +53,7 @@ module _ (P : ℕ → ℕ → Type 0) (c : Coming) (j q : ℕ) (type : j < noTyp
       }
 
   -- a larger type changes nothing
-  join-larger : c .of < j → Smallest (With P j q) c
+  join-larger : c .of .0 < j → Smallest (With P j q) c
   join-larger l =
       record {
         most = s .most;
@@ -64,7 +64,7 @@ module _ (P : ℕ → ℕ → Type 0) (c : Coming) (j q : ℕ) (type : j < noTyp
       }
 
   -- the same type adds the state
-  join-same : c .of ≡ j → Smallest (With P j q) (found j (insert q (c .kept)))
+  join-same : c .of .0 ≡ j → Smallest (With P j q) (found j (insert q (c .kept)))
   join-same e =
       let insertion : (p : ℕ) → T (member p (insert q (c .kept))) ↔ (T (member p (c .kept)) ⊎ ((p ≡ q) × (q < mostStates))) =
       λ p. member-insert q p (c .kept) (s .kept-below) in
@@ -84,13 +84,13 @@ module _ (P : ℕ → ℕ → Type 0) (c : Coming) (j q : ℕ) (type : j < noTyp
   join-smallest : Smallest (With P j q) (join c j q)
   unfolding join
   join-smallest =
-      cond-either (Smallest (With P j q)) (ltb j (c .of)) (λ h. join-smaller (ltb→lt j (c .of) h))
-      (λ n. cond-either (Smallest (With P j q)) (ltb (c .of) j) (λ h. join-larger (ltb→lt (c .of) j h)) (λ m. join-same (even n m)))
+      cond-either (Smallest (With P j q)) (ltb j (c .of .0)) (λ h. join-smaller (ltb→lt j (c .of .0) h))
+      (λ n. cond-either (Smallest (With P j q)) (ltb (c .of .0) j) (λ h. join-larger (ltb→lt (c .of .0) j h)) (λ m. join-same (even n m)))
     where
-      even : (T (ltb j (c .of)) → ⊥) → (T (ltb (c .of) j) → ⊥) → c .of ≡ j
+      even : (T (ltb j (c .of .0)) → ⊥) → (T (ltb (c .of .0) j) → ⊥) → c .of .0 ≡ j
       even n m =
-          let n′ : ¬ (j < c .of) = λ l. n (lt→ltb j (c .of) l) in
-          let m′ : ¬ (c .of < j) = λ l. m (lt→ltb (c .of) j l) in
+          let n′ : ¬ (j < c .of .0) = λ l. n (lt→ltb j (c .of .0) l) in
+          let m′ : ¬ (c .of .0 < j) = λ l. m (lt→ltb (c .of .0) j l) in
           omega arith
 
 -- a step between the places s and e, labelled with the tag g and from a state of the set, is by the type j to the state q

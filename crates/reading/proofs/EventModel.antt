@@ -18,8 +18,8 @@ use Rattle.sdtd.proofs.Answers.{right-unique}
 use Rattle.sdtd.proofs.Decide.{LiveTable, LiveExact}
 use Rattle.sdtd.proofs.Model.{model, framesAfter, model-right, model-next, fresh-position}
 use Rattle.reading.specs.Levels.{fresh}
-use Rattle.reading.specs.EventFile.{Events, ends, stray, event, eventsOf, sizeOf, Verdict, verdict, Walk}
-use Rattle.reading.specs.EventMeaning.{Decides, Judged}
+use Rattle.reading.specs.EventFile.{Events, ends, stray, event, eventsOf, sizeOf, Verdict, verdict, Follows, Walk}
+use Rattle.reading.specs.EventMeaning.{Judged}
 use Rattle.reading.proofs.EventWalk.{walk-judged}
 
 -- the verdict and the types
@@ -57,15 +57,15 @@ ends-outcome (f ∷ fs) p room at v ts (inl (n, q), t) = (q, t)
 ends-outcome (f ∷ fs) p room at v ts (inr (m, q), t) = absurd (position-unfinished p m)
 
 -- what follows an answer, where the events after it come to the outcome o
-decides-outcome : {S : Schema} (e : List Event) (x : Event) {fs : List Frame} (a : Answer) (room at : ℕ) (v : Verdict) (ts : List ℕ)
+follows-outcome : {S : Schema} (e : List Event) (x : Event) {fs : List Frame} (a : Answer) (room at : ℕ) (v : Verdict) (ts : List ℕ)
     (o : Outcome) {on : ℕ → List ℕ → Type 0} → Position S (e ++ ifTaken a x) fs
     → (Position S (e ++ (x ∷ [])) fs → (left : ℕ) (us : List ℕ) → length (o .types) ≤ left → on left us → Is v us o)
-    → length (outcomeBy a at o .types) ≤ room → Decides a room at v ts on → Is v ts (outcomeBy a at o)
-decides-outcome e x (refused n) room at v ts o p later h d = d
-decides-outcome e x (typed j) zero at v ts o p later h d = absurd (omega arith)
-decides-outcome e x (typed j) (suc room) at v ts o p later h (us, q, d) =
+    → length (outcomeBy a at o .types) ≤ room → Follows a room at v ts on → Is v ts (outcomeBy a at o)
+follows-outcome e x (refused n) room at v ts o p later h d = d
+follows-outcome e x (typed j) zero at v ts o p later h d = absurd (omega arith)
+follows-outcome e x (typed j) (suc room) at v ts o p later h (us, q, d) =
     let r = later p room us (omega arith) d in (r .0, q ∙ ap (λ (l : List ℕ). j ∷ l) (r .1))
-decides-outcome e x taken room at v ts o p later h d = later p room ts h d
+follows-outcome e x taken room at v ts o p later h d = later p room ts h d
 
 module _ {S : Schema} {L : LiveTable} (free : ¬ Competition S) (exact : LiveExact S L) where
   judged-outcome : {e : List Event} (fs : List Frame) → Position S e fs → (room at : ℕ) (es : Events) (v : Verdict) (ts : List ℕ)
@@ -76,9 +76,9 @@ module _ {S : Schema} {L : LiveTable} (free : ¬ Competition S) (exact : LiveExa
       let b = model S L e fs x in
       let on : ℕ → List ℕ → Type 0 = λ left us. Judged S (e ++ (x ∷ [])) left (at + sizeOf x) es v us in
       let same : a ≡ b = right-unique S e x r (model-right free exact p x) in
-      decides-outcome e x b room at v ts (outcome S L (e ++ (x ∷ [])) (framesAfter b fs) (at + sizeOf x) es) (model-next free exact p x)
+      follows-outcome e x b room at v ts (outcome S L (e ++ (x ∷ [])) (framesAfter b fs) (at + sizeOf x) es) (model-next free exact p x)
       (λ p′ left us l k. judged-outcome (framesAfter b fs) p′ left (at + sizeOf x) es v us l k)
-      h (subst (λ (c : Answer). Decides c room at v ts on) same d)
+      h (subst (λ (c : Answer). Follows c room at v ts on) same d)
 
 -- the outcome of a file
 abbrev pub outcomeOf : Schema → LiveTable → List ℕ → Outcome

@@ -16,8 +16,8 @@ use Rattle.sdtd.proofs.Within.{within-tags}
 use Rattle.sdtd.proofs.Calls.{RightAt, places-of-each, right-taken, Fits, fits-beginning, within-fits, Sound, call-meets, sound-next}
 use Rattle.sdtd.proofs.Calls.{calls-meet-whole, fresh as nothing-taken}
 use Rattle.reading.specs.Levels.{fresh}
-use Rattle.reading.specs.EventFile.{Events, ends, stray, event, eventsOf, sizeOf, Verdict, Walk}
-use Rattle.reading.specs.EventMeaning.{bytesOf, eventList, Decides, Judged, EventFileMeets}
+use Rattle.reading.specs.EventFile.{Events, ends, stray, event, eventsOf, sizeOf, Verdict, Follows, Walk}
+use Rattle.reading.specs.EventMeaning.{bytesOf, eventList, Judged, EventFileMeets}
 use Rattle.reading.proofs.EventBytes.{listed, listed-events, bytes-events, events-bytes}
 use Rattle.reading.proofs.EventWalk.{walk-judged}
 use Rattle.reading.proofs.EventWhole.{typesIn, Whole, judged-whole}
@@ -68,7 +68,7 @@ openings-after finish f = omega arith
 goes-on : (S : Schema) (e : List Event) (x : Event) (f : List Event) (a : Answer) (room at : ℕ) (v : Verdict) (ts : List ℕ)
     {on : ℕ → List ℕ → Type 0} → IsTaken a → TakenAnswer S e x a → Sound S (e ++ ifTaken a x)
     → (Sound S (e ++ (x ∷ [])) → (left : ℕ) (us : List ℕ) → openings f ≤ left → on left us → v .number ≡ 0)
-    → openings (x ∷ f) ≤ room → Decides a room at v ts on → v .number ≡ 0
+    → openings (x ∷ f) ≤ room → Follows a room at v ts on → v .number ≡ 0
 goes-on S e x f (typed j) zero at v ts t k s later h d = absurd (omega (arith, typed-opens S e x j f k))
 goes-on S e x f (typed j) (suc room) at v ts t k s later h (us, p, d) = later s room us (omega (arith, typed-opens S e x j f k)) d
 goes-on S e x f taken room at v ts t k s later h d = later s room ts (omega (arith, openings-after x f)) d
@@ -91,12 +91,12 @@ valid-taken {S} accepted e (x ∷ f) s b m room at v ts h (a, r, d) =
 finish-of : {S : Schema} {d : List Event} → ValidWithin S d → List·Memᴰ finish d
 finish-of w = subst (List·Memᴰ finish) (w .is-document) (Memᴰ·append-right (stream (w .tree)) (List·Memᴰ·head refl))
 
-decides-room : (a : Answer) (room at : ℕ) (v : Verdict) (ts : List ℕ) {on : ℕ → List ℕ → Type 0}
-    → ((left : ℕ) (us : List ℕ) → on left us → length us ≤ left) → Decides a room at v ts on → length ts ≤ room
-decides-room (refused n) room at v ts later d = omega (arith, ap length (d .1))
-decides-room (typed j) zero at v ts later d = omega (arith, ap length (d .1))
-decides-room (typed j) (suc room) at v ts later (us, p, d) = omega (arith, ap length p, later room us d)
-decides-room taken room at v ts later d = later room ts d
+follows-room : (a : Answer) (room at : ℕ) (v : Verdict) (ts : List ℕ) {on : ℕ → List ℕ → Type 0}
+    → ((left : ℕ) (us : List ℕ) → on left us → length us ≤ left) → Follows a room at v ts on → length ts ≤ room
+follows-room (refused n) room at v ts later d = omega (arith, ap length (d .1))
+follows-room (typed j) zero at v ts later d = omega (arith, ap length (d .1))
+follows-room (typed j) (suc room) at v ts later (us, p, d) = omega (arith, ap length p, later room us d)
+follows-room taken room at v ts later d = later room ts d
 
 -- no more types are given out than the buffer has bytes
 judged-room : (S : Schema) (e : List Event) (room at : ℕ) (es : Events) (v : Verdict) (ts : List ℕ) → Judged S e room at es v ts
@@ -104,7 +104,7 @@ judged-room : (S : Schema) (e : List Event) (room at : ℕ) (es : Events) (v : V
 judged-room S e room at ends v ts (q, t) = omega (arith, ap length t)
 judged-room S e room at stray v ts (q, t) = omega (arith, ap length t)
 judged-room S e room at (event x es) v ts (a, r, d) =
-    decides-room a room at v ts (λ left us j. judged-room S (e ++ (x ∷ [])) left (at + sizeOf x) es v us j) d
+    follows-room a room at v ts (λ left us j. judged-room S (e ++ (x ∷ [])) left (at + sizeOf x) es v us j) d
 
 -- the events of a file that is the bytes of the list d
 read-listed : (file : List ℕ) (d : List Event) → file ≡ bytesOf d → eventsOf file ≡ listed d
@@ -141,18 +141,14 @@ module _ {S : Schema} (accepted : Accepted S) (file : List ℕ) (room : ℕ) (v 
         (subst (λ (es : Events). Judged S [] room 0 es v ts) (read-listed file d p) judged),
   )
 
--- Under an accepted schema, with a byte of the buffer for each opening of the file, the walk from a fresh reading meets demands 2 and 3.
+-- Under an accepted schema the walk from a fresh reading meets demands 2 and 3, for any buffer.
 pub event-file-meets : {S : Schema} → Accepted S → (file : List ℕ) (room : ℕ) {v : Verdict} {ts : List ℕ}
-    → openings (eventList (eventsOf file)) ≤ room → Walk S fresh room 0 (eventsOf file) v ts → EventFileMeets S room file v ts
-event-file-meets accepted file room {v} {ts} h w =
-    let t = taken-with-room accepted file room v ts w in
+    → Walk S fresh room 0 (eventsOf file) v ts → EventFileMeets S room file v ts
+event-file-meets accepted file room {v} {ts} w =
     let k = whole accepted file room v ts w in
     record {
       judged = walk-judged accepted file room v ts w;
-      taken-exactly = (
-        λ z. let r = t .0 z in (r .0, r .1, r .2),
-        λ (d, p, u). t .1 (d, p, u, subst (λ (l : List Event). openings l ≤ room) (read-events file d p) h),
-      );
+      taken-exactly = taken-with-room accepted file room v ts w;
       types = types-given accepted file room v ts w;
       place = λ z. omega (arith, k z .place, ap length (events-bytes file (k z .ended)));
     }

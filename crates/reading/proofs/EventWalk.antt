@@ -10,30 +10,28 @@ use lib.ListN.{length, drop}
 use Rattle.sdtd.specs.Schema.{Schema}
 use Rattle.sdtd.specs.Document.{Event, opening, closing, finish}
 use Rattle.sdtd.specs.Competition.{Accepted}
-use Rattle.sdtd.specs.Answer.{Ordered}
+use Rattle.sdtd.specs.Answer.{Ordered, Answer, refused, typed, taken}
 use Rattle.sdtd.specs.Reading.{NotFinished}
 use Rattle.sdtd.specs.Calls.{ifTaken}
 use Rattle.reading.specs.declared.value.Reading.{Reading}
-use Rattle.reading.specs.declared.calls.EventAnswer.{EventAnswer}
-use Rattle.reading.specs.declared.calls.EventAnswer.the-variants.{Typed, Taken, Refused}
 use Rattle.reading.specs.declared.calls.Next.{Next}
 use Rattle.reading.specs.declared.event_file.EventFile.{EventFile}
 use Rattle.reading.specs.Levels.{fresh}
 use Rattle.reading.specs.Calls.{answerOf}
 use Rattle.reading.specs.EventFile.{Events, ends, stray, event, eventsOf, sizeOf, Verdict, verdict, Follows, Walk, EventsMean}
-use Rattle.reading.specs.EventMeaning.{finishAsked, Decides, Judged}
+use Rattle.reading.specs.EventMeaning.{finishAsked, Judged}
 use Rattle.reading.proofs.Keeping.{After, fresh-after}
 use Rattle.reading.proofs.CallAnswers.{not-finished, call-answered}
 use Rattle.reading.proofs.OneAnswer.{call-unique}
 
-follows-unique : (a : EventAnswer) (room at : ℕ) {v v′ : Verdict} {ts ts′ : List ℕ} {on on′ : ℕ → List ℕ → Type 0}
+follows-unique : (a : Answer) (room at : ℕ) {v v′ : Verdict} {ts ts′ : List ℕ} {on on′ : ℕ → List ℕ → Type 0}
     → ((left : ℕ) (us us′ : List ℕ) → on left us → on′ left us′ → (v ≡ v′) × (us ≡ us′)) → Follows a room at v ts on
     → Follows a room at v′ ts′ on′ → (v ≡ v′) × (ts ≡ ts′)
-follows-unique (Refused n) room at same f g = (f .0 ∙ sym (g .0), f .1 ∙ sym (g .1))
-follows-unique (Typed j) zero at same f g = (f .0 ∙ sym (g .0), f .1 ∙ sym (g .1))
-follows-unique (Typed j) (suc room) at same (us, p, f) (us′, q, g) =
-    let r = same room us us′ f g in (r .0, p ∙ ap (λ (l : List ℕ). j .0 ∷ l) (r .1) ∙ sym q)
-follows-unique Taken room at {ts = ts} {ts′} same f g = same room ts ts′ f g
+follows-unique (refused n) room at same f g = (f .0 ∙ sym (g .0), f .1 ∙ sym (g .1))
+follows-unique (typed j) zero at same f g = (f .0 ∙ sym (g .0), f .1 ∙ sym (g .1))
+follows-unique (typed j) (suc room) at same (us, p, f) (us′, q, g) =
+    let r = same room us us′ f g in (r .0, p ∙ ap (λ (l : List ℕ). j ∷ l) (r .1) ∙ sym q)
+follows-unique taken room at {ts = ts} {ts′} same f g = same room ts ts′ f g
 
 -- one verdict and one list of types, for any schema and any reading
 pub walk-unique : (S : Schema) (r : Reading) (room at : ℕ) (es : Events) {v v′ : Verdict} {ts ts′ : List ℕ} → Walk S r room at es v ts
@@ -42,8 +40,8 @@ walk-unique S r room at ends w w′ = (w .0 ∙ sym (w′ .0), w .1 ∙ sym (w�
 walk-unique S r room at stray w w′ = (w .0 ∙ sym (w′ .0), w .1 ∙ sym (w′ .1))
 walk-unique S r room at (event x es) {v′ = v′} {ts′ = ts′} (n, m, f) (n′, m′, f′) =
     let on : Next → ℕ → List ℕ → Type 0 = λ k left us. Walk S (k .reading) left (at + sizeOf x) es v′ us in
-    let g = subst (λ (k : Next). Follows (k .answer) room at v′ ts′ (on k)) (call-unique S r x m′ m) f′ in
-    follows-unique (n .answer) room at (λ left us us′ h h′. walk-unique S (n .reading) left (at + sizeOf x) es h h′) f g
+    let g = subst (λ (k : Next). Follows (answerOf (k .answer)) room at v′ ts′ (on k)) (call-unique S r x m′ m) f′ in
+    follows-unique (answerOf (n .answer)) room at (λ left us us′ h h′. walk-unique S (n .reading) left (at + sizeOf x) es h h′) f g
 
 -- What the event file's call promises fixes its number, place and count, and each byte of the buffer.
 pub events-unique : {S : Schema} {file was is₁ is₂ : List ℕ} {r₁ r₂ : EventFile} → EventsMean S file was is₁ r₁
@@ -79,14 +77,14 @@ mark-judged {e} at {mark = true} u q =
     ]
 
 -- what follows the answer to x after e, where the events go on after it
-decided : {S : Schema} (e : List Event) (x : Event) {r : Reading} (a : EventAnswer) (room at : ℕ) (v : Verdict) (ts : List ℕ)
-    {on on′ : ℕ → List ℕ → Type 0} → After S (e ++ ifTaken (answerOf a) x) r
+followed : {S : Schema} (e : List Event) (x : Event) {r : Reading} (a : Answer) (room at : ℕ) (v : Verdict) (ts : List ℕ)
+    {on on′ : ℕ → List ℕ → Type 0} → After S (e ++ ifTaken a x) r
     → (After S (e ++ (x ∷ [])) r → (left : ℕ) (us : List ℕ) → on left us → on′ left us) → Follows a room at v ts on
-    → Decides (answerOf a) room at v ts on′
-decided e x (Refused n) room at v ts k later f = f
-decided e x (Typed j) zero at v ts k later f = f
-decided e x (Typed j) (suc room) at v ts k later (us, p, f) = (us, p, later k room us f)
-decided e x Taken room at v ts k later f = later k room ts f
+    → Follows a room at v ts on′
+followed e x (refused n) room at v ts k later f = f
+followed e x (typed j) zero at v ts k later f = f
+followed e x (typed j) (suc room) at v ts k later (us, p, f) = (us, p, later k room us f)
+followed e x taken room at v ts k later f = later k room ts f
 
 -- from the reading after the events e on
 judged-from : {S : Schema} → Accepted S → {e : List Event} {r : Reading} → After S e r → (room at : ℕ) (es : Events) (v : Verdict)
@@ -97,7 +95,7 @@ judged-from accepted {e} k room at (event x es) v ts (n, m, f) =
     let a = call-answered accepted k x m in (
       answerOf (n .answer),
       a .right,
-      decided e x (n .answer) room at v ts (a .next) (λ k′ left us h. judged-from accepted k′ left (at + sizeOf x) es v us h) f,
+      followed e x (answerOf (n .answer)) room at v ts (a .next) (λ k′ left us h. judged-from accepted k′ left (at + sizeOf x) es v us h) f,
     )
 
 -- Under an accepted schema the walk from a fresh reading judges each event by demand 3's questions, for any buffer.

@@ -12,8 +12,8 @@ use Rattle.sdtd.specs.Reading.{questions, NotFinished, TakenAnswer, Right}
 use Rattle.sdtd.specs.Calls.{Exchange, IsTaken, ifTaken, eventsTaken, calls, answersOf}
 use Rattle.sdtd.proofs.Answers.{ordered-taken}
 use Rattle.sdtd.proofs.Calls.{Each, RightAt, refuses-none, answer-taken, right-taken}
-use Rattle.reading.specs.EventFile.{Events, ends, stray, event, sizeOf, Verdict}
-use Rattle.reading.specs.EventMeaning.{bytesOf, eventList, Decides, Judged}
+use Rattle.reading.specs.EventFile.{Events, ends, stray, event, sizeOf, Verdict, Follows}
+use Rattle.reading.specs.EventMeaning.{bytesOf, eventList, Judged}
 use Rattle.reading.proofs.EventBytes.{Ended}
 
 -- no question is refused with 0
@@ -76,7 +76,7 @@ module _ {S : Schema} {e : List Event} {x : Event} {at : ℕ} {es : Events} {v :
           (List·Memᴰ·append-cases e m)
 
   whole-next : (a : Answer) (room : ℕ) {ts : List ℕ} {on : ℕ → List ℕ → Type 0} → Right S e x a
-      → ((left : ℕ) (us : List ℕ) → on left us → Whole S (e ++ (x ∷ [])) (at + sizeOf x) es v us) → Decides a room at v ts on
+      → ((left : ℕ) (us : List ℕ) → on left us → Whole S (e ++ (x ∷ [])) (at + sizeOf x) es v us) → Follows a room at v ts on
       → v .number ≡ 0 → Whole S e at (event x es) v ts
   whole-next (refused n) room r later d z =
       absurd (never-0 S e x (subst (λ (k : ℕ). Right S e x (refused k)) (sym (ap (λ (w : Verdict). w .number) (d .0)) ∙ z) r))

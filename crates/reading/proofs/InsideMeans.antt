@@ -17,9 +17,10 @@ use Rattle.schema.proofs.LimitLaws.{within-room}
 use Rattle.schema.proofs.FirstTables.{Fits, own-step, own-steps}
 use Rattle.reading.specs.declared.value.Reading.{Reading}
 use Rattle.reading.specs.declared.coming.Coming.{Coming}
-use Rattle.reading.specs.Levels.{Within, innerType, innerSet}
+use Rattle.reading.specs.Levels.{noStates, Within, innerType, innerSet}
 use Rattle.reading.specs.Questions.{LeadsTo, CanOpen}
-use Rattle.reading.specs.Coming.{noTag, noType, labelOf, LabelsOf, ComingInside, LiveTable, ComingMeans}
+use Rattle.reading.specs.Coming.{noTag, noType, found, labelOf, comingFrom, LabelsOf, LiveTable}
+use Rattle.reading.proofs.ComingMeans.{ComingMeans}
 use Rattle.reading.proofs.ComingLaws.{Smallest, smallest-same, Taken, coming-smallest}
 use Rattle.reading.proofs.LabelLaws.{bears-type, label-means}
 
@@ -28,6 +29,12 @@ record Opens (S : Meaning) (r : Reading) (g j q : ℕ) : Type 0 where
   bears : Bears S j
   tag : tagOf S j ≡ g
   leads : LeadsTo S r j q
+
+-- what comes inside an element of the type a, from the states of the set, by such labels
+pub record ComingInside (v : Schema) (live : List ℕ) (a states g : ℕ) (c : Coming) : Type 0 where
+  pub label : List ℕ
+  pub labelled : LabelsOf v live a label
+  pub is : c ≡ comingFrom (v .from) (v .by) (v .to) label states g (offset (v .steps) a) (getD (v .steps) a 0) (found noType noStates)
 
 -- with an element open, the smallest of those is what a call asks for
 smallest-means : (S : Meaning) (r : Reading) (g : ℕ) (c : Coming) → 0 < r .depth → ((j : ℕ) → Bears S j → j < noType)
@@ -49,7 +56,7 @@ smallest-means S r g c d types s =
           );
     }
   where
-    smallest : (j : ℕ) → CanOpen S r g j → c .of ≤ j
+    smallest : (j : ℕ) → CanOpen S r g j → c .of .0 ≤ j
     smallest j o =
         let w = o .inside d in
         s .least j (w .0) (record { bears = o .bears; tag = o .tag; leads = w .1 })

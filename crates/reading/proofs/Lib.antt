@@ -3,6 +3,7 @@
 pub mod LevelLaws
 pub mod StepWays
 pub mod ComingLaws
+pub mod ComingMeans
 pub mod LabelLaws
 pub mod InsideMeans
 pub mod RootMeans

@@ -51,10 +51,10 @@ refused-by P (q ∷ qs) h taken (inl o) = ap (λ (n : Next). n .reading) (o .1) 
 refused-by P (q ∷ qs) h taken (inr o) = refused-by P qs (h .1) taken (o .1)
 
 -- an answer that is no refusal
-typed-refused : {A : Type 0} {a : EventAnswer} {j : TypeNo} {k : ℕ} → a ≡ Typed j → a ≡ Refused k → A
+pub typed-refused : {A : Type 0} {a : EventAnswer} {j : TypeNo} {k : ℕ} → a ≡ Typed j → a ≡ Refused k → A
 typed-refused p q = absurd (let z : _≡_ {A = ℕ} 0 1 = cc in omega arith)
 
-taken-refused : {A : Type 0} {a : EventAnswer} {k : ℕ} → a ≡ Taken → a ≡ Refused k → A
+pub taken-refused : {A : Type 0} {a : EventAnswer} {k : ℕ} → a ≡ Taken → a ≡ Refused k → A
 taken-refused p q = absurd (let z : _≡_ {A = ℕ} 0 1 = cc in omega arith)
 
 -- A refused call hands back the reading that it was given.

@@ -1,6 +1,6 @@
 -- With no element open: what is found is the root type, where a call may open it.
 use mathlib.Core.Path.{_≡_, refl, sym, _∙_}
-use mathlib.Core.Bool.{Bool, true, false, not, _&&_}
+use mathlib.Core.Bool.{Bool, true, false, cond, not, _&&_}
 use mathlib.Core.List.{List}
 use Prim.Native.Nat.{ℕ}
 use native.Mathlib.Omega.{arith}
@@ -15,10 +15,16 @@ use Rattle.schema.proofs.LimitLaws.{Room, within-room}
 use Rattle.schema.proofs.SpreadLaws.{cond-either, and-parts, and-both}
 use Rattle.schema.proofs.FirstTables.{root-is}
 use Rattle.reading.specs.declared.value.Reading.{Reading}
-use Rattle.reading.specs.Levels.{Within}
+use Rattle.reading.specs.declared.coming.Coming.{Coming}
+use Rattle.reading.specs.Levels.{noStates, Within}
 use Rattle.reading.specs.Questions.{CanOpen}
-use Rattle.reading.specs.Coming.{comingRoot, LiveTable, ComingMeans}
+use Rattle.reading.specs.Coming.{noType, found, LiveTable}
+use Rattle.reading.proofs.ComingMeans.{ComingMeans}
 use Rattle.reading.proofs.LabelLaws.{bears-in, bears-type, tag-of}
+
+-- what comes with no element open: the root type, of the tag and the live states given, where no root came before
+abbrev pub comingRoot : ℕ → ℕ → ℕ → Bool → ℕ → Coming
+comingRoot root tag states rooted g = cond (not rooted && (eqb tag g && member 0 states)) (found root noStates) (found noType noStates)
 
 -- whether the root type can be opened under the tag g
 abbrev rootTest : Schema → List ℕ → Reading → ℕ → Bool

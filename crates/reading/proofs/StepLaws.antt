@@ -26,10 +26,11 @@ use Rattle.reading.specs.declared.calls.Next.{Next}
 use Rattle.reading.specs.declared.coming.Coming.{Coming}
 use Rattle.reading.specs.Levels.{innerType, innerSet, Within}
 use Rattle.reading.specs.Questions.{gives, ask, questions, TakenBy, Ends, CallMeans}
-use Rattle.reading.specs.Coming.{noTag, noType, ComingMeans}
+use Rattle.reading.specs.Coming.{noTag, noType}
 use Rattle.reading.specs.Examined.{Tables as Found}
 use Rattle.reading.specs.Steps.{Tables, tables, comingAt, openBy, openStep, closeStep, finishStep, Steady, Inside}
 use Rattle.reading.proofs.LevelLaws.{not-both, tags-of, inner-below, inner-most, inner-tag, ends-meets}
+use Rattle.reading.proofs.ComingMeans.{ComingMeans}
 use Rattle.reading.proofs.InsideMeans.{inside-room, inside-low, inside-means}
 use Rattle.reading.proofs.RootMeans.{root-means}
 
@@ -73,14 +74,14 @@ asked-yes P false f g = inl (g (λ h. h), refl)
 -- 13 and 14
 open-by-means : {S : Meaning} {r : Reading} {g : ℕ} {c : Coming} → ComingMeans S r g c → Rest S r (opening g) 3 (openBy r c)
 open-by-means {S} {r} {g} {c} m =
-    asked-no (Rest S r (opening g) 4) (eqb (c .of) noType) (λ h o. m .none (eqb→eq (c .of) noType h) (o .0) (o .1))
+    asked-no (Rest S r (opening g) 4) (eqb (c .of .0) noType) (λ h o. m .none (eqb→eq (c .of .0) noType h) (o .0) (o .1))
     (λ n. let l = below n in (
-      (c .of, m .some l),
+      (c .of .0, m .some l),
       asked-no (Rest S r (opening g) 5) (leb mostLevels (r .depth)) (λ h d. omega (arith, leb→le mostLevels (r .depth) h))
           (λ h. (
             not-leb mostLevels (r .depth) h,
             record {
-              type = c .of;
+              type = c .of .0;
               can-open = m .some l;
               smallest = m .smallest;
               kept = c .kept;
@@ -91,9 +92,9 @@ open-by-means {S} {r} {g} {c} m =
           )),
     ))
   where
-    below : ¬ T (eqb (c .of) noType) → c .of < noType
+    below : ¬ T (eqb (c .of .0) noType) → c .of .0 < noType
     below n =
-        let d : ¬ (c .of ≡ noType) = λ e. n (rw e (eqb-refl noType)) in
+        let d : ¬ (c .of .0 ≡ noType) = λ e. n (rw e (eqb-refl noType)) in
         omega (arith, m .most)
 
 -- 18

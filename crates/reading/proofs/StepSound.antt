@@ -17,6 +17,7 @@ use Rattle.reading.specs.declared.calls.EventAnswer.the-variants.{Typed,
 use Rattle.reading.specs.declared.calls.Next.{Next}
 use Rattle.reading.specs.Levels.{fresh, Within}
 use Rattle.reading.specs.Questions.{CallMeans}
+use Rattle.reading.specs.Calls.{answerOf}
 use Rattle.reading.specs.EventFile.{Events, event, eventsOf, sizeOf, Verdict, verdict, Follows, Walk}
 use Rattle.reading.specs.Turns.{State, stop, goOnTyped, turnBy}
 use Rattle.reading.proofs.WithinKept.{within-kept}
@@ -67,7 +68,7 @@ module _ {S : Meaning} {file was : List ℕ} {s : State} (k : Sound S file was s
 
     -- by the answer and the room left, the whole walk
     from-here : (a : EventAnswer) → m .answer ≡ a → (room : ℕ) → length was - s .count ≡ room → (v : Verdict) (ts : List ℕ)
-        → Follows a room (s .at) v ts
+        → Follows (answerOf a) room (s .at) v ts
         (λ left us. Walk S (m .reading) left (s .at + sizeOf x) (eventsOf (drop (s .at + sizeOf x) file)) v us)
         → Walk S fresh (length was) 0 (eventsOf file) v (k .given ++ ts)
     from-here a e room q v ts f =
@@ -112,6 +113,7 @@ module _ {S : Meaning} {file was : List ℕ} {s : State} (k : Sound S file was s
 
     -- after the event, by its answer
     pub answered : (a : EventAnswer) → m .answer ≡ a → Sound S file was (turnBy s (sizeOf x) a (m .reading))
+    unfolding turnBy
     answered (Refused n) e = stops n (from-here (Refused n) e _ refl (verdict n (s .at)) [] (refl, refl))
     answered (Typed j) e = typed j e (ltb (s .count) (length (s .out))) refl
     answered Taken e =

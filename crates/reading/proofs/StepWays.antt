@@ -8,6 +8,7 @@ use native.Mathlib.Omega.{arith}
 use borrow.Author.Tests.{eq-eqb, ne-eqb, le-leb, lt-leb}
 use lib.Bits.{bitAnd}
 use lib.ListN.{getD, set}
+use Rattle.sdtd.specs.declared.TypeNo.{TypeNo}
 use Rattle.reading.specs.declared.value.Reading.{Reading}
 use Rattle.reading.specs.declared.calls.EventAnswer.the-variants.{Typed, Taken, Refused}
 use Rattle.reading.specs.declared.coming.Coming.{Coming}
@@ -129,21 +130,21 @@ module _ (t : Tables) (r : Reading) (g : ℕ) where
           let asked : openBy r (comingAt t r g) ≡ openStep t r g = rw (f, lt-leb (t .tags) g l) in
           ap (λ (x : Coming). openBy r x) e ∙ asked
 
-      pub open-none : c .of ≡ 64 → gives (Refused 13) r ≡ openStep t r g
-      open-none n = rw (← open-by, eq-eqb (c .of) 64 n)
+      pub open-none : c .of .0 ≡ 64 → gives (Refused 13) r ≡ openStep t r g
+      open-none n = rw (← open-by, eq-eqb (c .of .0) 64 n)
 
-      pub open-deep : c .of ≢ 64 → 64 ≤ r .depth → gives (Refused 14) r ≡ openStep t r g
-      open-deep n d = rw (← open-by, ne-eqb (c .of) 64 n, le-leb 64 (r .depth) d)
+      pub open-deep : c .of .0 ≢ 64 → 64 ≤ r .depth → gives (Refused 14) r ≡ openStep t r g
+      open-deep n d = rw (← open-by, ne-eqb (c .of .0) 64 n, le-leb 64 (r .depth) d)
 
-      pub open-taken : c .of ≢ 64 → r .depth < 64
-          → gives (Typed (record { 0 = c .of })) (opened r (c .of) (c .kept)) ≡ openStep t r g
-      open-taken n d = rw (← open-by, ne-eqb (c .of) 64 n, lt-leb 64 (r .depth) d)
+      pub open-taken : c .of .0 ≢ 64 → r .depth < 64
+          → gives (Typed (c .of)) (opened r (c .of .0) (c .kept)) ≡ openStep t r g
+      open-taken n d = rw (← open-by, ne-eqb (c .of .0) 64 n, lt-leb 64 (r .depth) d)
 
 -- one level more is the reading opened
-pub descended : (s : Stepped) (at : Standing) (types sets types' sets' : List ℕ) (j kept : ℕ)
-    → types' ≡ set types (at .depth) j → sets' ≡ setsAfter sets (at .depth) kept → s .answer ≡ Typed (record { 0 = j })
+pub descended : (s : Stepped) (at : Standing) (types sets types' sets' : List ℕ) (j : TypeNo) (kept : ℕ)
+    → types' ≡ set types (at .depth) (j .0) → sets' ≡ setsAfter sets (at .depth) kept → s .answer ≡ Typed j
     → s .standing .depth ≡ at .depth + 1 → s .standing .rooted ≡ true → s .standing .finished ≡ at .finished
-    → nextOf s types' sets' ≡ gives (Typed (record { 0 = j })) (opened (readingOf at types sets) j kept)
+    → nextOf s types' sets' ≡ gives (Typed j) (opened (readingOf at types sets) (j .0) kept)
 descended s at types sets types' sets' j kept t q a d o f =
     let deeper : s .standing .depth ≡ suc (at .depth) = omega (arith, d) in
     rw (t, q, a, deeper, o, f)

@@ -126,6 +126,7 @@ toGo file s = cond (s .going) (suc (length file - s .at)) 0
 module _ (t : Tables) (tag accepting file : List ℕ) (s : State) (going : s .going ≡ true) where
   -- after an event of n bytes inside the file
   step-less : (n : ℕ) (r : Reading) → 0 < n → s .at + n ≤ length file → (a : EventAnswer) → toGo file (turnBy s n a r) < toGo file s
+  unfolding turnBy
   step-less n r h l (Refused k) = rw going (omega arith)
   step-less n r h l (Typed j) = typed-less (ltb (s .count) (length (s .out)))
     where

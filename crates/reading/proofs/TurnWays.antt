@@ -1,9 +1,14 @@
 -- The ways through a turn: what each computes, by the event found and what its step did.
 use mathlib.Core.Path.{_≡_, sym, ap, _∙_}
 use mathlib.Core.List.{List}
-use Prim.Native.Nat.{ℕ}
+use Prim.Native.Nat.{ℕ, _≤_, _<_}
+use borrow.Author.Tests.{lt-ltb, le-ltb}
 use lib.ListN.{length}
 use Rattle.sdtd.specs.declared.Tag.{Tag}
+use Rattle.sdtd.specs.declared.TypeNo.{TypeNo}
+use Rattle.reading.specs.declared.value.Reading.{Reading}
+use Rattle.reading.specs.declared.calls.EventAnswer.{EventAnswer}
+use Rattle.reading.specs.declared.calls.EventAnswer.the-variants.{Typed, Taken, Refused}
 use Rattle.reading.specs.declared.calls.Next.{Next}
 use Rattle.reading.specs.declared.events.FileEvent.{FileEvent}
 use Rattle.reading.specs.declared.events.FileEvent.the-variants.{Open, Close, Finish, NoEvent}
@@ -11,7 +16,25 @@ use Rattle.reading.specs.declared.event_file.Walking.{Walking}
 use Rattle.reading.specs.declared.steps.Stepped.{Stepped}
 use Rattle.reading.specs.Events.{eventAt}
 use Rattle.reading.specs.Steps.{Tables, readingOf, nextOf, openStep, closeStep, Finishes}
-use Rattle.reading.specs.Turns.{stateOf, turnTo, AfterStep, EndsHere, turnOn, turnOf}
+use Rattle.reading.specs.Turns.{State, stateOf, stop, goOn, goOnTyped, turnBy, turnTo, AfterStep, EndsHere, turnOn, turnOf}
+
+-- what follows an answer
+module _ (s : State) (n : ℕ) (a : EventAnswer) (r : Reading) where
+  pub by-full : (j : TypeNo) → a ≡ Typed j → length (s .out) ≤ s .count → stop s 20 r ≡ turnBy s n a r
+  unfolding turnBy
+  by-full j e l = rw (e, le-ltb _ _ l)
+
+  pub by-typed : (j : TypeNo) → a ≡ Typed j → s .count < length (s .out) → goOnTyped s n (j .0) r ≡ turnBy s n a r
+  unfolding turnBy
+  by-typed j e l = rw (e, lt-ltb _ _ l)
+
+  pub by-taken : a ≡ Taken → goOn s n r ≡ turnBy s n a r
+  unfolding turnBy
+  by-taken e = rw e
+
+  pub by-refused : (k : ℕ) → a ≡ Refused k → stop s k r ≡ turnBy s n a r
+  unfolding turnBy
+  by-refused k e = rw e
 
 -- a step that comes to x moves the walk to what x makes of it
 turned : (w : Walking) (types sets was : List ℕ) (s : Stepped) (n : ℕ) (types′ sets′ is : List ℕ) (r : Walking) (x : Next)

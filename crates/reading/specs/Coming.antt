@@ -1,12 +1,12 @@
 -- What the private steps of the calls compute.
 use mathlib.Core.Path.{_≡_}
-use mathlib.Core.Bool.{Bool, cond, not, _&&_}
+use mathlib.Core.Bool.{cond, _&&_}
 use mathlib.Core.Logic.{_↔_}
 use mathlib.Core.List.{List}
-use Prim.Native.Nat.{ℕ, zero, suc, _+_, _%_, _^_, _≤_, _<_}
+use Prim.Native.Nat.{ℕ, zero, suc, _+_, _%_, _≤_, _<_}
 use lib.Dec.{T, eqb, ltb}
-use lib.ListN.{length, getD, replicate}
-use Rattle.sdtd.specs.Limits.{mostStates, mostSteps, mostLevels}
+use lib.ListN.{length, getD}
+use Rattle.sdtd.specs.Limits.{mostLevels}
 use Rattle.sdtd.specs.Schema.{Schema as Meaning}
 use Rattle.sdtd.specs.Trim.{Live}
 use Rattle.schema.specs.States.{member, insert}
@@ -15,7 +15,6 @@ use Rattle.schema.specs.declared.value.Schema.{Schema}
 use Rattle.reading.specs.declared.value.Reading.{Reading}
 use Rattle.reading.specs.declared.coming.Coming.{Coming}
 use Rattle.reading.specs.Levels.{noStates}
-use Rattle.reading.specs.Questions.{LeadsTo, CanOpen}
 
 -- no tag, no type
 abbrev pub noTag : ℕ
@@ -37,12 +36,12 @@ pub record Labelled (tag live : List ℕ) (own : ℕ) (by to : List ℕ) (s e : 
 
 -- the type of, or noType, and the states that it leads to
 abbrev pub found : ℕ → ℕ → Coming
-found of kept = record { of = of; kept = kept }
+found of kept = record { of = record { 0 = of }; kept = kept }
 
 -- a step by j to q: a smaller type replaces the one so far, the same type adds the state
 unfoldable pub join : Coming → ℕ → ℕ → Coming
 join c j q =
-    cond (ltb j (c .of)) (found j (insert q 0)) (cond (ltb (c .of) j) c (found j (insert q (c .kept))))
+    cond (ltb j (c .of .0)) (found j (insert q noStates)) (cond (ltb (c .of .0) j) c (found j (insert q (c .kept))))
 
 -- what comes under the tag g from the states of the set, by the n steps from the place i on
 unfoldable pub comingFrom : List ℕ → List ℕ → List ℕ → List ℕ → ℕ → ℕ → ℕ → ℕ → Coming → Coming
@@ -61,31 +60,12 @@ pub record LevelsFit (types : ℕ) (states : List ℕ) (r : Reading) : Type 0 wh
   pub depth : r .depth ≤ mostLevels
   pub levels : (n : ℕ) → n < r .depth → LevelFits types states (getD (r .types) n 0) (getD (r .sets) n 0)
 
--- what comes with no element open: the root type, of the tag and the live states given, where no root came before
-abbrev pub comingRoot : ℕ → ℕ → ℕ → Bool → ℕ → Coming
-comingRoot root tag states rooted g = cond (not rooted && (eqb tag g && member 0 states)) (found root noStates) (found noType noStates)
-
 -- the labels of the steps of the type a
 abbrev pub LabelsOf : Schema → List ℕ → ℕ → List ℕ → Type 0
 LabelsOf v live a label =
     (i : ℕ) → offset (v .steps) a ≤ i → i < offset (v .steps) a + getD (v .steps) a 0
     → getD label i noTag ≡ labelOf (v .tag) live (getD live a 0) (getD (v .by) i 0) (getD (v .to) i 0)
 
--- what comes inside an element of the type a, from the states of the set, by such labels
-pub record ComingInside (v : Schema) (live : List ℕ) (a states g : ℕ) (c : Coming) : Type 0 where
-  pub label : List ℕ
-  pub labelled : LabelsOf v live a label
-  pub is : c ≡ comingFrom (v .from) (v .by) (v .to) label states g (offset (v .steps) a) (getD (v .steps) a 0) (found noType noStates)
-
 -- the table has exactly the live states
 abbrev pub LiveTable : Meaning → List ℕ → Type 0
 LiveTable S live = (a q : ℕ) → T (member q (getD live a 0)) ↔ Live S a q
-
--- the smallest type that can be opened under the tag g, and the states that it leads to; or that there is none
-pub record ComingMeans (S : Meaning) (r : Reading) (g : ℕ) (c : Coming) : Type 0 where
-  pub most : c .of ≤ noType
-  pub none : c .of ≡ noType → (j : ℕ) → ¬ CanOpen S r g j
-  pub some : c .of < noType → CanOpen S r g (c .of)
-  pub smallest : (j : ℕ) → CanOpen S r g j → c .of ≤ j
-  pub kept-below : c .kept < 2 ^ mostStates
-  pub keeps : c .of < noType → 0 < r .depth → (q : ℕ) → T (member q (c .kept)) ↔ LeadsTo S r (c .of) q

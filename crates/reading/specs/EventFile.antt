@@ -7,13 +7,13 @@ use lib.Dec.{eqb}
 use lib.ListN.{length, drop}
 use Rattle.sdtd.specs.Schema.{Schema}
 use Rattle.sdtd.specs.Document.{Event, opening, closing, finish}
+use Rattle.sdtd.specs.Answer.{Answer, refused, typed, taken}
 use Rattle.reading.specs.declared.value.Reading.{Reading}
-use Rattle.reading.specs.declared.calls.EventAnswer.{EventAnswer}
-use Rattle.reading.specs.declared.calls.EventAnswer.the-variants.{Typed, Taken, Refused}
 use Rattle.reading.specs.declared.calls.Next.{Next}
 use Rattle.reading.specs.declared.event_file.EventFile.{EventFile}
 use Rattle.reading.specs.Levels.{fresh}
 use Rattle.reading.specs.Questions.{CallMeans}
+use Rattle.reading.specs.Calls.{answerOf}
 
 -- The events that the bytes begin with, and what follows them: no byte (`ends`), or bytes that are none of the three with its operand inside
 -- the file (`stray`).
@@ -45,13 +45,14 @@ pub record Verdict : Type 0 where
 abbrev pub verdict : ℕ → ℕ → Verdict
 verdict n p = record { number = n; place = p }
 
--- What follows the answer to the event at the place `at`, with `room` bytes of the buffer left: a refusal stops the walk; an opening taken
--- needs a byte for its type ("for an opening, last: is a byte of the buffer left? No: 20"); else the walk goes on.
-abbrev pub Follows : EventAnswer → ℕ → ℕ → Verdict → List ℕ → (ℕ → List ℕ → Type 0) → Type 0
-Follows (Refused n) room at v ts on = (v ≡ verdict n at) × (ts ≡ [])
-Follows (Typed j) zero at v ts on = (v ≡ verdict 20 at) × (ts ≡ [])
-Follows (Typed j) (suc room) at v ts on = (us : List ℕ) × (ts ≡ j .0 ∷ us) × on room us
-Follows Taken room at v ts on = on room ts
+-- What follows the answer to the event at the place `at`, with `room` bytes of the buffer left: a refusal stops the walk ("until the
+-- first refusal"); an opening taken needs a byte for its type ("for an opening, last: is a byte of the buffer left? No: 20"); else the walk
+-- goes on.
+abbrev pub Follows : Answer → ℕ → ℕ → Verdict → List ℕ → (ℕ → List ℕ → Type 0) → Type 0
+Follows (refused n) room at v ts on = (v ≡ verdict n at) × (ts ≡ [])
+Follows (typed j) zero at v ts on = (v ≡ verdict 20 at) × (ts ≡ [])
+Follows (typed j) (suc room) at v ts on = (us : List ℕ) × (ts ≡ j ∷ us) × on room us
+Follows taken room at v ts on = on room ts
 
 -- "A walker over the lent bytes gives one event after another to a fresh reading until the first refusal." From the reading r and the place
 -- `at` on, the walk over the events answers v and gives the openings taken the types ts. "First: is it one of the three with its operand
@@ -60,7 +61,8 @@ abbrev pub Walk : Schema → Reading → ℕ → ℕ → Events → Verdict → 
 Walk S r room at ends v ts = (v ≡ cond (r .finished) (verdict 0 at) (verdict 19 at)) × (ts ≡ [])
 Walk S r room at stray v ts = (v ≡ verdict 19 at) × (ts ≡ [])
 Walk S r room at (event x es) v ts =
-    (n : Next) × CallMeans S r x n × Follows (n .answer) room at v ts (λ left us. Walk S (n .reading) left (at + sizeOf x) es v us)
+    (n : Next) × CallMeans S r x n
+    × Follows (answerOf (n .answer)) room at v ts (λ left us. Walk S (n .reading) left (at + sizeOf x) es v us)
 
 -- What the event file's call answers: the walk from a fresh reading; "the count of openings taken"; "Types go to a lent buffer, a byte for
 -- each opening taken; the rest is unchanged."

@@ -3,14 +3,14 @@
 use mathlib.Core.Path.{_≡_}
 use mathlib.Core.Logic.{_↔_}
 use mathlib.Core.List.{List, [], _∷_, _++_, List·Memᴰ}
-use Prim.Native.Nat.{ℕ, zero, suc, _+_}
+use Prim.Native.Nat.{ℕ, _+_, _≤_}
 use lib.ListN.{length}
 use Rattle.sdtd.specs.Schema.{Schema}
-use Rattle.sdtd.specs.Document.{Event, opening, closing, finish, Valid, typesOf}
-use Rattle.sdtd.specs.Answer.{Question, Ordered, Answer, refused, typed, taken}
+use Rattle.sdtd.specs.Document.{Event, opening, closing, finish, openings, Valid, typesOf}
+use Rattle.sdtd.specs.Answer.{Question, Ordered, Answer}
 use Rattle.sdtd.specs.Reading.{Right}
 use Rattle.sdtd.specs.Calls.{ValidWithin}
-use Rattle.reading.specs.EventFile.{Events, ends, stray, event, eventsOf, sizeOf, Verdict, verdict}
+use Rattle.reading.specs.EventFile.{Events, ends, stray, event, eventsOf, sizeOf, Verdict, verdict, Follows}
 
 -- The bytes of a list of events: "21 OPEN (tag), 22 CLOSE (tag), 2F FINISH."
 abbrev pub bytesOf : List Event → List ℕ
@@ -29,14 +29,6 @@ eventList (event x es) = x ∷ eventList es
 abbrev pub finishAsked : List Event → ℕ → Question Verdict
 finishAsked e at = record { holds = List·Memᴰ finish e; refusal = verdict 19 at }
 
--- What follows the answer to the event at the place `at`, with `room` bytes of the buffer left: "until the first refusal"; "for an opening,
--- last: is a byte of the buffer left? No: 20."
-abbrev pub Decides : Answer → ℕ → ℕ → Verdict → List ℕ → (ℕ → List ℕ → Type 0) → Type 0
-Decides (refused n) room at v ts on = (v ≡ verdict n at) × (ts ≡ [])
-Decides (typed j) zero at v ts on = (v ≡ verdict 20 at) × (ts ≡ [])
-Decides (typed j) (suc room) at v ts on = (us : List ℕ) × (ts ≡ j ∷ us) × on room us
-Decides taken room at v ts on = on room ts
-
 -- After the events e, all taken, the verdict on the events from the place `at` on is v, and the openings taken get the types ts: number and
 -- place are those of the first event, or of the file's end, of whose ordered questions one is answered no. "First: is it one of the three
 -- with its operand inside the file? No: 19. [..] Then the reading's questions", asked of the events taken before the event and its own.
@@ -44,14 +36,14 @@ abbrev pub Judged : Schema → List Event → ℕ → ℕ → Events → Verdict
 Judged S e room at ends v ts = Ordered (finishAsked e at ∷ []) (λ (w : Verdict). w ≡ verdict 0 at) v × (ts ≡ [])
 Judged S e room at stray v ts = (v ≡ verdict 19 at) × (ts ≡ [])
 Judged S e room at (event x es) v ts =
-    (a : Answer) × Right S e x a × Decides a room at v ts (λ left us. Judged S (e ++ (x ∷ [])) left (at + sizeOf x) es v us)
+    (a : Answer) × Right S e x a × Follows a room at v ts (λ left us. Judged S (e ++ (x ∷ [])) left (at + sizeOf x) es v us)
 
--- What holds of the verdict on an event file and of the types given out, where the `room` bytes of the buffer are one for each opening at least.
+-- What holds of the verdict on an event file and of the types given out, with a buffer of `room` bytes.
 pub record EventFileMeets (S : Schema) (room : ℕ) (file : List ℕ) (v : Verdict) (ts : List ℕ) : Type 0 where
   pub judged : Judged S [] room 0 (eventsOf file) v ts
   -- Demand 2: the events are "taken whole, through [their] finish, exactly when [they are] the tag stream of a valid tree [..] nested at
-  -- most 64 deep", and the file has no other byte
-  pub taken-exactly : (v .number ≡ 0) ↔ ((d : List Event) × (file ≡ bytesOf d) × ValidWithin S d)
+  -- most 64 deep", the file has no other byte, and the buffer has "a byte for each opening"
+  pub taken-exactly : (v .number ≡ 0) ↔ ((d : List Event) × (file ≡ bytesOf d) × ValidWithin S d × (openings d ≤ room))
   -- "the types given out are then that tree's typing"
   pub types : v .number ≡ 0 → (d : List Event) → file ≡ bytesOf d → (w : Valid S d) → ts ≡ typesOf w
   -- "a place (of the refused event; the file's length for 0)"

@@ -1,6 +1,6 @@
 -- What the private examination of a schema finds, and what the private steps of a walk do.
 use mathlib.Core.Path.{_≡_}
-use mathlib.Core.Bool.{Bool, cond}
+use mathlib.Core.Bool.{cond}
 use mathlib.Core.Logic.{_↔_}
 use mathlib.Core.List.{List}
 use Prim.Native.Nat.{ℕ, _<_}
@@ -27,14 +27,14 @@ abbrev pub AllLabels : Schema → List ℕ → List ℕ → Type 0
 AllLabels v live label = (a : ℕ) → a < v .types → LabelsOf v live a label
 
 -- the tables of a schema inside the limits, by a table of its live states
-pub record Tables (v : Schema) (root : ℕ) (start label : List ℕ) : Type 0 where
+pub record Tables (v : Schema) (opens : ℕ) (start label : List ℕ) : Type 0 where
   pub live : List ℕ
   pub exact : LiveTable (meaning v) live
   pub starts : Starts (v .steps) (v .types) start
   pub labels : AllLabels v live label
-  pub root-label : root ≡ rootLabel (getD (v .tag) (v .root .0) 0) (getD live (v .root .0) 0)
+  pub root-label : opens ≡ rootLabel (getD (v .tag) (v .root .0) 0) (getD live (v .root .0) 0)
 
 pub record ExaminedMeans (v : Schema) (r : Examined) : Type 0 where
   pub inside : T (r .inside) ↔ WithinLimits (meaning v)
-  pub tables : WithinLimits (meaning v) → Tables v (r .root) (r .start) (r .label)
+  pub tables : WithinLimits (meaning v) → Tables v (r .opens .0) (r .start) (r .label)
   pub long : length (r .label) ≡ mostSteps

@@ -1,6 +1,6 @@
 -- What the private steps over an examined schema and lent levels compute; question 10 is asked before.
 use mathlib.Core.Path.{_≡_}
-use mathlib.Core.Bool.{Bool, cond, not, _&&_}
+use mathlib.Core.Bool.{cond, not, _&&_}
 use mathlib.Core.List.{List}
 use Prim.Native.Nat.{ℕ, _+_, _≤_, _<_}
 use lib.Bits.{bitAnd}
@@ -8,7 +8,6 @@ use lib.Dec.{eqb, leb}
 use lib.ListN.{length, getD}
 use Rattle.sdtd.specs.Limits.{mostLevels, mostStates, mostSteps, mostTypes}
 use Rattle.reading.specs.declared.value.Reading.{Reading}
-use Rattle.reading.specs.declared.calls.EventAnswer.{EventAnswer}
 use Rattle.reading.specs.declared.calls.EventAnswer.the-variants.{Typed, Taken, Refused}
 use Rattle.reading.specs.declared.calls.Next.{Next}
 use Rattle.reading.specs.declared.coming.Coming.{Coming}
@@ -63,8 +62,8 @@ comingAt t r g =
 -- an opening of g, where c comes next
 abbrev pub openBy : Reading → Coming → Next
 openBy r c =
-    cond (eqb (c .of) noType) (gives (Refused 13) r)
-    (cond (leb mostLevels (r .depth)) (gives (Refused 14) r) (gives (Typed (record { 0 = c .of })) (opened r (c .of) (c .kept))))
+    cond (eqb (c .of .0) noType) (gives (Refused 13) r)
+    (cond (leb mostLevels (r .depth)) (gives (Refused 14) r) (gives (Typed (c .of)) (opened r (c .of .0) (c .kept))))
 
 unfoldable pub openStep : Tables → Reading → ℕ → Next
 openStep t r g =

@@ -50,10 +50,10 @@ goOnTyped s n j r =
     record { going = true; number = s .number; at = s .at + n; count = s .count + 1; reading = r; out = set (s .out) (s .count) j }
 
 -- after what an event of n bytes got
-abbrev pub turnBy : State → ℕ → EventAnswer → Reading → State
-turnBy s n (Refused k) r = stop s k r
+unfoldable pub turnBy : State → ℕ → EventAnswer → Reading → State
 turnBy s n (Typed j) r = cond (ltb (s .count) (length (s .out))) (goOnTyped s n (j .0) r) (stop s 20 r)
 turnBy s n Taken r = goOn s n r
+turnBy s n (Refused k) r = stop s k r
 
 -- what a step of n bytes makes of the walk and the buffer, whatever the levels hold
 abbrev pub AfterStep : Walking → Stepped → ℕ → List ℕ → List ℕ → Walking → Type 0

@@ -78,13 +78,12 @@ impl Reading {
     pub fn fresh() -> Reading
         ensures { λ r. ⌜ r ≡ fresh ⌝ }
     {
-        let none = StateSet::NONE;
         Reading {
             depth: 0,
             rooted: false,
             finished: false,
             types: [0; LEVELS],
-            sets: [none.0; LEVELS],
+            sets: [StateSet::NONE.0; LEVELS],
         }
     }
 
@@ -107,7 +106,8 @@ impl Reading {
         };
         let mut types = self.types;
         let mut sets = self.sets;
-        let root = schema.root.0;
+        let root = schema.root;
+        let opens = examined.opens;
         let step = step_open(
             &schema.from,
             &schema.by,
@@ -117,11 +117,11 @@ impl Reading {
             &schema.steps,
             schema.tags,
             root,
-            examined.root,
+            opens,
             &mut types,
             &mut sets,
             at,
-            tag.0,
+            tag,
         );
         with_levels(step, types, sets)
     }
@@ -147,7 +147,7 @@ impl Reading {
             &types,
             &sets,
             at,
-            tag.0,
+            tag,
         );
         with_levels(step, types, sets)
     }

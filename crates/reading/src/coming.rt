@@ -2,6 +2,8 @@
 use schema::STEPS;
 use schema::StateSet;
 use schema::TYPES;
+use sdtd::Tag;
+use sdtd::TypeNo;
 ghost use mathlib.Core.Path.{_≡_};
 ghost use Prim.Native.Nat.{ℕ, _+_, _≤_, _<_};
 ghost use lib.ListN.{length, getD};
@@ -10,29 +12,29 @@ ghost use Rattle.reading.specs.Coming.{Labelled, labelOf, comingFrom, fo
 ghost use Rattle.reading.specs.Coming.{join as joined};
 
 // No step is taken under this tag: tags are below 32.
-pub(crate) const NO_TAG: u8 = 255;
+pub(crate) const NO_TAG: Tag = Tag(255);
 
 // No type: types are below 64.
-pub(crate) const NO_TYPE: u8 = 64;
+pub(crate) const NO_TYPE: TypeNo = TypeNo(64);
 
 // The type that comes next, or NO_TYPE, and the states that it leads to.
 pub(crate) struct Coming {
-    pub of: u8,
+    pub of: TypeNo,
     pub kept: u32,
 }
 
 // The tag under which a step by the type j to the state q is taken: that of j, where j bears a tree and q is live; else NO_TAG.
-fn label_of<'a>(tag: &'a [u8; TYPES], live: &'a [u32; TYPES], own: u32, j: u8, q: u8) -> u8
-    ensures { λ r. ⌜ r ≡ labelOf (now (tag .entry)) (now (live .entry)) own j q ⌝ }
+fn label_of<'a>(tag: &'a [u8; TYPES], live: &'a [u32; TYPES], own: u32, j: TypeNo, q: u8) -> Tag
+    ensures { λ r. ⌜ r .0 ≡ labelOf (now (tag .entry)) (now (live .entry)) own (j .0) q ⌝ }
 {
-    let j = (j % 64) as usize;
-    if !StateSet(live[j]).has(0) {
+    let a = (j.0 % 64) as usize;
+    if !StateSet(live[a]).has(0) {
         return NO_TAG;
     }
     if !StateSet(own).has(q) {
         return NO_TAG;
     }
-    tag[j]
+    Tag(tag[a])
 }
 
 // The labels of the n steps from start on, which are those of a type with the live states `own`.
@@ -53,25 +55,26 @@ pub(crate) fn label_type<'a>(
     let end = start + n;
     let mut i = start;
     while i < end {
-        label[i] = label_of(tag, live, own, by[i], to[i]);
+        let g = label_of(tag, live, own, TypeNo(by[i]), to[i]);
+        label[i] = g.0;
         i += 1;
     }
 }
 
 // A step by j to q, beside what came so far: the same type adds the state, a smaller type replaces it. The state is known to be below 32, so
 // it is not asked for again.
-fn join(best: Coming, j: u8, q: u8) -> Coming
+fn join(best: Coming, j: TypeNo, q: u8) -> Coming
     requires { ⌜ q < 32 ⌝ }
-    ensures { λ r. ⌜ r ≡ joined best j q ⌝ }
+    ensures { λ r. ⌜ r ≡ joined best (j .0) q ⌝ }
 {
     let only = 1u32 << (q as u32);
-    if j == best.of {
+    if j.0 == best.of.0 {
         return Coming {
             of: j,
             kept: best.kept | only,
         };
     }
-    if j < best.of {
+    if j.0 < best.of.0 {
         return Coming { of: j, kept: only };
     }
     best
@@ -95,21 +98,21 @@ pub(crate) fn coming_from<'a>(
     start: usize,
     n: usize,
     states: u32,
-    g: u8,
+    g: Tag,
 ) -> Coming
     requires { ⌜ (start + n ≤ 1024) × (length (now label) ≡ 1024) × ((i : ℕ) → start ≤ i → i < start + n → (getD (now from) i 0 < 32) × (getD (now to) i 0 < 32)) ⌝ }
-    ensures { λ r. ⌜ r ≡ comingFrom (now (from .entry)) (now (by .entry)) (now (to .entry)) (now (label .entry)) states g start n (found 64 0) ⌝ }
+    ensures { λ r. ⌜ r ≡ comingFrom (now (from .entry)) (now (by .entry)) (now (to .entry)) (now (label .entry)) states (g .0) start n (found 64 0) ⌝ }
 {
     let mut next = Coming {
         of: NO_TYPE,
-        kept: 0,
+        kept: StateSet::NONE.0,
     };
     let end = start + n;
     let mut i = start;
     while i < end {
-        if label[i] == g {
+        if label[i] == g.0 {
             if holds(states, from[i]) {
-                next = join(next, by[i], to[i]);
+                next = join(next, TypeNo(by[i]), to[i]);
             }
         }
         i += 1;

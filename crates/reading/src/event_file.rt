@@ -11,7 +11,10 @@ use crate::value::LEVELS;
 use crate::walker::walk_to;
 use schema::STEPS;
 use schema::Schema;
+use schema::StateSet;
 use schema::TYPES;
+use sdtd::Tag;
+use sdtd::TypeNo;
 ghost use mathlib.Core.Path.{_≡_};
 ghost use Prim.Native.Nat.{_+_, _^_, _<_};
 ghost use Rattle.schema.specs.Value.{meaning};
@@ -44,14 +47,8 @@ fn after_step(out: &mut [u8], w: Walking, s: Stepped, n: usize) -> Walking
 {
     let standing = s.standing;
     let answer = s.answer;
+    let past = w.at + n;
     match answer {
-        EventAnswer::Refused(k) => Walking {
-            going: false,
-            number: k,
-            at: w.at,
-            count: w.count,
-            standing,
-        },
         EventAnswer::Typed(j) => {
             let count = w.count;
             if out.len() <= count {
@@ -64,18 +61,26 @@ fn after_step(out: &mut [u8], w: Walking, s: Stepped, n: usize) -> Walking
                 };
             }
             out[count] = j.0;
+            let taken = count + 1;
             Walking {
                 going: true,
                 number: w.number,
-                at: w.at + n,
-                count: w.count + 1,
+                at: past,
+                count: taken,
                 standing,
             }
         }
         EventAnswer::Taken => Walking {
             going: true,
             number: w.number,
-            at: w.at + n,
+            at: past,
+            count: w.count,
+            standing,
+        },
+        EventAnswer::Refused(k) => Walking {
+            going: false,
+            number: k,
+            at: w.at,
             count: w.count,
             standing,
         },
@@ -113,18 +118,18 @@ fn turn<'a>(
     tag: &'a [u8; TYPES],
     accepting: &'a [u32; TYPES],
     tags: u8,
-    root: u8,
-    opens: u8,
+    root: TypeNo,
+    opens: Tag,
     events: &'a [u8],
     types: &'a mut [u8; LEVELS],
     sets: &'a mut [u32; LEVELS],
     out: &'a mut [u8],
     w: Walking,
 ) -> Walking
-    requires { ⌜ Inside (tables (now from) (now by) (now to) (now label) (now start) (now steps) tags root opens)
+    requires { ⌜ Inside (tables (now from) (now by) (now to) (now label) (now start) (now steps) tags (root .0) (opens .0))
         (readingOf (w .standing) (now types) (now sets)) ⌝ }
     ensures { λ r. ⌜ stateOf r (now (types .exit)) (now (sets .exit)) (now (out .exit)) ≡ turnOf
-        (tables (now (from .entry)) (now (by .entry)) (now (to .entry)) (now (label .entry)) (now (start .entry)) (now (steps .entry)) tags root opens)
+        (tables (now (from .entry)) (now (by .entry)) (now (to .entry)) (now (label .entry)) (now (start .entry)) (now (steps .entry)) tags (root .0) (opens .0))
         (now (tag .entry)) (now (accepting .entry)) (now (events .entry))
         (stateOf w (now (types .entry)) (now (sets .entry)) (now (out .entry))) ⌝ }
 {
@@ -145,12 +150,12 @@ fn turn<'a>(
                 types,
                 sets,
                 standing,
-                g.0,
+                g,
             );
             after_step(out, w, s, 2)
         }
         FileEvent::Close(g) => {
-            let s = step_close(tag, accepting, tags, types, sets, standing, g.0);
+            let s = step_close(tag, accepting, tags, types, sets, standing, g);
             after_step(out, w, s, 2)
         }
         FileEvent::Finish => {
@@ -188,8 +193,10 @@ pub fn read_events(schema: Schema, events: &[u8], out: &mut [u8]) -> EventFile
     if !examined.inside {
         return outside(events);
     }
+    let root = schema.root;
+    let opens = examined.opens;
     let mut types = [0u8; LEVELS];
-    let mut sets = [0u32; LEVELS];
+    let mut sets = [StateSet::NONE.0; LEVELS];
     let mut w = Walking {
         going: true,
         number: 19,
@@ -212,8 +219,8 @@ pub fn read_events(schema: Schema, events: &[u8], out: &mut [u8]) -> EventFile
             &schema.tag,
             &schema.accepting,
             schema.tags,
-            schema.root.0,
-            examined.root,
+            root,
+            opens,
             events,
             &mut types,
             &mut sets,

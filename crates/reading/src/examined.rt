@@ -6,6 +6,7 @@ use schema::Schema;
 use schema::StateSet;
 use schema::TYPES;
 use schema::live;
+use sdtd::Tag;
 ghost use mathlib.Core.Path.{_≡_};
 ghost use Prim.Native.Nat.{_≤_};
 ghost use Rattle.schema.specs.Value.{offset};
@@ -15,7 +16,7 @@ ghost use Rattle.reading.specs.Examined.{Starts, AllLabels, rootLabel, E
 // each step is taken.
 pub(crate) struct Examined {
     pub inside: bool,
-    pub root: u8,
+    pub opens: Tag,
     pub start: [u16; TYPES],
     pub label: [u8; STEPS],
 }
@@ -41,7 +42,7 @@ fn labels(schema: Schema, live: [u32; TYPES]) -> [u8; STEPS]
     requires { ⌜ (schema .types ≤ 64) × (offset (schema .steps) (schema .types) ≤ 1024) ⌝ }
     ensures { λ r. ⌜ AllLabels schema live r ⌝ }
 {
-    let mut label = [NO_TAG; STEPS];
+    let mut label = [NO_TAG.0; STEPS];
     let steps = schema.steps;
     let types = schema.types as usize;
     let mut start = 0;
@@ -66,8 +67,8 @@ fn labels(schema: Schema, live: [u32; TYPES]) -> [u8; STEPS]
 }
 
 // The tag of a type with the live states of the set, if it bears a tree; else NO_TAG.
-fn root_label(tag: u8, states: u32) -> u8
-    ensures { λ r. ⌜ r ≡ rootLabel tag states ⌝ }
+fn root_label(tag: Tag, states: u32) -> Tag
+    ensures { λ r. ⌜ r .0 ≡ rootLabel (tag .0) states ⌝ }
 {
     if StateSet(states).has(0) {
         return tag;
@@ -83,9 +84,9 @@ pub(crate) fn examine(schema: Schema) -> Examined
     if !found.inside {
         return Examined {
             inside: false,
-            root: NO_TAG,
+            opens: NO_TAG,
             start: [0; TYPES],
-            label: [NO_TAG; STEPS],
+            label: [NO_TAG.0; STEPS],
         };
     }
     let table = found.live;
@@ -94,10 +95,10 @@ pub(crate) fn examine(schema: Schema) -> Examined
     let start = starts(steps, schema.types as usize);
     let label = labels(schema, table);
     let a = schema.root.0 as usize;
-    let root = root_label(tag[a], table[a]);
+    let opens = root_label(Tag(tag[a]), table[a]);
     Examined {
         inside: true,
-        root,
+        opens,
         start,
         label,
     }

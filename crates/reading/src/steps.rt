@@ -8,6 +8,7 @@ use crate::value::LEVELS;
 use schema::STEPS;
 use schema::StateSet;
 use schema::TYPES;
+use sdtd::Tag;
 use sdtd::TypeNo;
 ghost use mathlib.Core.Path.{_≡_};
 ghost use mathlib.Core.Bool.{true};
@@ -43,24 +44,24 @@ fn descend<'a>(
     types: &'a mut [u8; LEVELS],
     sets: &'a mut [u32; LEVELS],
     at: Standing,
-    j: u8,
+    j: TypeNo,
     kept: u32,
 ) -> Stepped
     requires { ⌜ at .depth < 64 ⌝ }
-    ensures { λ r. ⌜ (now (types .exit) ≡ set (now (types .entry)) (at .depth) j)
+    ensures { λ r. ⌜ (now (types .exit) ≡ set (now (types .entry)) (at .depth) (j .0))
         × (now (sets .exit) ≡ setsAfter (now (sets .entry)) (at .depth) kept)
-        × (r .answer ≡ EventAnswer.Typed (record { 0 = j }))
+        × (r .answer ≡ EventAnswer.Typed j)
         × (r .standing .depth ≡ at .depth + 1) × (r .standing .rooted ≡ true) × (r .standing .finished ≡ at .finished) ⌝ }
 {
     let depth = at.depth as usize;
     let start = StateSet::START;
-    types[depth] = j;
+    types[depth] = j.0;
     if 0 < depth {
         sets[depth - 1] = kept;
     }
     sets[depth] = start.0;
     Stepped {
-        answer: EventAnswer::Typed(TypeNo(j)),
+        answer: EventAnswer::Typed(j),
         standing: Standing {
             depth: at.depth + 1,
             rooted: true,
@@ -78,32 +79,35 @@ fn coming_at<'a>(
     start: &'a [u16; TYPES],
     steps: &'a [u16; TYPES],
     tags: u8,
-    root: u8,
-    opens: u8,
+    root: TypeNo,
+    opens: Tag,
     types: &'a [u8; LEVELS],
     sets: &'a [u32; LEVELS],
     at: Standing,
-    g: u8,
+    g: Tag,
 ) -> Coming
-    requires { ⌜ Inside (tables (now from) (now by) (now to) (now label) (now start) (now steps) tags root opens)
+    requires { ⌜ Inside (tables (now from) (now by) (now to) (now label) (now start) (now steps) tags (root .0) (opens .0))
         (readingOf at (now types) (now sets)) ⌝ }
     ensures { λ r. ⌜ r ≡ comingAt
-        (tables (now (from .entry)) (now (by .entry)) (now (to .entry)) (now (label .entry)) (now (start .entry)) (now (steps .entry)) tags root opens)
-        (readingOf at (now (types .entry)) (now (sets .entry))) g ⌝ }
+        (tables (now (from .entry)) (now (by .entry)) (now (to .entry)) (now (label .entry)) (now (start .entry)) (now (steps .entry)) tags (root .0) (opens .0))
+        (readingOf at (now (types .entry)) (now (sets .entry))) (g .0) ⌝ }
 {
     let none = Coming {
         of: NO_TYPE,
-        kept: 0,
+        kept: StateSet::NONE.0,
     };
     let depth = at.depth as usize;
     if depth == 0 {
         if at.rooted {
             return none;
         }
-        if opens != g {
+        if opens.0 != g.0 {
             return none;
         }
-        return Coming { of: root, kept: 0 };
+        return Coming {
+            of: root,
+            kept: StateSet::NONE.0,
+        };
     }
     let a = types[depth - 1] as usize;
     coming_from(
@@ -127,23 +131,23 @@ pub(crate) fn step_open<'a>(
     start: &'a [u16; TYPES],
     steps: &'a [u16; TYPES],
     tags: u8,
-    root: u8,
-    opens: u8,
+    root: TypeNo,
+    opens: Tag,
     types: &'a mut [u8; LEVELS],
     sets: &'a mut [u32; LEVELS],
     at: Standing,
-    g: u8,
+    g: Tag,
 ) -> Stepped
-    requires { ⌜ Inside (tables (now from) (now by) (now to) (now label) (now start) (now steps) tags root opens)
+    requires { ⌜ Inside (tables (now from) (now by) (now to) (now label) (now start) (now steps) tags (root .0) (opens .0))
         (readingOf at (now types) (now sets)) ⌝ }
     ensures { λ r. ⌜ nextOf r (now (types .exit)) (now (sets .exit)) ≡ openStep
-        (tables (now (from .entry)) (now (by .entry)) (now (to .entry)) (now (label .entry)) (now (start .entry)) (now (steps .entry)) tags root opens)
-        (readingOf at (now (types .entry)) (now (sets .entry))) g ⌝ }
+        (tables (now (from .entry)) (now (by .entry)) (now (to .entry)) (now (label .entry)) (now (start .entry)) (now (steps .entry)) tags (root .0) (opens .0))
+        (readingOf at (now (types .entry)) (now (sets .entry))) (g .0) ⌝ }
 {
     if at.finished {
         return stays(11, at);
     }
-    if tags <= g {
+    if tags <= g.0 {
         return stays(12, at);
     }
     let next = coming_at(
@@ -161,13 +165,14 @@ pub(crate) fn step_open<'a>(
         at,
         g,
     );
-    if next.of == NO_TYPE {
+    if next.of.0 == NO_TYPE.0 {
         return stays(13, at);
     }
     if LEVELS <= at.depth as usize {
         return stays(14, at);
     }
-    descend(types, sets, at, next.of, next.kept)
+    let j = next.of;
+    descend(types, sets, at, j, next.kept)
 }
 
 // A closing of the tag g.
@@ -178,16 +183,16 @@ pub(crate) fn step_close<'a>(
     types: &'a [u8; LEVELS],
     sets: &'a [u32; LEVELS],
     at: Standing,
-    g: u8,
+    g: Tag,
 ) -> Stepped
     requires { ⌜ Steady (readingOf at (now types) (now sets)) ⌝ }
     ensures { λ r. ⌜ nextOf r (now (types .entry)) (now (sets .entry))
-        ≡ closeStep (now (tag .entry)) (now (accepting .entry)) tags (readingOf at (now (types .entry)) (now (sets .entry))) g ⌝ }
+        ≡ closeStep (now (tag .entry)) (now (accepting .entry)) tags (readingOf at (now (types .entry)) (now (sets .entry))) (g .0) ⌝ }
 {
     if at.finished {
         return stays(11, at);
     }
-    if tags <= g {
+    if tags <= g.0 {
         return stays(12, at);
     }
     if at.depth == 0 {
@@ -195,7 +200,7 @@ pub(crate) fn step_close<'a>(
     }
     let inner = (at.depth - 1) as usize;
     let a = types[inner] as usize;
-    if tag[a] != g {
+    if tag[a] != g.0 {
         return stays(16, at);
     }
     if sets[inner] & accepting[a] == 0 {

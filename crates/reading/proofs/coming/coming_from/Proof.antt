@@ -52,7 +52,7 @@ done from by to label states g i end x y l h = let q : end - i ≡ 0 = omega ari
 abbrev Inv-loop : tie.InvT-loop
 Inv-loop from by to label start n states g next₀ end i₀ next i =
     (i ≤ end) × (end ≤ 1024)
-    × (comingFrom from by to label states g i (end - i) next ≡ comingFrom from by to label states g start n (found 64 0))
+    × (comingFrom from by to label states (g .0) i (end - i) next ≡ comingFrom from by to label states (g .0) start n (found 64 0))
     × (start ≤ i)
 
 abbrev μ-loop : tie.MeasureT-loop
@@ -74,18 +74,18 @@ element-copy-out-holds c = search needs
 
 holds-requires : tie.Need-holds-requires Inv-loop μ-loop
 holds-requires c κs =
-    let s = c .before .before .before .before in
+    let s = c .before .before .before .before .before in
     s .before .pre .2 (s .loop .i) (s .loop .inv .3) (omega arith) .0
+
+element-copy-out-t24 : tie.Need-element-copy-out-t24 Inv-loop μ-loop
+element-copy-out-t24 c = search needs
 
 element-copy-out-join : tie.Need-element-copy-out-join Inv-loop μ-loop
 element-copy-out-join c = search needs
 
-element-copy-out-join-2 : tie.Need-element-copy-out-join-2 Inv-loop μ-loop
-element-copy-out-join-2 c = search needs
-
 join-requires : tie.Need-join-requires Inv-loop μ-loop
 join-requires c κs =
-    let s = c .before .before .before .before .before .before .before .before in
+    let s = c .before .before .before .before .before .before .before .before .before in
     s .before .pre .2 (s .loop .i) (s .loop .inv .3) (omega arith) .1
 
 add-i : tie.Need-add-i Inv-loop μ-loop
@@ -96,7 +96,7 @@ loop-less c = search needs
 
 loop-again : tie.Need-loop-again Inv-loop μ-loop
 loop-again c =
-    let k = c .before .before in
+    let k = c .before .before .before in
     let a = k .before .before .args in
     let l = k .before .loop in
     let i : getD (a .label .now) (l .i) noTag ≡ getD (a .label .now) (l .i) 0 = inside (a .label .now) (l .i) noTag 0 (omega arith) in (
@@ -125,8 +125,8 @@ coming-from-spec =
     element-copy-out-if1
     element-copy-out-holds
     holds-requires
+    element-copy-out-t24
     element-copy-out-join
-    element-copy-out-join-2
     join-requires
     add-i
     loop-less

@@ -25,20 +25,20 @@ shl-only c = search needs
 returns : tie.Need-returns
 unfolding join
 returns c =
-    let a = c .before .before .before .args in
-    rw (le-ltb (a .j) (a .best .of) (omega arith), le-ltb (a .best .of) (a .j) (omega arith), more (a .q) (a .best .kept) (omega arith))
+    let a = c .before .before .before .before .args in
+    rw (le-ltb (a .j .0) (a .best .of .0) (omega arith), le-ltb (a .best .of .0) (a .j .0) (omega arith), more (a .q) (a .best .kept) (omega arith))
 
 returns-2 : tie.Need-returns-2
 unfolding join
 returns-2 c =
-    let a = c .before .before .before .before .args in
-    rw (lt-ltb (a .j) (a .best .of) (omega arith), only (a .q) (omega arith))
+    let a = c .before .before .before .before .before .before .args in
+    rw (lt-ltb (a .j .0) (a .best .of .0) (omega arith), only (a .q) (omega arith))
 
 returns-3 : tie.Need-returns-3
 unfolding join
 returns-3 c =
-    let a = c .before .before .before .before .args in
-    rw (le-ltb (a .j) (a .best .of) (omega arith), lt-ltb (a .best .of) (a .j) (omega arith))
+    let a = c .before .before .before .before .before .before .args in
+    rw (le-ltb (a .j .0) (a .best .of .0) (omega arith), lt-ltb (a .best .of .0) (a .j .0) (omega arith))
 
 pub join-spec : {M : Type 1} → statement M
 join-spec = tie.close (tie.spec shl-only returns returns-2 returns-3)

@@ -5,8 +5,8 @@ use borrow.Author.Tests.{not-true, not-false}
 use Rattle.reading.proofs.coming.label_of.Statement.{statement}
 use Rattle.reading.proofs.coming.label_of.Tie as tie
 
-cast-j : tie.Need-cast-j
-cast-j c = search needs
+cast-a : tie.Need-cast-a
+cast-a c = search needs
 
 mul-t9 : tie.Need-mul-t9
 mul-t9 c = search needs
@@ -29,8 +29,8 @@ returns-2 c =
     let g = not-true _ (c .if2 .taken) in
     rw (sym (c .before .before .before .has .ensures) ∙ h, sym (c .before .has2 .ensures) ∙ g)
 
-element-copy-out-result : tie.Need-element-copy-out-result
-element-copy-out-result c = search needs
+element-copy-out-t7 : tie.Need-element-copy-out-t7
+element-copy-out-t7 c = search needs
 
 returns-3 : tie.Need-returns-3
 returns-3 c =
@@ -42,12 +42,12 @@ pub label-of-spec : {M : Type 1} → statement M
 label-of-spec =
     tie.close
     (tie.spec
-    cast-j
+    cast-a
     mul-t9
     element-copy-out-t12
     has-requires
     returns
     has-requires-2
     returns-2
-    element-copy-out-result
+    element-copy-out-t7
     returns-3)

@@ -42,11 +42,11 @@ add-end c = search needs
 loop-holds : tie.Need-loop-holds Inv-loop μ-loop
 loop-holds c = (omega arith, omega arith, omega arith, none _ _ _ _ _ _ _)
 
+element-copy-out-t15 : tie.Need-element-copy-out-t15 Inv-loop μ-loop
+element-copy-out-t15 c = search needs
+
 element-copy-out-label-of : tie.Need-element-copy-out-label-of Inv-loop μ-loop
 element-copy-out-label-of c = search needs
-
-element-copy-out-label-of-2 : tie.Need-element-copy-out-label-of-2 Inv-loop μ-loop
-element-copy-out-label-of-2 c = search needs
 
 label-of-requires : tie.Need-label-of-requires Inv-loop μ-loop
 label-of-requires c κs = search needs
@@ -79,8 +79,8 @@ label-type-spec =
     μ-loop
     add-end
     loop-holds
+    element-copy-out-t15
     element-copy-out-label-of
-    element-copy-out-label-of-2
     label-of-requires
     element-write-label
     add-i

@@ -22,10 +22,10 @@ use Rattle.reading.proofs.event_file.read_events.Statement.{statement}
 use Rattle.reading.proofs.event_file.read_events.Tie as tie
 
 abbrev Inv-loop : tie.InvT-loop
-Inv-loop events out₀ schema examined types₀ sets₀ w₀ out types sets w = Sound (meaning schema) events out₀ (stateOf w types sets out)
+Inv-loop events out₀ schema examined root opens types₀ sets₀ w₀ out types sets w = Sound (meaning schema) events out₀ (stateOf w types sets out)
 
 abbrev μ-loop : tie.MeasureT-loop
-μ-loop events out₀ schema examined types₀ sets₀ w₀ out types sets w = toGo events (stateOf w types sets out)
+μ-loop events out₀ schema examined root opens types₀ sets₀ w₀ out types sets w = toGo events (stateOf w types sets out)
 
 -- the schema, and what the examination found
 abbrev schema : tie.After-examine Inv-loop μ-loop → Schema
@@ -48,7 +48,7 @@ within : (c : tie.Else1 Inv-loop μ-loop) → WithinLimits (meaning (schema (c .
 within c = passed (examined (c .before) .inside) (c .if1 .left) (c .before .examine .ensures .inside)
 
 found : (c : tie.Else1 Inv-loop μ-loop)
-    → Tables (schema (c .before)) (examined (c .before) .root) (examined (c .before) .start) (examined (c .before) .label)
+    → Tables (schema (c .before)) (examined (c .before) .opens .0) (examined (c .before) .start) (examined (c .before) .label)
 found c = c .before .examine .ensures .tables (within c)
 
 -- where the loop's test held, before a call of a turn
@@ -68,13 +68,13 @@ returns c =
     (c .outside .ensures .1) (c .outside .ensures .2)
 
 loop-holds : tie.Need-loop-holds Inv-loop μ-loop
-loop-holds c = first-sound (within c) _ _ 19
+loop-holds c = first-sound (within (c .before .before)) _ _ 19
 
 turn-requires : tie.Need-turn-requires Inv-loop μ-loop
 turn-requires c κs =
     let l = in-loop c .before in
-    let e = l .before .before in
-    stands-inside (fits (e .before .before .before)) (l .loop .inv .reading .within) (found (l .before)) (label-long e)
+    let e = l .before .before .before .before in
+    stands-inside (fits (e .before .before .before)) (l .loop .inv .reading .within) (found (l .before .before .before)) (label-long e)
 
 loop-less : tie.Need-loop-less Inv-loop μ-loop
 loop-less c = turn-less _ _ _ _ _ (in-loop (c .before .before .before) .loop-test .taken) (c .before .before .turn .ensures)
@@ -83,7 +83,7 @@ loop-again : tie.Need-loop-again Inv-loop μ-loop
 loop-again c =
     let i = in-loop (c .before .before .before) in
     let l = i .before in
-    turn-sound (fits (l .before .before .before .before .before)) (found (l .before)) (l .loop .inv) (i .loop-test .taken)
+    turn-sound (fits (l .before .before .before .before .before .before .before)) (found (l .before .before .before)) (l .loop .inv) (i .loop-test .taken)
     (c .before .before .turn .ensures)
 
 same-length : tie.Need-same-length Inv-loop μ-loop

@@ -39,14 +39,14 @@ labels-requires c κs = let r = room (c .before .before .before .before .before)
 cast-a : tie.Need-cast-a
 cast-a c = search needs
 
-array-read-root-label : tie.Need-array-read-root-label
-array-read-root-label c = search (needs, room (c .before .before .before .before .before .before .before) .root)
+array-read-t19 : tie.Need-array-read-t19
+array-read-t19 c = search (needs, room (c .before .before .before .before .before .before .before) .root)
 
 mul-root-label : tie.Need-mul-root-label
 mul-root-label c = search needs
 
-array-read-root-label-2 : tie.Need-array-read-root-label-2
-array-read-root-label-2 c = search (needs, room (c .before .before .before .before .before .before .before) .root)
+array-read-root-label : tie.Need-array-read-root-label
+array-read-root-label c = search (needs, room (c .before .before .before .before .before .before .before) .root)
 
 root-label-requires : tie.Need-root-label-requires
 root-label-requires c κs = search needs
@@ -81,8 +81,8 @@ examine-spec =
     starts-requires
     labels-requires
     cast-a
-    array-read-root-label
+    array-read-t19
     mul-root-label
-    array-read-root-label-2
+    array-read-root-label
     root-label-requires
     returns-2)

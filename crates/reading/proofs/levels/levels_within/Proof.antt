@@ -1,5 +1,4 @@
 -- `reading::levels::levels_within` meets its contract: the levels below the loop's number fit.
-use mathlib.Core.Logic.{⊎-elim}
 use Prim.Native.Nat.{ℕ, _+_, _-_, _<_, _≤_}
 use native.Mathlib.Decide.{ℕ-discrete}
 use native.Mathlib.Omega.{arith}
@@ -26,14 +25,14 @@ returns c = (λ f. absurd f, λ w. omega (arith, w .depth))
 loop-holds : tie.Need-loop-holds Inv-loop μ-loop
 loop-holds c = (search needs, λ k l. omega arith)
 
-array-read-level-within : tie.Need-array-read-level-within Inv-loop μ-loop
-array-read-level-within c = search needs
+array-read-t12 : tie.Need-array-read-t12 Inv-loop μ-loop
+array-read-t12 c = search needs
 
 mul-level-within : tie.Need-mul-level-within Inv-loop μ-loop
 mul-level-within c = search needs
 
-array-read-level-within-2 : tie.Need-array-read-level-within-2 Inv-loop μ-loop
-array-read-level-within-2 c = search needs
+array-read-level-within : tie.Need-array-read-level-within Inv-loop μ-loop
+array-read-level-within c = search needs
 
 level-within-requires : tie.Need-level-within-requires Inv-loop μ-loop
 level-within-requires c κs = search needs
@@ -70,9 +69,9 @@ levels-within-spec =
     cast-depth
     returns
     loop-holds
-    array-read-level-within
+    array-read-t12
     mul-level-within
-    array-read-level-within-2
+    array-read-level-within
     level-within-requires
     returns-2
     add-n

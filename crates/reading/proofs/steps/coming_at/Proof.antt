@@ -38,10 +38,10 @@ returns : tie.Need-returns
 returns c = coming-rooted _ _ _ (c .before .if1 .taken) (c .if2 .taken)
 
 returns-2 : tie.Need-returns-2
-returns-2 c = coming-other _ _ _ (c .before .before .if1 .taken) (c .before .if2 .left) (c .if3 .taken)
+returns-2 c = coming-other _ _ _ (c .before .before .before .before .if1 .taken) (c .before .before .before .if2 .left) (c .if3 .taken)
 
 returns-3 : tie.Need-returns-3
-returns-3 c = coming-root _ _ _ (c .before .before .if1 .taken) (c .before .if2 .left) (c .if3 .left)
+returns-3 c = coming-root _ _ _ (c .before .before .before .before .if1 .taken) (c .before .before .before .if2 .left) (c .if3 .left)
 
 sub-a : tie.Need-sub-a
 sub-a c = search needs

@@ -29,8 +29,8 @@ mul-sets-2 c = search needs
 element-write-sets-2 : tie.Need-element-write-sets-2
 element-write-sets-2 c = search needs
 
-add-t20 : tie.Need-add-t20
-add-t20 c = search needs
+add-t19 : tie.Need-add-t19
+add-t19 c = search needs
 
 returns : tie.Need-returns
 returns c =
@@ -54,5 +54,5 @@ descend-spec =
     element-write-sets
     mul-sets-2
     element-write-sets-2
-    add-t20
+    add-t19
     returns)

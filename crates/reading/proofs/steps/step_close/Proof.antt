@@ -11,9 +11,9 @@ use Rattle.reading.proofs.steps.step_close.Tie as tie
 
 -- the innermost type is an entry of the tables
 inner : (c : tie.Else3)
-    → let k = c .before .before .before .before .args in getD (k .types .now) (k .at .depth - 1) 0 < 64
+    → let k = c .before .before .before .before .before .args in getD (k .types .now) (k .at .depth - 1) 0 < 64
 inner c =
-    let s = c .before .before .before .before in
+    let s = c .before .before .before .before .before in
     rw (sub-one (s .args .at .depth)) (s .pre .inner (omega arith))
 
 stays-requires : tie.Need-stays-requires
@@ -28,7 +28,7 @@ stays-requires-2 c κs = search needs
 returns-2 : tie.Need-returns-2
 returns-2 c =
     stayed _ _ _ _ _ (c .stays2 .ensures)
-    ∙ close-tag _ _ _ _ _ (c .before .before .if1 .left) (c .before .if2 .taken)
+    ∙ close-tag _ _ _ _ _ (c .before .before .before .if1 .left) (c .before .if2 .taken)
 
 stays-requires-3 : tie.Need-stays-requires-3
 stays-requires-3 c κs = search needs
@@ -37,7 +37,7 @@ returns-3 : tie.Need-returns-3
 returns-3 c =
     let e = c .before .before .before in
     stayed _ _ _ _ _ (c .stays3 .ensures)
-    ∙ close-outside _ _ _ _ _ (e .before .if1 .left) (e .if2 .left) (c .before .if3 .taken)
+    ∙ close-outside _ _ _ _ _ (e .before .before .if1 .left) (e .if2 .left) (c .before .if3 .taken)
 
 sub-inner : tie.Need-sub-inner
 sub-inner c = search needs
@@ -59,10 +59,10 @@ stays-requires-4 c κs = search needs
 
 returns-4 : tie.Need-returns-4
 returns-4 c =
-    let o = c .before .before .before .before .before in
+    let o = c .before .before .before .before .before .before in
     let e = o .before .before in
     stayed _ _ _ _ _ (c .stays4 .ensures)
-    ∙ close-other _ _ _ _ _ (e .before .if1 .left) (e .if2 .left) (o .if3 .left) (c .before .if4 .taken)
+    ∙ close-other _ _ _ _ _ (e .before .before .if1 .left) (e .if2 .left) (o .if3 .left) (c .before .if4 .taken)
 
 mul-if5 : tie.Need-mul-if5
 mul-if5 c = search needs
@@ -71,10 +71,10 @@ element-copy-out-if5 : tie.Need-element-copy-out-if5
 element-copy-out-if5 c = search needs
 
 mul-if5-2 : tie.Need-mul-if5-2
-mul-if5-2 c = record { fits = omega (arith, inner (c .before .before .before .before .before)) }
+mul-if5-2 c = record { fits = omega (arith, inner (c .before .before .before .before .before .before)) }
 
 element-copy-out-if5-2 : tie.Need-element-copy-out-if5-2
-element-copy-out-if5-2 c = inner (c .before .before .before .before .before)
+element-copy-out-if5-2 c = inner (c .before .before .before .before .before .before)
 
 stays-requires-5 : tie.Need-stays-requires-5
 stays-requires-5 c κs = search needs
@@ -82,10 +82,10 @@ stays-requires-5 c κs = search needs
 returns-5 : tie.Need-returns-5
 returns-5 c =
     let f = c .before .before .before .before in
-    let o = f .before .before .before .before in
+    let o = f .before .before .before .before .before in
     let e = o .before .before in
     stayed _ _ _ _ _ (c .stays5 .ensures)
-    ∙ close-word _ _ _ _ _ (e .before .if1 .left) (e .if2 .left) (o .if3 .left) (f .if4 .left) (c .before .if5 .taken)
+    ∙ close-word _ _ _ _ _ (e .before .before .if1 .left) (e .if2 .left) (o .if3 .left) (f .if4 .left) (c .before .if5 .taken)
 
 sub-t11 : tie.Need-sub-t11
 sub-t11 c = search needs
@@ -93,10 +93,10 @@ sub-t11 c = search needs
 returns-6 : tie.Need-returns-6
 returns-6 c =
     let f = c .before .before .before .before in
-    let o = f .before .before .before .before in
+    let o = f .before .before .before .before .before in
     let e = o .before .before in
-    rw (sub-one (e .before .before .args .at .depth))
-    (close-taken _ _ _ _ _ (e .before .if1 .left) (e .if2 .left) (o .if3 .left) (f .if4 .left) (c .before .if5 .left))
+    rw (sub-one (e .before .before .before .args .at .depth))
+    (close-taken _ _ _ _ _ (e .before .before .if1 .left) (e .if2 .left) (o .if3 .left) (f .if4 .left) (c .before .if5 .left))
 
 pub step-close-spec : {M : Type 1} → statement M
 step-close-spec =

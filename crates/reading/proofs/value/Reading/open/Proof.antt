@@ -50,7 +50,7 @@ returns-2 c =
 
 step-open-requires : tie.Need-step-open-requires
 step-open-requires c κs =
-    let e2 = c .before .before .before .before .before .before .before .before .before .before .before .before in
+    let e2 = c .before .before .before .before .before .before .before .before .before .before .before .before .before .before in
     let lw = e2 .before in
     let e1 = lw .before .before in
     let a = e1 .before in
@@ -66,7 +66,7 @@ with-levels-requires c κs = search needs
 
 returns-3 : tie.Need-returns-3
 returns-3 c =
-    let e2 = c .before .before .before .before .before .before .before .before .before .before .before .before .before .before in
+    let e2 = c .before .before .before .before .before .before .before .before .before .before .before .before .before .before .before .before in
     let lw = e2 .before in
     let e1 = lw .before .before in
     let a = e1 .before in
