@@ -1,10 +1,24 @@
 -- The demands are met.
-use mathlib.Core.Path.{refl, sym}
-use mathlib.Core.List.{List, _++_}
+use mathlib.Core.Path.{_≡_, refl, sym}
+use mathlib.Core.Logic.{inl, inr, ⊎-elim}
+use mathlib.Core.List.{List, [], _++_}
 use Prim.Native.Nat.{ℕ}
+use native.Mathlib.Omega.{arith}
 use lib.ListN.{length, drop}
 use Rattle.schema.specs.Value.{meaning}
 use Rattle.sdtd.specs.Schema.{Schema as Meaning}
+use Rattle.sdtd.specs.Document.{Ambiguous}
+use Rattle.sdtd.proofs.Ambiguity.{competition-is-ambiguity}
+use Rattle.sdtd.proofs.Unique.{same-types}
+use Rattle.sdtd.proofs.Trimming.{trimmed-same, trimmed-valid}
+use Rattle.sdtd.proofs.ReachedTypes.{trimmed-exists}
+use Rattle.competition.specs.Search.{Written}
+use Rattle.commands.specs.File.{Stated, Commands, stopped, states, commands, schemaBy, unknown, StatesSchema}
+use Rattle.schema_file.specs.Answer.{AnswerBy, OfStated, FileMeans}
+use Rattle.schema_file.specs.declared.file.FileAnswer.{FileAnswer}
+use Rattle.schema_file.specs.declared.file.FileAnswer.the-variants.{Refused}
+use Rattle.schema_file.specs.declared.file.SchemaFile.{SchemaFile}
+use Rattle.competition.proofs.Outcome.{written-competes}
 use Rattle.schema_file.proofs.FileAnswers.{file-ambiguous, accepted-file}
 use Rattle.schema_file.proofs.FileExists.{one-file-answer, buffer-exists}
 use Rattle.reading.proofs.AnswerExists.{one-answer}
@@ -15,7 +29,7 @@ use Rattle.reading.specs.EventFile.{eventsOf, Walk, EventsMean}
 use Rattle.reading.proofs.EventWalk.{events-unique}
 use Rattle.reading.proofs.EventTheory.{event-file-meets}
 use Rattle.reading.proofs.WalkExists.{walk-exists, one-walk}
-use Rattle.typing.specs.Demands.{One, Walked, Answered, Demand1, Demand2, Demand2File, Demand3}
+use Rattle.typing.specs.Demands.{One, Walked, Answered, Demand1, Demand2, Demand2File, Demand3, NotTestable}
 
 walked : (S : Meaning) (file was : List ℕ)
     → One (λ (w : Walked). Walk S fresh (length was) 0 (eventsOf file) (w .verdict) (w .types))
@@ -61,7 +75,7 @@ pub demand-2 : Demand2
 demand-2 file was is f m a xs calls = whole-meets (accepted-file m a .schema) xs calls
 
 pub demand-2-file : Demand2File
-demand-2-file file was is f m a events lent after r e h = event-file-meets (accepted-file m a .schema) events (length lent) h (e .walk)
+demand-2-file file was is f m a events lent after r e = event-file-meets (accepted-file m a .schema) events (length lent) (e .walk)
 
 pub demand-3 : Demand3
 demand-3 file was is f m =
@@ -69,4 +83,36 @@ demand-3 file was is f m =
       refused-exactly = λ S l states some. file-ambiguous m states l some;
       states = λ a. accepted-file m a .states;
       calls = λ a xs calls. list-meets (accepted-file m a .schema) xs calls;
+    }
+
+-- a file that is answered 9 has passed question 7
+nine-known : (g : Stated) (a : FileAnswer) → a ≡ Refused 9 0 → AnswerBy (states g) a → unknown g ≡ []
+nine-known g a q (inl o) = let z : _≡_ {A = ℕ} 9 7 = cc in absurd (omega arith)
+nine-known g a q (inr o) = o .0
+
+-- it states a schema, which is ambiguous: its witness shows two rivals
+nine-ambiguous : (file was is : List ℕ) (k : Commands) → commands file ≡ k → (a : FileAnswer) → a ≡ Refused 9 0 → AnswerBy k a
+    → OfStated k (λ g. Written (schemaBy g) was is) → (S : Meaning) × StatesSchema file S × Ambiguous S
+nine-ambiguous file was is (stopped n p) e a q b w = absurd w
+nine-ambiguous file was is (states g) e a q b w = (
+  schemaBy g,
+  record { stated = g; passes = e; known = nine-known g a q b; schema = refl },
+  competition-is-ambiguity .0 (written-competes w),
+)
+
+refused-ambiguous : {file was is : List ℕ} {f : SchemaFile} → FileMeans file was is f → f .answer ≡ Refused 9 0
+    → (S : Meaning) × StatesSchema file S × Ambiguous S
+refused-ambiguous {file} {was} {is} {f} m q =
+    ⊎-elim (λ o. let z : _≡_ {A = ℕ} 9 1 = cc in absurd (omega arith))
+    (λ o. nine-ambiguous file was is (commands file) refl (f .answer) q (o .1) (m .buffer .0 q)) (m .answer)
+
+pub not-testable : NotTestable
+not-testable file was is f m =
+    record {
+      one-reading = λ a two. accepted-file m a .schema .no-competition (competition-is-ambiguity .1 two);
+      had-to-be = refused-ambiguous m;
+      keeps-type = λ a e d₁ d₂ v₁ v₂. same-types (accepted-file m a .schema .no-competition) v₁ v₂ e;
+      trimmed = λ S x. trimmed-exists S;
+      same-documents = λ S S′ x t d. let s = trimmed-valid t d in (λ v. s .0 v .valid, λ v. s .1 v .valid);
+      same-typings = λ S S′ x t. trimmed-same t;
     }

@@ -1,21 +1,21 @@
 -- What the whole job answers, by the schema file's answer: one answer, and what it says of documents.
 use mathlib.Core.Path.{_≡_, refl, sym, ap, subst, _∙_}
-use mathlib.Core.List.{List}
-use Prim.Native.Nat.{ℕ, _≤_}
+use mathlib.Core.Logic.{_⊎_, _≢_}
+use mathlib.Core.List.{List, []}
+use Prim.Native.Nat.{ℕ, _*_, _≤_}
 use native.Mathlib.Omega.{arith}
 use lib.ListN.{length}
-use Rattle.sdtd.specs.Document.{openings}
 use Rattle.sdtd.specs.Schema.{Schema as Meaning}
 use Rattle.schema.specs.Value.{meaning}
 use Rattle.schema.specs.declared.value.Schema.{Schema}
-use Rattle.schema_file.specs.File.{Commands, stopped, states, commands}
-use Rattle.schema_file.specs.Answer.{StatedValue, OfStated, FileMeans}
+use Rattle.commands.specs.File.{Commands, stopped, states, commands}
+use Rattle.commands.specs.Value.{StatedValue}
+use Rattle.schema_file.specs.Answer.{OfStated, FileMeans}
 use Rattle.schema_file.specs.declared.file.FileAnswer.{FileAnswer}
 use Rattle.schema_file.specs.declared.file.FileAnswer.the-variants.{Accepted, Refused}
 use Rattle.schema_file.specs.declared.file.SchemaFile.{SchemaFile}
 use Rattle.schema_file.proofs.FileAnswers.{file-unique, refused-accepted, accepted-file}
 use Rattle.reading.specs.EventFile.{eventsOf, EventsMean}
-use Rattle.reading.specs.EventMeaning.{eventList}
 use Rattle.reading.specs.declared.event_file.EventFile.{EventFile}
 use Rattle.reading.proofs.EventWalk.{events-unique}
 use Rattle.reading.proofs.EventTheory.{event-file-meets}
@@ -23,13 +23,11 @@ use Rattle.typing.specs.declared.job.Job.{Job}
 use Rattle.typing.specs.declared.job.Job.the-variants.{SchemaRefused, EventsRead}
 use Rattle.typing.specs.Job.{JobMeans, JobMeets}
 use Rattle.typing.specs.Outline.{outline}
-use Rattle.typing.proofs.Lines.{lines-enough}
+use Rattle.typing.proofs.Outlines.{outline-depths}
+use Rattle.typing.proofs.Lines.{line-tags, lines-enough}
+use Rattle.typing.proofs.EventNumbers.{judged-range, always-enough}
 
 module _ {file wasWitness isWitness : List ℕ} {f : SchemaFile} (m : FileMeans file wasWitness isWitness f) where
-  -- an accepted schema leaves the witness buffer as it was
-  no-witness : f .answer ≡ Accepted → isWitness ≡ wasWitness
-  no-witness a = m .buffer .1 (λ q. refused-accepted q a)
-
   pub job-refused : {events types : List ℕ} {n p : ℕ} → f .answer ≡ Refused n p
       → JobMeans file events wasWitness isWitness types types (SchemaRefused n p)
   job-refused {n = n} {p} q =
@@ -38,7 +36,6 @@ module _ {file wasWitness isWitness : List ℕ} {f : SchemaFile} (m : FileMeans 
         schema-file = m;
         refused = λ k l h. let same : Refused n p ≡ Refused k l = sym q ∙ h in (cc, refl);
         accepted = λ a. refused-accepted q a;
-        unchanged = no-witness;
       }
 
   pub job-read : {events wasTypes isTypes : List ℕ} {e : EventFile} → f .answer ≡ Accepted
@@ -50,7 +47,6 @@ module _ {file wasWitness isWitness : List ℕ} {f : SchemaFile} (m : FileMeans 
         schema-file = m;
         refused = λ n p h. refused-accepted h q;
         accepted = λ a. (e, refl, k);
-        unchanged = no-witness;
       }
 
 -- two values of the schema that the commands state mean one schema
@@ -81,42 +77,51 @@ module _ {file events wasWitness is₁ is₂ wasTypes types₁ types₂ : List �
   pub one-job : (r₁ ≡ r₂) × (types₁ ≡ types₂)
   one-job = by-answer (j .file .answer) refl
 
--- A job that read its events, with a byte of the buffer for each opening of the file, meets demands 2 and 3.
+-- A job that read its events.
 module _ {file events wasWitness isWitness wasTypes isTypes : List ℕ} {e : EventFile}
-    (j : JobMeans file events wasWitness isWitness wasTypes isTypes (EventsRead e))
-    (room : openings (eventList (eventsOf events)) ≤ length wasTypes) where
-  meets-by : (a : FileAnswer) → j .file .answer ≡ a → JobMeets file events wasTypes isTypes e
-  meets-by (Refused n p) q =
+    (j : JobMeans file events wasWitness isWitness wasTypes isTypes (EventsRead e)) where
+  read-by : (a : FileAnswer) → j .file .answer ≡ a
+      → (j .file .answer ≡ Accepted) × EventsMean (meaning (j .file .schema)) events wasTypes isTypes e
+  read-by (Refused n p) q =
       let s = j .refused n p q .0 in
       let z : _≡_ {A = ℕ} 0 1 = cc in absurd (omega arith)
-  meets-by Accepted q =
+  read-by Accepted q =
       let (d, s, n) = j .accepted q in
       let same : d ≡ e = cc in
-      let m = subst (EventsMean (meaning (j .file .schema)) events wasTypes isTypes) same n in
-      let a = accepted-file (j .schema-file) q in
+      (q, subst (EventsMean (meaning (j .file .schema)) events wasTypes isTypes) same n)
+
+  -- its schema was accepted, and the answer is the events'
+  was-read : (j .file .answer ≡ Accepted) × EventsMean (meaning (j .file .schema)) events wasTypes isTypes e
+  was-read = read-by (j .file .answer) refl
+
+  -- It meets demands 2 and 3, and its lines belong to the openings taken.
+  pub job-meets : JobMeets file events wasTypes isTypes e
+  job-meets =
+      let m = was-read .1 in
+      let a = accepted-file (j .schema-file) (was-read .0) in
       record {
         schema = meaning (j .file .schema);
         stated = a .states;
         types = m .types;
-        meets = event-file-meets (a .schema) events (length wasTypes) room (m .walk);
+        meets = event-file-meets (a .schema) events (length wasTypes) (m .walk);
         count = m .count;
+        lines = line-tags m;
+        levels = outline-depths [] (eventsOf events);
         buffer = m .buffer;
       }
 
-  pub job-meets : JobMeets file events wasTypes isTypes e
-  job-meets = meets-by (j .file .answer) refl
+  -- Each opening that the count counts has its line in the outline of the events.
+  pub job-lines : e .count ≤ length (outline 0 (eventsOf events))
+  job-lines = lines-enough (was-read .1)
 
--- Each opening that the count counts has its line in the outline of the events.
-pub job-lines : {file events wasWitness isWitness wasTypes isTypes : List ℕ} {e : EventFile}
-    → JobMeans file events wasWitness isWitness wasTypes isTypes (EventsRead e) → e .count ≤ length (outline 0 (eventsOf events))
-job-lines {events = events} {e = e} j = by (j .file .answer) refl
-  where
-    by : (a : FileAnswer) → j .file .answer ≡ a → e .count ≤ length (outline 0 (eventsOf events))
-    by (Refused n p) q =
-        let s = j .refused n p q .0 in
-        let z : _≡_ {A = ℕ} 0 1 = cc in absurd (omega arith)
-    by Accepted q =
-        let (d, s, n) = j .accepted q in
-        let same : d ≡ e = cc in
-        let h = lines-enough (accepted-file (j .schema-file) q .schema) n in
-        omega (arith, ap (λ (x : EventFile). x .count) same)
+  -- Its number is 0, or 11 to 20: "10 never comes".
+  pub job-range : (e .number ≡ 0) ⊎ ((11 ≤ e .number) × (e .number ≤ 20))
+  job-range = judged-range (job-meets .schema) (length wasTypes) events _ (job-meets .types) (job-meets .meets .judged)
+
+  -- A byte for every two of the event file is always enough.
+  pub job-enough : length events ≤ 2 * length wasTypes → e .number ≢ 20
+  job-enough = always-enough (was-read .1)
+
+  -- It leaves the witness buffer as it was.
+  pub job-witness : isWitness ≡ wasWitness
+  job-witness = j .schema-file .buffer .1 (λ q. refused-accepted q (was-read .0))

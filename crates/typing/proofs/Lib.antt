@@ -1,8 +1,9 @@
--- The demands met, the starred samples, the whole job, and the lines of an event file's openings.
+-- The demands met, the starred samples, the whole job, and the lines and the numbers of an event file.
 pub mod DemandsMet
 pub mod SampleFiles
 pub mod SampleWitnesses
 pub mod SamplesHold
 pub mod Outlines
 pub mod Lines
+pub mod EventNumbers
 pub mod Jobs

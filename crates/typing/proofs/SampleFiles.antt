@@ -8,7 +8,7 @@ use Rattle.sdtd.specs.Schema.{Schema as Meaning}
 use Rattle.sdtd.specs.Competition.{Accepted as IsAccepted}
 use Rattle.sdtd.proofs.Decide.{LiveTable, LiveExact}
 use Rattle.schema.specs.Value.{meaning}
-use Rattle.schema_file.specs.File.{StatesSchema}
+use Rattle.commands.specs.File.{StatesSchema}
 use Rattle.schema_file.specs.Samples.{HoldsFor}
 use Rattle.schema_file.specs.declared.file.FileAnswer.{FileAnswer}
 use Rattle.schema_file.specs.declared.file.FileAnswer.the-variants.{Accepted, Refused}

@@ -13,7 +13,7 @@ use Rattle.sdtd.specs.Samples.{schemaChoice, schemaTwoWays}
 use Rattle.sdtd.proofs.Automata.{first-step}
 use Rattle.sdtd.proofs.SampleSchemas.{refusedChoice, refusedTwoWays}
 use Rattle.competition.specs.Search.{Written}
-use Rattle.schema_file.specs.File.{Commands, schemaBy, StatesSchema}
+use Rattle.commands.specs.File.{Commands, schemaBy, StatesSchema}
 use Rattle.schema_file.specs.Answer.{OfStated}
 use Rattle.schema_file.specs.Samples.{HoldsFor}
 use Rattle.schema_file.specs.declared.file.FileAnswer.the-variants.{Refused}

@@ -1,29 +1,32 @@
--- The demands, as statements about the promises that the calls are proved to keep: `FileMeans` is the promise of `schema_file::read`,
--- `CallMeans` that of `Reading::open`, `close` and `finish`, `EventsMean` that of `reading::read_events`, and `fresh` that of
--- `Reading::fresh`. What the words mean (valid, begins, ambiguous, competition) is in `crates/sdtd/specs/`. `proofs/DemandsMet.antt` proves
--- them.
+-- The demands, and what could not be tested, as statements about the promises that the calls are proved to keep: `FileMeans` is the promise
+-- of `schema_file::read`, `CallMeans` that of `Reading::open`, `close` and `finish`, `EventsMean` that of `reading::read_events`, and `fresh`
+-- that of `Reading::fresh`. What the words mean (valid, begins, ambiguous, competition) is in `crates/sdtd/specs/`. `proofs/DemandsMet.antt`
+-- proves them.
 use mathlib.Core.Path.{_≡_}
+use mathlib.Core.Logic.{_↔_}
 use mathlib.Core.List.{List}
 use Prim.Native.Nat.{ℕ, _≤_}
-use lib.ListN.{length}
+use lib.ListN.{length, take}
 use Rattle.sdtd.specs.Limits.{leastWitness}
 use Rattle.sdtd.specs.Schema.{Schema as Meaning}
-use Rattle.sdtd.specs.Document.{Event, SomeValid, openings}
+use Rattle.sdtd.specs.Tree.{Tree, IsTyping}
+use Rattle.sdtd.specs.Document.{Event, Valid, SomeValid, openings, typesOf, BeginningOf, Ambiguous}
+use Rattle.sdtd.specs.Trim.{Trimmed}
 use Rattle.sdtd.specs.Calls.{Exchange, ListMeets, WholeMeets}
 use Rattle.schema.specs.Value.{meaning}
 use Rattle.schema.specs.declared.value.Schema.{Schema}
-use Rattle.schema_file.specs.File.{commands, StatesSchema}
+use Rattle.commands.specs.File.{commands, StatesSchema}
 use Rattle.schema_file.specs.Answer.{AnswerIs, BufferBy, FileMeans, Demand3File}
 use Rattle.schema_file.specs.declared.file.FileAnswer.{FileAnswer}
-use Rattle.schema_file.specs.declared.file.FileAnswer.the-variants.{Accepted}
+use Rattle.schema_file.specs.declared.file.FileAnswer.the-variants.{Accepted, Refused}
 use Rattle.schema_file.specs.declared.file.SchemaFile.{SchemaFile}
 use Rattle.reading.specs.Levels.{fresh}
 use Rattle.reading.specs.Questions.{CallMeans}
 use Rattle.reading.specs.Calls.{Called}
 use Rattle.reading.specs.EventFile.{eventsOf, Verdict, verdict, Walk, EventsMean}
-use Rattle.reading.specs.EventMeaning.{eventList, EventFileMeets}
+use Rattle.reading.specs.EventMeaning.{EventFileMeets}
 use Rattle.reading.specs.declared.value.Reading.{Reading}
-use Rattle.reading.specs.declared.calls.EventAnswer.the-variants.{Refused}
+use Rattle.reading.specs.declared.calls.EventAnswer.the-variants.{Refused as CallRefused}
 use Rattle.reading.specs.declared.calls.Next.{Next}
 use Rattle.reading.specs.declared.event_file.EventFile.{EventFile}
 
@@ -54,7 +57,7 @@ pub record Demand1 : Type 0 where
   -- a call has one answer, with the whole reading beside it, whatever the schema value and the reading are
   pub call : (v : Schema) (r : Reading) (x : Event) → One (CallMeans (meaning v) r x)
   pub unchanged : (v : Schema) (r : Reading) (x : Event) (n : Next) (number : ℕ) → CallMeans (meaning v) r x n
-      → n .answer ≡ Refused number → n .reading ≡ r
+      → n .answer ≡ CallRefused number → n .reading ≡ r
   -- an event file has one number and place and one list of types, whatever the schema value, the bytes and the buffer's length are; and so
   -- its call has one answer, and each byte of the buffer after it is fixed
   pub events : (v : Schema) (file was : List ℕ)
@@ -69,13 +72,12 @@ Demand2 =
     → (xs : List Exchange) → Called (meaning (f .schema)) fresh xs
     → WholeMeets (meaning (f .schema)) xs
 
--- Demand 2 of event files: with a byte of the buffer for each opening of the file, it is answered 0 exactly when its bytes are the encoding
--- of the document of a valid tree nested at most 64 deep, and the types written are then that tree's typing.
+-- Demand 2 of event files: one is answered 0 exactly when its bytes are the encoding of the document of a valid tree nested at most 64 deep
+-- and the buffer has a byte for each opening; the types written are then that tree's typing.
 abbrev pub Demand2File : Type 0
 Demand2File =
     (file was is : List ℕ) (f : SchemaFile) → FileMeans file was is f → f .answer ≡ Accepted
     → (events lent after : List ℕ) (r : EventFile) (m : EventsMean (meaning (f .schema)) events lent after r)
-    → openings (eventList (eventsOf events)) ≤ length lent
     → EventFileMeets (meaning (f .schema)) (length lent) events (verdict (r .number) (r .place)) (m .types)
 
 -- Demand 3 of a file and what its call gave.
@@ -91,3 +93,24 @@ pub record Demand3Of (file was : List ℕ) (f : SchemaFile) : Type 0 where
 
 abbrev pub Demand3 : Type 0
 Demand3 = (file was is : List ℕ) (f : SchemaFile) → FileMeans file was is f → Demand3Of file was f
+
+-- "What could not be tested", of a file and what its call gave.
+pub record NotTestableOf (file : List ℕ) (f : SchemaFile) : Type 0 where
+  -- "That no schema we accept has two readings"
+  pub one-reading : f .answer ≡ Accepted → ¬ Ambiguous (meaning (f .schema))
+  -- "That a refused schema had to be refused": for competition
+  pub had-to-be : f .answer ≡ Refused 9 0 → (S : Meaning) × StatesSchema file S × Ambiguous S
+  -- "That an element typed early keeps its type, however the supplier goes on": whatever follows the events e in valid documents, each
+  -- opening of e has one type in all of them. Demand 3 says that this type is given out.
+  pub keeps-type : f .answer ≡ Accepted
+      → (e d₁ d₂ : List Event) (v₁ : Valid (meaning (f .schema)) d₁) (v₂ : Valid (meaning (f .schema)) d₂) → BeginningOf e d₁ → BeginningOf e d₂
+      → take (openings e) (typesOf v₁) ≡ take (openings e) (typesOf v₂)
+  -- "That trimming unused types loses no document": a schema that a file states, accepted or not, can be trimmed, and every trimmed one has
+  -- the same documents and typings
+  pub trimmed : (S : Meaning) → StatesSchema file S → (S′ : Meaning) × Trimmed S S′
+  pub same-documents : (S S′ : Meaning) → StatesSchema file S → Trimmed S S′ → (d : List Event) → Valid S d ↔ Valid S′ d
+  pub same-typings : (S S′ : Meaning) → StatesSchema file S → Trimmed S S′
+      → (tree typed : Tree) → IsTyping S tree typed ↔ IsTyping S′ tree typed
+
+abbrev pub NotTestable : Type 0
+NotTestable = (file was is : List ℕ) (f : SchemaFile) → FileMeans file was is f → NotTestableOf file f
