@@ -1,0 +1,146 @@
+-- No text is longer than `mostText`.
+use mathlib.Core.Path.{_≡_, refl, sym, ap, _∙_}
+use mathlib.Core.Bool.{Bool, true, false, cond}
+use mathlib.Core.List.{List, [], _∷_, _++_}
+use Prim.Native.Nat.{ℕ, zero, suc, _+_, _*_, _^_, _/_, _%_, _-_, _≤_, _<_}
+use native.Mathlib.Decide.{decLe}
+use native.Mathlib.Omega.{arith}
+use lib.Dec.{eqb}
+use lib.ListN.{length, take, getD, length-append, length-take}
+use Rattle.sdtd.specs.Document.{opening, closing, finish}
+use Rattle.reading.specs.EventFile.{Events, ends, stray, event, eventsOf}
+use Rattle.reading.specs.declared.event_file.EventFile.{EventFile}
+use Rattle.typing.specs.Outline.{Line, outline}
+use Rattle.typing.specs.declared.job.Job.the-variants.{SchemaRefused, EventsRead}
+use Rattle.report.specs.Words.{header, schemaRefused, refused, accepted, lineEnd}
+use Rattle.report.specs.Text.{decimal, numbered, refusalLine, rivals, witnessLine, openingLine, openingLines, lastLine, textOf}
+use Rattle.report.specs.Report.{mostEvents, typesHeld, mostText}
+use Rattle.report.proofs.DecimalLaws.{decimal-one, decimal-more}
+
+-- the numbers of at most k + 1 digits
+abbrev tens : ℕ → ℕ
+tens zero = 10
+tens (suc k) = 10 * tens k
+
+decimal-long : (k n : ℕ) → n < tens k → length (decimal n) ≤ suc k
+decimal-long zero n h = omega (arith, ap length (decimal-one n h))
+decimal-long (suc k) n h =
+    elim (decLe 10 n) [
+      | yes t ↦
+          let less = decimal-long k (n / 10) (omega arith) in
+          omega (arith, ap length (decimal-more n t), length-append (decimal (n / 10)) ((0x30 + n % 10) ∷ []))
+      | no t ↦ omega (arith, ap length (decimal-one n (omega arith)))
+    ]
+
+-- every byte of a list
+abbrev Bytes : List ℕ → Type 0
+Bytes [] = Unit
+Bytes (b ∷ l) = (b < 256) × Bytes l
+
+bytes : (l : List ℕ) → ((i : ℕ) → getD l i 0 < 256) → Bytes l
+bytes [] h = tt
+bytes (b ∷ l) h = (h 0, bytes l (λ i. h (suc i)))
+
+bytes-take : (n : ℕ) (l : List ℕ) → Bytes l → Bytes (take n l)
+bytes-take zero l h = tt
+bytes-take (suc n) [] h = tt
+bytes-take (suc n) (b ∷ l) (k, h) = (k, bytes-take n l h)
+
+-- every line's level is at most m and its tag a byte
+abbrev Lines : ℕ → List Line → Type 0
+Lines m [] = Unit
+Lines m (l ∷ ls) = (l .level ≤ m) × (l .tag < 256) × Lines m ls
+
+module _ (m : ℕ) where
+  abbrev Outlined : ℕ → Events → Type 0
+  Outlined n es = (level : ℕ) → level + n ≤ m → Lines m (outline level es)
+
+  either : (n : ℕ) (c : Bool) (x y : Events) → Outlined n x → Outlined n y → Outlined n (cond c x y)
+  either n true x y p q = p
+  either n false x y p q = q
+
+  outlined : (file : List ℕ) → Bytes file → Outlined (length file) (eventsOf file)
+  outlined [] k = λ level h. tt
+  outlined (b ∷ []) k = either 1 (eqb b 0x2f) (event finish ends) stray (λ level h. tt) (λ level h. tt)
+  outlined (b ∷ (g ∷ rest)) (k, (l, more)) =
+      let n = suc (suc (length rest)) in
+      let opens = event (opening g) (eventsOf rest) in
+      let closes = event (closing g) (eventsOf rest) in
+      let ended = event finish (eventsOf (g ∷ rest)) in
+      let third = cond (eqb b 0x2f) ended stray in
+      either n (eqb b 0x21) opens (cond (eqb b 0x22) closes third)
+      (λ level h. (omega arith, l, outlined rest more (suc level) (omega arith)))
+      (either n (eqb b 0x22) closes third (λ level h. outlined rest more (level - 1) (omega arith))
+      (either n (eqb b 0x2f) ended stray (λ level h. outlined (g ∷ rest) (l, more) level (omega arith)) (λ level h. tt)))
+
+-- a line has at most 14 bytes
+line-long : (level tag type : ℕ) → level ≤ mostEvents → tag < 256 → type < 256 → length (openingLine level tag type) ≤ 14
+unfolding openingLine
+line-long level tag type h k l =
+    let a = decimal-long 4 level (omega arith) in
+    let b = decimal-long 2 tag (omega arith) in
+    let c = decimal-long 2 type (omega arith) in
+    simp length-append (omega arith)
+
+lines-long : (js : List ℕ) (ls : List Line) → Bytes js → Lines mostEvents ls → length (openingLines js ls) ≤ 14 * length js
+lines-long [] ls h k = omega arith
+lines-long (j ∷ js) [] h k = omega arith
+lines-long (j ∷ js) (l ∷ ls) (h, hs) (k, g, ks) =
+    let a = line-long (l .level) (l .tag) j k g h in
+    let b = lines-long js ls hs ks in
+    omega (arith, length-append (openingLine (l .level) (l .tag) j) (openingLines js ls))
+
+refusal-long : (words : List ℕ) (n p : ℕ) → n < 256 → p < 2 ^ 64 → length (refusalLine words n p) ≤ length words + 28
+unfolding refusalLine
+refusal-long words n p h k =
+    let a = decimal-long 2 n (omega arith) in
+    let b = decimal-long 19 p (omega arith) in
+    simp length-append (omega arith)
+
+last-long : (e : EventFile) → e .number < 256 → e .place < 2 ^ 64 → e .count < 2 ^ 64 → length (lastLine e) ≤ 36
+unfolding lastLine
+last-long e h k l = by (eqb (e .number) 0)
+  where
+    by : (c : Bool) → length (cond c (numbered accepted (e .count) ++ lineEnd) (refusalLine refused (e .number) (e .place))) ≤ 36
+    by true = let a = decimal-long 19 (e .count) (omega arith) in simp length-append (omega arith)
+    by false = omega (arith, refusal-long refused (e .number) (e .place) h k)
+
+witness-long : (witness : List ℕ) → ((i : ℕ) → getD witness i 0 < 256) → length (witnessLine witness) ≤ 38
+unfolding rivals witnessLine
+witness-long witness h =
+    let a = decimal-long 2 (getD witness 0 0) (omega (arith, h 0)) in
+    let b = decimal-long 2 (getD witness 1 0) (omega (arith, h 1)) in
+    let c = decimal-long 2 (getD witness 2 0) (omega (arith, h 2)) in
+    let d = decimal-long 4 (getD witness 3 0 + 256 * getD witness 4 0) (omega (arith, h 3, h 4)) in
+    simp length-append (omega arith)
+
+pub refused-short : (events witness types : List ℕ) (n p : ℕ) → ((i : ℕ) → getD witness i 0 < 256) → n < 256 → p < 2 ^ 64
+    → length (textOf events witness types (SchemaRefused n p)) ≤ mostText
+unfolding textOf
+refused-short events witness types n p h k l = by (eqb n 9)
+  where
+    by : (c : Bool) → length (refusalLine schemaRefused n p ++ cond c (witnessLine witness) []) ≤ mostText
+    by true =
+        omega (
+          arith,
+          length-append (refusalLine schemaRefused n p) (witnessLine witness),
+          refusal-long schemaRefused n p k l,
+          witness-long witness h,
+        )
+    by false = omega (arith, length-append (refusalLine schemaRefused n p) [], refusal-long schemaRefused n p k l)
+
+pub read-short : (events witness types : List ℕ) (e : EventFile) → ((i : ℕ) → getD events i 0 < 256) → ((i : ℕ) → getD types i 0 < 256)
+    → length events ≤ mostEvents → length types ≤ typesHeld → e .number < 256 → e .place < 2 ^ 64 → e .count < 2 ^ 64
+    → length (textOf events witness types (EventsRead e)) ≤ mostText
+unfolding textOf
+read-short events witness types e h k long held number place count =
+    let js = take (e .count) types in
+    let ls = outline 0 (eventsOf events) in
+    let lines = lines-long js ls (bytes-take (e .count) types (bytes types k)) (outlined mostEvents events (bytes events h) 0 (omega arith)) in
+    let last = last-long e number place count in
+    omega (
+      arith,
+      length-append header (openingLines js ls ++ lastLine e),
+      length-append (openingLines js ls) (lastLine e),
+      length-take (e .count) types,
+    )

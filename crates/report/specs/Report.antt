@@ -1,0 +1,50 @@
+-- What the program prints for the bytes of `schema.tab` and of standard input: document 01, "The event file", second paragraph.
+use mathlib.Core.Path.{_≡_}
+use mathlib.Core.List.{List, _++_}
+use Prim.Native.Nat.{ℕ, _+_, _*_, _≤_, _<_, min}
+use lib.ListN.{length, take, drop, replicate}
+use Rattle.sdtd.specs.Limits.{leastWitness}
+use Rattle.typing.specs.Job.{JobMeans}
+use Rattle.typing.specs.declared.job.Job.{Job}
+use Rattle.report.specs.Words.{tooLong}
+use Rattle.report.specs.Text.{textOf}
+
+-- "`schema.tab` (its first 16,384 bytes; none if it is missing)"
+abbrev pub mostSchema : ℕ
+mostSchema = 16384
+
+-- "above 32,768 bytes of events it prints only `too long`"
+abbrev pub mostEvents : ℕ
+mostEvents = 32768
+
+-- "Its buffer holds 16,384 types."
+abbrev pub typesHeld : ℕ
+typesHeld = 16384
+
+-- No text is longer: the first line has 15 bytes; a line for each type that the buffer holds, a level of at most 5 digits, a tag and a type of
+-- at most 3, two spaces and its end; the last line has at most 36, a number of at most 3 digits and a place of at most 20 among them.
+abbrev pub mostText : ℕ
+mostText = 15 + 14 * typesHeld + 36
+
+-- The text of a job on the schema's bytes and the events, from buffers of zeros. J, K and w are the program's choice, so the witness
+-- line is one of those that the job's promise leaves; all else is fixed by the two files (`one-text`).
+pub record JobPrinted (schema events text : List ℕ) : Type 0 where
+  pub witness : List ℕ
+  pub types : List ℕ
+  pub job : Job
+  pub means : JobMeans schema events (replicate leastWitness 0) witness (replicate typesHeld 0) types job
+  pub prints : text ≡ textOf events witness types job
+
+-- "above 32,768 bytes of events it prints only `too long`, even where the schema would be refused."
+pub record Printed (schema events text : List ℕ) : Type 0 where
+  pub too-long : mostEvents < length events → text ≡ tooLong
+  pub answered : length events ≤ mostEvents → JobPrinted (take mostSchema schema) events text
+
+-- What the report leaves: the text's first bytes, as far as they fit the buffer, and the buffer's other bytes as they were; it answers how
+-- many bytes of the text are there. A buffer of `mostText` bytes takes the whole of it.
+pub record Reported (schema events was is : List ℕ) (r : ℕ) : Type 0 where
+  pub text : List ℕ
+  pub printed : Printed schema events text
+  pub short : length text ≤ mostText
+  pub buffer : is ≡ take (length was) text ++ drop (length text) was
+  pub count : r ≡ min (length text) (length was)

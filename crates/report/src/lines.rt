@@ -1,0 +1,97 @@
+// The lines of the text.
+use crate::number::put_number;
+use crate::text::put;
+use crate::text::put_text;
+use reading::EventFile;
+use sdtd::Tag;
+use sdtd::TypeNo;
+ghost use mathlib.Core.Path.{_≡_};
+ghost use Prim.Native.Nat.{_+_, _*_, _≤_};
+ghost use lib.ListN.{length};
+ghost use Rattle.report.specs.Laid.{Laid};
+ghost use Rattle.report.specs.Text.{numbered, refusalLine, rivals, witnessLine, openingLine, lastLine};
+
+const END: u8 = 0x0a;
+
+fn wide(byte: u8) -> usize
+    ensures { λ r. ⌜ r ≡ byte ⌝ }
+{
+    byte as usize
+}
+
+// Two bytes as a number, the low one first.
+fn two(low: u8, high: u8) -> usize
+    ensures { λ r. ⌜ r ≡ low + 256 * high ⌝ }
+{
+    low as usize + 256 * (high as usize)
+}
+
+// Puts words and a number after them.
+fn put_numbered(out: &mut [u8], at: usize, words: &[u8], n: usize) -> usize
+    ensures { λ r. ⌜ Laid (now (out .entry)) at (numbered (now (words .entry)) n) (now (out .exit)) r ⌝ }
+{
+    let place = put_text(out, at, words);
+    put_number(out, place, n)
+}
+
+// `N at P` after the words.
+pub(crate) fn put_refusal(
+    out: &mut [u8],
+    at: usize,
+    words: &[u8],
+    number: u8,
+    place: usize,
+) -> usize
+    ensures { λ r. ⌜ Laid (now (out .entry)) at (refusalLine (now (words .entry)) number place) (now (out .exit)) r ⌝ }
+{
+    let first = put_numbered(out, at, words, wide(number));
+    let second = put_numbered(out, first, b" at ", place);
+    put(out, second, END)
+}
+
+// `type A gives J or K`.
+fn put_rivals(out: &mut [u8], at: usize, a: u8, j: u8, k: u8) -> usize
+    ensures { λ r. ⌜ Laid (now (out .entry)) at (rivals a j k) (now (out .exit)) r ⌝ }
+{
+    let first = put_numbered(out, at, b"type ", wide(a));
+    let second = put_numbered(out, first, b" gives ", wide(j));
+    put_numbered(out, second, b" or ", wide(k))
+}
+
+// `type A gives J or K after n`, from the bytes of a witness.
+pub(crate) fn put_witness(out: &mut [u8], at: usize, witness: &[u8]) -> usize
+    requires { ⌜ 5 ≤ length (now witness) ⌝ }
+    ensures { λ r. ⌜ Laid (now (out .entry)) at (witnessLine (now (witness .entry))) (now (out .exit)) r ⌝ }
+{
+    let first = put_rivals(out, at, witness[0], witness[1], witness[2]);
+    let last = put_numbered(out, first, b" after ", two(witness[3], witness[4]));
+    put(out, last, END)
+}
+
+// An opening's level, tag and type.
+pub(crate) fn put_opening(
+    out: &mut [u8],
+    at: usize,
+    level: usize,
+    tag: Tag,
+    type_no: TypeNo,
+) -> usize
+    ensures { λ r. ⌜ Laid (now (out .entry)) at (openingLine level (tag .0) («type_no» .0)) (now (out .exit)) r ⌝ }
+{
+    let first = put_number(out, at, level);
+    let second = put_numbered(out, first, b" ", wide(tag.0));
+    let third = put_numbered(out, second, b" ", wide(type_no.0));
+    put(out, third, END)
+}
+
+// `accepted` with the count of openings, or `refused N at P`.
+pub(crate) fn put_last(out: &mut [u8], at: usize, e: EventFile) -> usize
+    ensures { λ r. ⌜ Laid (now (out .entry)) at (lastLine e) (now (out .exit)) r ⌝ }
+{
+    if e.number == 0 {
+        let place = put_numbered(out, at, b"accepted ", e.count);
+        put(out, place, END)
+    } else {
+        put_refusal(out, at, b"refused ", e.number, e.place)
+    }
+}
