@@ -1,0 +1,129 @@
+/*
+ * typestock: the typing engine of a stock-import pipeline, for C and C++.
+ *
+ * Link target/staticlib/libtypestock_c.a, which `rt staticlib typestock_c` writes; x86-64 Linux. The library calls memcpy and memset of C's
+ * library and nothing else: it allocates nothing, reads and writes no file, and has no data that it writes. Nothing is kept between calls, so
+ * any number of threads may call at once, each with buffers of its own. A call runs on a stack of 128 KB, which is tested and not proved.
+ *
+ * Each function answers every input: there is no byte of a schema or event file, no length and no cursor that it may not be given. What
+ * it answers, and what each byte of a lent buffer holds afterwards, is proved; the promises stand in crates/typestock_c/specs/.
+ *
+ * THE CALLER'S DUTIES, which no proof can take over:
+ *   - A run of bytes goes over as two arguments, a pointer and the number of bytes behind it. The number is true: that many bytes may be
+ *     read there, and written where the pointer is not to const. It is at most PTRDIFF_MAX.
+ *   - A pointer is never NULL. For no bytes pass any pointer that is not NULL, and the length 0.
+ *   - A buffer (`witness`, `types`) shares no byte with a file or with the other buffer. `schema` and `events` may be the same bytes.
+ *   - The bytes are initialised, the buffers' too, and until the call returns no other thread writes any of them or reads a buffer.
+ */
+#ifndef TYPESTOCK_H
+#define TYPESTOCK_H
+
+#include <stdbool.h>
+#include <stddef.h>
+#include <stdint.h>
+
+#ifdef __cplusplus
+extern "C" {
+#endif
+
+/* The least length of a witness buffer: with fewer bytes every schema is refused with TYPESTOCK_SHORT_WITNESS. */
+#define TYPESTOCK_WITNESS 532
+
+/* The greatest length of an accepted schema file. */
+#define TYPESTOCK_LONGEST_SCHEMA 8389
+
+/* The most levels that may be open in a document. */
+#define TYPESTOCK_LEVELS 64
+
+/*
+ * The answers to a schema file: the number of the first question that is answered no, with the place of the command in question.
+ */
+#define TYPESTOCK_ACCEPTED 0        /* accepted; place 0 */
+#define TYPESTOCK_SHORT_WITNESS 1   /* the witness buffer has fewer than 532 bytes; place 0 */
+#define TYPESTOCK_NO_COMMAND 2      /* none of the six commands, or its operands run past the end; an unfinished file: at its length */
+#define TYPESTOCK_OUT_OF_ORDER 3    /* a command out of its order; a byte after DONE: at that byte */
+#define TYPESTOCK_OUT_OF_RANGE 4    /* an operand out of range */
+#define TYPESTOCK_TOO_MANY 5        /* a 65th type or a 1,025th step */
+#define TYPESTOCK_REPEATED 6        /* a FINAL or STEP that its block already has */
+#define TYPESTOCK_UNKNOWN_TYPE 7    /* a STEP by a type that was not given; the first such */
+#define TYPESTOCK_NO_TREE 8         /* the root type bears no tree; place 0 */
+#define TYPESTOCK_COMPETITION 9     /* two types compete, as the witness shows; place 0 */
+
+/*
+ * The answers to an event file: the number of the first question that is answered no, with the place of the event in question.
+ * Number 10 is for made-up values, which these functions take none of: it is never answered.
+ */
+#define TYPESTOCK_TAKEN 0             /* taken whole; the place is the file's length */
+#define TYPESTOCK_FINISHED 11         /* an event after the finish */
+#define TYPESTOCK_UNKNOWN_TAG 12      /* a tag that is not below the schema's count */
+#define TYPESTOCK_NO_SUCH_OPENING 13  /* an opening with which no valid document goes on */
+#define TYPESTOCK_TOO_DEEP 14         /* an opening of a 65th level */
+#define TYPESTOCK_NOTHING_OPEN 15     /* a closing where no element is open */
+#define TYPESTOCK_OTHER_TAG 16        /* a closing of another tag than the innermost element's */
+#define TYPESTOCK_INCOMPLETE 17       /* a closing of an element whose children form no word of its content automaton */
+#define TYPESTOCK_ROOT_NOT_CLOSED 18  /* a finish before the root was opened and closed */
+#define TYPESTOCK_NO_EVENT 19         /* none of the three events, or its tag runs past the end; no finish: at the file's length */
+#define TYPESTOCK_NO_ROOM 20          /* an opening for whose type the buffer has no byte left */
+
+/* A schema file's answer. */
+struct typestock_schema {
+    uint8_t number; /* TYPESTOCK_ACCEPTED to TYPESTOCK_COMPETITION */
+    size_t place;   /* where a refused file is refused; 0 for an accepted one */
+};
+
+/* The answer to a schema file and an event file. */
+struct typestock_document {
+    uint8_t schema_number; /* the schema file's, as in struct typestock_schema */
+    size_t schema_place;
+    uint8_t number; /* the event file's: TYPESTOCK_TAKEN alone where it is taken whole, or TYPESTOCK_FINISHED to TYPESTOCK_NO_ROOM */
+    size_t place;   /* the refused event's; the file's length where it is taken */
+    size_t count;   /* the openings taken: that many types were written */
+    /* where the schema is refused no event is read: number and place are the schema's once more, and count is 0 */
+};
+
+/* The next opening of an event file, and where to look on from. */
+struct typestock_opening {
+    bool found;
+    uint8_t tag;  /* the opening's tag; 0 where none is found */
+    size_t at;    /* the place past the opening; where none is found, the place handed in */
+    size_t level; /* the opening's level, the root's being 1; where none is found, the level handed in */
+};
+
+/*
+ * Answers the schema file.
+ *
+ * schema    the file's bytes.
+ * witness   a buffer, of TYPESTOCK_WITNESS bytes or more for an answer other than 1. On TYPESTOCK_COMPETITION its first 5 + n bytes say why:
+ *           type A, types J and K, the length n of a word in two bytes, the low one first, and the word, a byte a type. After that word
+ *           of children an element of type A may go on with J or with K, which have one tag; J < K, A is the smallest type in which two
+ *           compete, and n is at most 527. The rest of the buffer is unchanged; on every other answer all of it is.
+ */
+struct typestock_schema typestock_check_schema(const uint8_t *schema, size_t schema_length, uint8_t *witness, size_t witness_length);
+
+/*
+ * Answers the schema file and, where that is accepted, types the event file under it.
+ *
+ * schema, witness   as above.
+ * events            the event file's bytes.
+ * types             a buffer: the first `count` bytes get the types of the openings taken, in order, also where a later event is refused;
+ *                   the rest is unchanged. A byte for every two of the event file is always enough. It may have length 0.
+ */
+struct typestock_document typestock_type_document(
+    const uint8_t *schema, size_t schema_length,
+    const uint8_t *events, size_t events_length,
+    uint8_t *witness, size_t witness_length,
+    uint8_t *types, size_t types_length);
+
+/*
+ * Finds the first opening of the event file from the place `at` on, where `level` elements are open. It passes over closings and finishes
+ * and stops where the file ends or goes on with what is no event. To go through all openings, start with at 0 and level 0 and hand back
+ * the `at` and `level` of each; the first `count` of them are those that typestock_type_document wrote types of. A closing at level 0 leaves
+ * 0, and a level of SIZE_MAX stays.
+ */
+struct typestock_opening typestock_next_opening(const uint8_t *events, size_t events_length, size_t at, size_t level);
+
+#ifdef __cplusplus
+}
+#endif
+
+#endif

@@ -1,0 +1,3 @@
+-- What the numbers tell.
+pub mod ReadBack
+pub mod ReadDocuments

@@ -1,0 +1,23 @@
+-- What the exports hand back: the numbers of a right answer, which also says what each buffer holds.
+use mathlib.Core.Path.{_≡_}
+use mathlib.Core.List.{List}
+use Prim.Native.Nat.{ℕ}
+use Rattle.schema_file.specs.Answer.{FileMeans}
+use Rattle.schema_file.specs.declared.file.SchemaFile.{SchemaFile}
+use Rattle.typing.specs.Job.{JobMeans}
+use Rattle.typing.specs.declared.job.Job.{Job}
+use Rattle.typestock_c.specs.Numbers.{schemaNumbers, documentNumbers}
+use Rattle.typestock_c.specs.declared.TypestockSchema.{TypestockSchema}
+use Rattle.typestock_c.specs.declared.TypestockDocument.{TypestockDocument}
+
+-- the schema file's answer, the buffer before and after the call
+pub record SchemaMeans (file was is : List ℕ) (r : TypestockSchema) : Type 0 where
+  pub read : SchemaFile
+  pub means : FileMeans file was is read
+  pub numbers : r ≡ schemaNumbers (read .answer)
+
+-- the whole job's, both buffers before and after the call
+pub record DocumentMeans (schema events wasWitness isWitness wasTypes isTypes : List ℕ) (r : TypestockDocument) : Type 0 where
+  pub job : Job
+  pub means : JobMeans schema events wasWitness isWitness wasTypes isTypes job
+  pub numbers : r ≡ documentNumbers job

@@ -1,0 +1,3 @@
+-- What the exports promise.
+pub mod Numbers
+pub mod Exports

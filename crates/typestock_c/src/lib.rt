@@ -1,0 +1,124 @@
+// The engine for callers in other languages: the calls of `schema_file` and `typing`, with their answers as numbers. c/typestock.h declares
+// them for C, and rust/typestock wraps them for Rust.
+use schema_file::FileAnswer;
+use schema_file::read;
+use typing::Cursor;
+use typing::Found;
+use typing::Job;
+use typing::next_opening;
+use typing::type_document;
+ghost use mathlib.Core.Path.{_≡_};
+ghost use Rattle.typing.specs.Outline.{found};
+ghost use Rattle.typestock_c.specs.Numbers.{cursorAt, schemaNumbers, documentNumbers, openingNumbers};
+ghost use Rattle.typestock_c.specs.Exports.{SchemaMeans, DocumentMeans};
+
+// A schema file's answer: a refusal's number and place; 0 and 0 for accepted.
+#[repr(C)]
+pub struct TypestockSchema {
+    pub number: u8,
+    pub place: usize,
+}
+
+// The whole job's: the schema file's answer, and the event file's; where the schema is refused, its number and place once more.
+#[repr(C)]
+pub struct TypestockDocument {
+    pub schema_number: u8,
+    pub schema_place: usize,
+    pub number: u8,
+    pub place: usize,
+    pub count: usize,
+}
+
+// The next opening: whether there is one, its tag, and the cursor past it; with none, tag 0 and the cursor handed in.
+#[repr(C)]
+pub struct TypestockOpening {
+    pub found: bool,
+    pub tag: u8,
+    pub at: usize,
+    pub level: usize,
+}
+
+fn schema_numbers(answer: FileAnswer) -> TypestockSchema
+    ensures { λ r. ⌜ r ≡ schemaNumbers answer ⌝ }
+{
+    match answer {
+        FileAnswer::Accepted => TypestockSchema {
+            number: 0,
+            place: 0,
+        },
+        FileAnswer::Refused(number, place) => TypestockSchema { number, place },
+    }
+}
+
+fn document_numbers(job: Job) -> TypestockDocument
+    ensures { λ r. ⌜ r ≡ documentNumbers job ⌝ }
+{
+    match job {
+        Job::SchemaRefused(number, place) => TypestockDocument {
+            schema_number: number,
+            schema_place: place,
+            number,
+            place,
+            count: 0,
+        },
+        Job::EventsRead(file) => TypestockDocument {
+            schema_number: 0,
+            schema_place: 0,
+            number: file.number,
+            place: file.place,
+            count: file.count,
+        },
+    }
+}
+
+fn opening_numbers(from: Cursor, next: Found) -> TypestockOpening
+    ensures { λ r. ⌜ r ≡ openingNumbers from next ⌝ }
+{
+    match next {
+        Found::Opening(tag, past) => TypestockOpening {
+            found: true,
+            tag: tag.0,
+            at: past.at,
+            level: past.level,
+        },
+        Found::NoOpening => TypestockOpening {
+            found: false,
+            tag: 0,
+            at: from.at,
+            level: from.level,
+        },
+    }
+}
+
+// The schema file's answer; on 9 the witness goes to the buffer.
+#[no_mangle]
+pub extern "C" fn typestock_check_schema(schema: &[u8], witness: &mut [u8]) -> TypestockSchema
+    ensures { λ r. ⌜ SchemaMeans (now (schema .entry)) (now (witness .entry)) (now (witness .exit)) r ⌝ }
+{
+    let told = read(schema, witness);
+    let answer = told.answer;
+    schema_numbers(answer)
+}
+
+// The schema file's answer, and under an accepted schema the event file's: on 9 the witness goes to its buffer, types go to theirs.
+#[no_mangle]
+pub extern "C" fn typestock_type_document(
+    schema: &[u8],
+    events: &[u8],
+    witness: &mut [u8],
+    types: &mut [u8],
+) -> TypestockDocument
+    ensures { λ r. ⌜ DocumentMeans (now (schema .entry)) (now (events .entry)) (now (witness .entry)) (now (witness .exit))
+        (now (types .entry)) (now (types .exit)) r ⌝ }
+{
+    document_numbers(type_document(schema, events, witness, types))
+}
+
+// The first opening from the place on, where so many elements are open.
+#[no_mangle]
+pub extern "C" fn typestock_next_opening(events: &[u8], at: usize, level: usize) -> TypestockOpening
+    ensures { λ r. ⌜ r ≡ openingNumbers (cursorAt at level) (found (now (events .entry)) (cursorAt at level)) ⌝ }
+{
+    let from = Cursor { at, level };
+    opening_numbers(from, next_opening(events, from))
+}

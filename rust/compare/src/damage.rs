@@ -1,0 +1,186 @@
+//! Damage to files: by commands, and by bytes.
+
+use crate::chance::Chance;
+
+/// Bytes at the edges of the file forms.
+const EDGES: [u8; 16] = [
+    0x00, 0x01, 0x10, 0x11, 0x12, 0x13, 0x14, 0x1F, 0x20, 0x21, 0x22, 0x2F, 0x3F, 0x40, 0x80, 0xFF,
+];
+
+/// Damages a schema file, its commands first.
+pub fn schema(chance: &mut Chance, file: &mut Vec<u8>) {
+    match chance.below(10) {
+        0..5 => commands(chance, file),
+        5..9 => bytes(chance, file),
+        _ => {
+            commands(chance, file);
+            bytes(chance, file);
+        }
+    }
+}
+
+/// The offsets of the commands of a file that was not damaged, and its length.
+fn offsets(file: &[u8]) -> Vec<usize> {
+    let mut offsets = vec![0];
+    let mut place = 0;
+    while place < file.len() {
+        place += match file[place] {
+            0x10 | 0x12 | 0x14 => 2,
+            0x11 => 3,
+            0x13 => 4,
+            _ => 1,
+        };
+        offsets.push(place);
+    }
+    offsets
+}
+
+fn commands(chance: &mut Chance, file: &mut Vec<u8>) {
+    let offsets = offsets(file);
+    let count = offsets.len() - 1;
+    let pick = chance.below(count);
+    let (start, end) = (offsets[pick], offsets[pick + 1]);
+    let command = file[start..end].to_vec();
+    match chance.below(10) {
+        // Again, at once or anywhere.
+        0 => insert(file, end, &command),
+        1 => insert(file, offsets[chance.below(count + 1)], &command),
+        // Never.
+        2 => drop(file.drain(start..end)),
+        // In another place.
+        3 => {
+            file.drain(start..end);
+            let place = if pick == 0 {
+                0
+            } else {
+                offsets[chance.below(pick)]
+            };
+            insert(file, place, &command);
+        }
+        4..6 => unknown_type(chance, file, &offsets),
+        6..8 => operand(chance, file, start, end),
+        8 => too_many(chance, file, &offsets),
+        _ => {
+            let any = [
+                chance.small(0x10..=0x14),
+                chance.small(0..=3),
+                chance.small(0..=3),
+                chance.small(0..=3),
+            ];
+            let length = chance.within(1..=4);
+            insert(file, start, &any[..length]);
+        }
+    }
+}
+
+fn insert(file: &mut Vec<u8>, place: usize, bytes: &[u8]) {
+    file.splice(place..place, bytes.iter().copied());
+}
+
+/// A STEP, or several, by a type that may not have been given.
+fn unknown_type(chance: &mut Chance, file: &mut [u8], offsets: &[usize]) {
+    let steps: Vec<usize> = offsets
+        .iter()
+        .copied()
+        .filter(|&place| file.get(place) == Some(&0x13))
+        .collect();
+    if steps.is_empty() {
+        return;
+    }
+    for _ in 0..chance.within(1..=2) {
+        let by = if chance.percent(70) {
+            chance.small(1..=12)
+        } else {
+            chance.small(50..=64)
+        };
+        file[chance.of(&steps) + 2] = by;
+    }
+}
+
+/// Another value for an operand, near the one that it had or at a limit.
+fn operand(chance: &mut Chance, file: &mut [u8], start: usize, end: usize) {
+    if end - start < 2 {
+        return;
+    }
+    let operand = &mut file[start + 1 + chance.below(end - start - 1)];
+    *operand = match chance.below(4) {
+        0 => operand.wrapping_add(1),
+        1 => operand.wrapping_sub(1),
+        2 => chance.of(&[0, 1, 31, 32, 33, 63, 64, 65, 255]),
+        _ => chance.small(0..=8),
+    };
+}
+
+/// As many TYPE or STEP commands as there may be, or one less, and then one more.
+fn too_many(chance: &mut Chance, file: &mut Vec<u8>, offsets: &[usize]) {
+    let given = |command: u8| {
+        offsets
+            .iter()
+            .filter(|&&place| file.get(place) == Some(&command))
+            .count()
+    };
+    let (types, steps) = (given(0x11), given(0x13));
+    let root = offsets[offsets.len() - 3];
+    let one_less = usize::from(chance.once_in(4));
+    let mut more = vec![];
+    if chance.percent(75) {
+        more.extend([0x11, 0, 1].repeat(64_usize.saturating_sub(types + one_less)));
+        more.extend([0x11, chance.small(0..=5), chance.small(0..=33)]);
+    } else {
+        let by = chance.small(0..=63);
+        let count = 1024_usize.saturating_sub(steps + one_less);
+        more.extend([0x11, 0, 32]);
+        more.extend((0..count).flat_map(|step| [0x13, (step % 32) as u8, by, (step / 32) as u8]));
+        let other = if chance.percent(50) {
+            by
+        } else {
+            chance.small(0..=64)
+        };
+        more.extend([0x13, chance.small(0..=32), other, chance.small(0..=32)]);
+    }
+    insert(file, root, &more);
+}
+
+/// Damages any file by its bytes.
+pub fn bytes(chance: &mut Chance, file: &mut Vec<u8>) {
+    for _ in 0..chance.of(&[1, 1, 1, 2, 3]) {
+        byte(chance, file);
+    }
+}
+
+fn byte(chance: &mut Chance, file: &mut Vec<u8>) {
+    let place = chance.below(file.len() + 1);
+    let other = chance.below(file.len() + 1);
+    let any = if chance.percent(60) {
+        chance.of(&EDGES)
+    } else {
+        chance.byte()
+    };
+    match chance.below(8) {
+        0 => file.truncate(place),
+        1 => file.push(any),
+        2 => file.insert(place, any),
+        3 => {
+            let part = file[place.min(other)..place.max(other).min(place.min(other) + 12)].to_vec();
+            insert(file, other, &part);
+        }
+        _ if place >= file.len() || other >= file.len() => {}
+        4 => drop(file.remove(place)),
+        5 => file.swap(place, other),
+        6 => file[place] = any,
+        _ => file[place] ^= 1 << chance.below(8),
+    }
+}
+
+/// Bytes of no particular file, often such as stand in files.
+pub fn random(chance: &mut Chance) -> Vec<u8> {
+    let length = chance.below(60);
+    let share = chance.of(&[0, 50, 90]);
+    (0..length)
+        .map(|_| match chance.percent(share) {
+            true if chance.percent(50) => chance.small(0..=3),
+            true => chance.of(&EDGES),
+            false => chance.byte(),
+        })
+        .collect()
+}

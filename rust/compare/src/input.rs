@@ -1,0 +1,82 @@
+//! One input: the two files and the lengths of the two lent buffers.
+
+use std::fmt;
+
+use crate::chance::Chance;
+use crate::guide::Guide;
+use crate::{damage, documents, schemas};
+
+#[derive(Debug, Clone, PartialEq, Eq)]
+pub struct Input {
+    pub schema: Vec<u8>,
+    pub events: Vec<u8>,
+    /// The length of the witness buffer.
+    pub witness: usize,
+    /// The length of the buffer of types.
+    pub types: usize,
+}
+
+impl Input {
+    pub fn random(chance: &mut Chance) -> Self {
+        let (schema, events) = if chance.once_in(50) {
+            (damage::random(chance), damage::random(chance))
+        } else {
+            files(chance)
+        };
+        let witness = match chance.below(100) {
+            0 => chance.below(plain::WITNESS),
+            1 => chance.of(&[0, 4, 5, 530, 531]),
+            2..20 => chance.within(plain::WITNESS..=700),
+            _ => plain::WITNESS,
+        };
+        let most = plain::openings(&events).count();
+        let types = match chance.below(10) {
+            0 => chance.below(most + 1),
+            1 => most.saturating_sub(1),
+            2..5 => most,
+            _ => most + chance.below(40),
+        };
+        Input {
+            schema,
+            events,
+            witness,
+            types,
+        }
+    }
+}
+
+/// A schema file and an event file for it, one of them or both damaged perhaps.
+fn files(chance: &mut Chance) -> (Vec<u8>, Vec<u8>) {
+    let model = schemas::schema(chance);
+    let mut schema = model.file(chance);
+    let mut events = documents::events(chance, &Guide::new(&model));
+    if chance.percent(25) {
+        damage::schema(chance, &mut schema);
+    }
+    match chance.below(100) {
+        0..18 => damage::bytes(chance, &mut events),
+        18..20 => events = damage::random(chance),
+        _ => {}
+    }
+    events.truncate(40_000);
+    (schema, events)
+}
+
+struct Hex<'a>(&'a [u8]);
+
+impl fmt::Display for Hex<'_> {
+    fn fmt(&self, out: &mut fmt::Formatter) -> fmt::Result {
+        self.0
+            .iter()
+            .try_for_each(|byte| write!(out, " {byte:02X}"))
+    }
+}
+
+impl fmt::Display for Input {
+    fn fmt(&self, out: &mut fmt::Formatter) -> fmt::Result {
+        writeln!(out, "schema:{}", Hex(&self.schema))?;
+        writeln!(out, "events:{}", Hex(&self.events))?;
+        writeln!(out, "witness buffer: {} bytes", self.witness)?;
+        writeln!(out, "types buffer: {} bytes", self.types)
+    }
+}

@@ -1,0 +1,19 @@
+//! The engine, through its wrapper, beside the plain implementation: the same random inputs, and
+//! every answer and every lent byte compared.
+#![forbid(unsafe_code)]
+
+mod chance;
+mod damage;
+mod documents;
+mod far_words;
+mod guide;
+mod input;
+mod model;
+mod schemas;
+mod side_by_side;
+mod tally;
+
+pub use chance::Chance;
+pub use input::Input;
+pub use side_by_side::{Answers, Job, compare};
+pub use tally::Tally;

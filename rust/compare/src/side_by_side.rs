@@ -1,0 +1,247 @@
+//! Both implementations on one input, and everything that they answer and write.
+
+use crate::chance::Chance;
+use crate::input::Input;
+
+/// What one implementation answers to an input.
+#[derive(Debug, Clone, Copy, PartialEq, Eq)]
+pub struct Answers {
+    /// Number and place of the schema file alone.
+    pub schema: (u8, usize),
+    pub job: Job,
+}
+
+/// What the two files are answered together.
+#[derive(Debug, Clone, Copy, PartialEq, Eq)]
+pub enum Job {
+    SchemaRefused {
+        number: u8,
+        place: usize,
+    },
+    EventsRead {
+        number: u8,
+        place: usize,
+        count: usize,
+    },
+}
+
+/// The parts of a witness: A, J, K and w.
+type Parts<'a> = (u8, u8, u8, &'a [u8]);
+
+/// The functions that both crates have.
+trait Implementation {
+    const NAME: &str;
+    fn check_schema(schema: &[u8], witness: &mut [u8]) -> (u8, usize);
+    fn type_document(schema: &[u8], events: &[u8], witness: &mut [u8], types: &mut [u8]) -> Job;
+    fn witness(bytes: &[u8]) -> Option<Parts<'_>>;
+}
+
+macro_rules! implementation {
+    ($name:ident, $library:ident) => {
+        struct $name;
+
+        impl Implementation for $name {
+            const NAME: &str = stringify!($library);
+
+            fn check_schema(schema: &[u8], witness: &mut [u8]) -> (u8, usize) {
+                let answer = $library::check_schema(schema, witness);
+                (answer.number, answer.place)
+            }
+
+            fn type_document(
+                schema: &[u8],
+                events: &[u8],
+                witness: &mut [u8],
+                types: &mut [u8],
+            ) -> Job {
+                match $library::type_document(schema, events, witness, types) {
+                    $library::Job::SchemaRefused { number, place } => {
+                        Job::SchemaRefused { number, place }
+                    }
+                    $library::Job::EventsRead {
+                        number,
+                        place,
+                        count,
+                    } => Job::EventsRead {
+                        number,
+                        place,
+                        count,
+                    },
+                }
+            }
+
+            fn witness(bytes: &[u8]) -> Option<Parts<'_>> {
+                $library::witness(bytes).map(|w| (w.within, w.one, w.other, w.word))
+            }
+        }
+    };
+}
+
+implementation!(Engine, typestock);
+implementation!(Plain, plain);
+
+/// Runs both on the input. The answers if nothing differs, else what differs.
+pub fn compare(input: &Input, chance: &mut Chance) -> Result<Answers, String> {
+    let lent = Lent::random(input, chance);
+    let (engine, engine_types) = run::<Engine>(&lent)?;
+    let (plain, plain_types) = run::<Plain>(&lent)?;
+    if engine != plain {
+        return Err(format!("answers differ: {engine:?} and {plain:?}"));
+    }
+    if engine_types != plain_types {
+        return Err(format!(
+            "types differ: {engine_types:02X?} and {plain_types:02X?}"
+        ));
+    }
+    let events = lent.events.inner();
+    let openings = typestock::openings(events).map(|opening| (opening.level, opening.tag));
+    if !openings.eq(plain::openings(events).map(|opening| (opening.level, opening.tag))) {
+        return Err("openings differ".into());
+    }
+    Ok(plain)
+}
+
+/// Bytes that are lent: the inner part of a larger array, with a random pattern around it.
+#[derive(Clone, PartialEq, Eq)]
+struct Part {
+    array: Vec<u8>,
+    start: usize,
+    end: usize,
+}
+
+/// The fewest bytes before and past a part.
+const GUARD: usize = 24;
+
+impl Part {
+    fn random(length: usize, chance: &mut Chance) -> Self {
+        let start = GUARD + chance.below(8);
+        let words = (start + length + GUARD).div_ceil(8);
+        let array = (0..words)
+            .flat_map(|_| chance.draw().to_le_bytes())
+            .collect();
+        Part {
+            array,
+            start,
+            end: start + length,
+        }
+    }
+
+    fn holding(bytes: &[u8], chance: &mut Chance) -> Self {
+        let mut part = Part::random(bytes.len(), chance);
+        part.inner_mut().copy_from_slice(bytes);
+        part
+    }
+
+    fn inner(&self) -> &[u8] {
+        &self.array[self.start..self.end]
+    }
+
+    fn inner_mut(&mut self) -> &mut [u8] {
+        &mut self.array[self.start..self.end]
+    }
+
+    /// Is nothing changed but the first `written` bytes of the part?
+    fn unchanged_but(&self, written: usize, before: &Part) -> bool {
+        let past = self.start + written;
+        self.array[..self.start] == before.array[..self.start]
+            && self.array[past..] == before.array[past..]
+    }
+}
+
+/// All that a call is lent.
+#[derive(Clone, PartialEq, Eq)]
+struct Lent {
+    schema: Part,
+    events: Part,
+    witness: Part,
+    types: Part,
+}
+
+impl Lent {
+    fn random(input: &Input, chance: &mut Chance) -> Self {
+        Lent {
+            schema: Part::holding(&input.schema, chance),
+            events: Part::holding(&input.events, chance),
+            witness: Part::random(input.witness, chance),
+            types: Part::random(input.types, chance),
+        }
+    }
+}
+
+/// The answers of one implementation and the types that it gave, if all it wrote is as promised.
+fn run<I: Implementation>(before: &Lent) -> Result<(Answers, Vec<u8>), String> {
+    let mut after = before.clone();
+    let schema = I::check_schema(after.schema.inner(), after.witness.inner_mut());
+    check_written::<I>(schema.0, 0, before, &after)?;
+
+    let Lent {
+        schema: schema_file,
+        events,
+        mut witness,
+        mut types,
+    } = before.clone();
+    let job = I::type_document(
+        schema_file.inner(),
+        events.inner(),
+        witness.inner_mut(),
+        types.inner_mut(),
+    );
+    let after = Lent {
+        schema: schema_file,
+        events,
+        witness,
+        types,
+    };
+    let (number, count) = match job {
+        Job::SchemaRefused { number, .. } => (number, 0),
+        Job::EventsRead { count, .. } => (0, count),
+    };
+    check_written::<I>(number, count, before, &after)?;
+    Ok((
+        Answers { schema, job },
+        after.types.inner()[..count].to_vec(),
+    ))
+}
+
+/// Is nothing written but, on 9, a witness and, for the openings taken, their types?
+fn check_written<I: Implementation>(
+    number: u8,
+    count: usize,
+    before: &Lent,
+    after: &Lent,
+) -> Result<(), String> {
+    let fault = |what: &str| Err(format!("{}: schema answered {number}, {what}", I::NAME));
+    if after.schema != before.schema || after.events != before.events {
+        return fault("a file changed");
+    }
+    if count > after.types.inner().len() {
+        return fault("more openings than the buffer has bytes");
+    }
+    if !after.types.unchanged_but(count, &before.types) {
+        return fault("bytes changed besides the types of the openings");
+    }
+    let length = match number {
+        9 => match check_witness::<I>(after) {
+            Ok(length) => length,
+            Err(what) => return fault(what),
+        },
+        _ => 0,
+    };
+    if !after.witness.unchanged_but(length, &before.witness) {
+        return fault("bytes changed besides the witness");
+    }
+    Ok(())
+}
+
+/// The length of the witness, if its types compete.
+fn check_witness<I: Implementation>(lent: &Lent) -> Result<usize, &'static str> {
+    let bytes = lent.witness.inner();
+    let witness = plain::witness(bytes).ok_or("no witness in the buffer")?;
+    if I::witness(bytes) != Plain::witness(bytes) {
+        return Err("the parts of the witness differ");
+    }
+    if !plain::competes(lent.schema.inner(), &witness) {
+        return Err("the types of the witness do not compete");
+    }
+    Ok(5 + witness.word.len())
+}

@@ -1,0 +1,92 @@
+//! How often each answer came up.
+
+use std::fmt;
+
+use crate::input::Input;
+use crate::side_by_side::{Answers, Job};
+
+#[derive(Debug, Clone, Default)]
+pub struct Tally {
+    pub inputs: u64,
+    schemas: [u64; 10],
+    events: [u64; 21],
+    longest_schema: usize,
+    longest_events: usize,
+    most_openings: usize,
+    deepest: usize,
+    longest_word: usize,
+}
+
+impl Tally {
+    pub fn count(&mut self, input: &Input, answers: &Answers) {
+        self.inputs += 1;
+        self.schemas[usize::from(answers.schema.0)] += 1;
+        self.longest_events = self.longest_events.max(input.events.len());
+        if let Job::EventsRead { number, count, .. } = answers.job {
+            self.events[usize::from(number)] += 1;
+            self.most_openings = self.most_openings.max(count);
+            let levels = plain::openings(&input.events)
+                .take(count)
+                .map(|opening| opening.level);
+            self.deepest = self.deepest.max(levels.max().unwrap_or(0));
+            self.longest_schema = self.longest_schema.max(input.schema.len());
+        }
+        if answers.schema.0 == 9 {
+            self.longest_word = self.longest_word.max(length_of_word(input));
+        }
+    }
+
+    pub fn add(&mut self, other: &Tally) {
+        self.inputs += other.inputs;
+        let pairs = self.schemas.iter_mut().chain(&mut self.events);
+        for (sum, more) in pairs.zip(other.schemas.iter().chain(&other.events)) {
+            *sum += more;
+        }
+        for (most, more) in [
+            (&mut self.longest_schema, other.longest_schema),
+            (&mut self.longest_events, other.longest_events),
+            (&mut self.most_openings, other.most_openings),
+            (&mut self.deepest, other.deepest),
+            (&mut self.longest_word, other.longest_word),
+        ] {
+            *most = more.max(*most);
+        }
+    }
+
+    /// The answers of schema files and event files, with how often each came up.
+    pub fn numbers(&self) -> impl Iterator<Item = (&'static str, usize, u64)> {
+        let schemas = (0..10).map(|number| ("schema", number, self.schemas[number]));
+        let events = std::iter::once(0).chain(11..=20);
+        schemas.chain(events.map(|number| ("events", number, self.events[number])))
+    }
+
+    /// The longest word of a witness that the plain implementation found.
+    pub fn longest_word(&self) -> usize {
+        self.longest_word
+    }
+}
+
+/// The length of the word of the plain implementation's witness, which is a shortest one.
+fn length_of_word(input: &Input) -> usize {
+    let mut buffer = [0; plain::WITNESS];
+    plain::check_schema(&input.schema, &mut buffer);
+    plain::witness(&buffer).map_or(0, |witness| witness.word.len())
+}
+
+impl fmt::Display for Tally {
+    fn fmt(&self, out: &mut fmt::Formatter) -> fmt::Result {
+        writeln!(out, "{:8} {:>6} {:>10}", "file", "answer", "inputs")?;
+        for (file, number, times) in self.numbers() {
+            writeln!(out, "{file:8} {number:>6} {times:>10}")?;
+        }
+        writeln!(
+            out,
+            "longest accepted schema file: {} bytes",
+            self.longest_schema
+        )?;
+        writeln!(out, "longest event file: {} bytes", self.longest_events)?;
+        writeln!(out, "most openings taken: {}", self.most_openings)?;
+        writeln!(out, "deepest level taken: {}", self.deepest)?;
+        writeln!(out, "longest witness word: {} types", self.longest_word)
+    }
+}

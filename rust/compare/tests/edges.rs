@@ -1,0 +1,183 @@
+//! Inputs at the edges of the file forms and of the lent buffers.
+
+use compare::{Answers, Chance, Input, Job, compare};
+
+const OPEN: u8 = 0x21;
+const CLOSE: u8 = 0x22;
+const FINISH: u8 = 0x2F;
+
+/// One type that holds itself without end.
+const NESTING: [u8; 14] = [0x10, 1, 0x11, 0, 1, 0x12, 0, 0x13, 0, 0, 0, 0x14, 0, 0x1F];
+
+/// Both answers to this input, which are the same.
+fn both(schema: &[u8], events: &[u8], witness: usize, types: usize) -> Answers {
+    let input = Input {
+        schema: schema.to_vec(),
+        events: events.to_vec(),
+        witness,
+        types,
+    };
+    compare(&input, &mut Chance::new(1)).unwrap_or_else(|what| panic!("{what}\n{input}"))
+}
+
+/// Type 0 has 32 states and two types that compete only after each pair of states was passed.
+fn longest_word() -> Vec<u8> {
+    let [turn, nudge, part, one, other] = [1, 2, 3, 4, 5];
+    let mut schema = vec![0x10, 5, 0x11, 0, 32, 0x12, 0];
+    for state in 0..32 {
+        schema.extend([0x13, state, turn, (state + 1) % 32]);
+        schema.extend([0x13, state, nudge, if state == 31 { 0 } else { state }]);
+    }
+    for [from, by, to] in [[31, part, 16], [31, part, 0], [31, one, 0], [0, other, 0]] {
+        schema.extend([0x13, from, by, to]);
+    }
+    for tag in [1, 2, 3, 4, 4] {
+        schema.extend([0x11, tag, 1, 0x12, 0]);
+    }
+    schema.extend([0x14, 0, 0x1F]);
+    schema
+}
+
+#[test]
+fn witness_buffers_of_every_length() {
+    let refused = [0x10, 0x21];
+    for length in 0..=plain::WITNESS + 40 {
+        let short = length < plain::WITNESS;
+        let number = |schema: &[u8]| both(schema, &[], length, 0).schema.0;
+        assert_eq!(number(&NESTING), if short { 1 } else { 0 });
+        assert_eq!(number(&refused), if short { 1 } else { 4 });
+        assert_eq!(number(&longest_word()), if short { 1 } else { 9 });
+    }
+}
+
+#[test]
+fn a_word_that_fills_the_witness_buffer() {
+    let mut buffer = [0; typestock::WITNESS];
+    let answer = typestock::check_schema(&longest_word(), &mut buffer);
+    assert_eq!((answer.number, answer.place), (9, 0));
+    let found = typestock::witness(&buffer).expect("a witness");
+    assert_eq!((found.within, found.one, found.other), (0, 4, 5));
+    assert_eq!(found.word.len(), 527);
+}
+
+#[test]
+fn types_buffers_of_every_length() {
+    let events = [[OPEN, 0].repeat(64), [CLOSE, 0].repeat(64), vec![FINISH]].concat();
+    for length in 0..=70 {
+        let expected = match length {
+            0..64 => Job::EventsRead {
+                number: 20,
+                place: 2 * length,
+                count: length,
+            },
+            _ => Job::EventsRead {
+                number: 0,
+                place: 257,
+                count: 64,
+            },
+        };
+        assert_eq!(
+            both(&NESTING, &events, plain::WITNESS, length).job,
+            expected
+        );
+    }
+}
+
+#[test]
+fn files_cut_at_every_byte() {
+    let schema = longest_word();
+    for end in 0..schema.len() {
+        assert_eq!(both(&schema[..end], &[], plain::WITNESS, 0).schema.0, 2);
+    }
+    let events = [OPEN, 0, OPEN, 0, CLOSE, 0, CLOSE, 0, FINISH];
+    for end in 0..events.len() {
+        let job = both(&NESTING, &events[..end], plain::WITNESS, 9).job;
+        let count = (end / 2).min(2);
+        assert_eq!(
+            job,
+            Job::EventsRead {
+                number: 19,
+                place: end / 2 * 2,
+                count
+            }
+        );
+    }
+}
+
+#[test]
+fn slices_of_no_bytes() {
+    assert_eq!(typestock::check_schema(&[], &mut []).number, 1);
+    assert_eq!(
+        typestock::type_document(&[], &[], &mut [], &mut []),
+        typestock::Job::SchemaRefused {
+            number: 1,
+            place: 0
+        }
+    );
+    let mut witness = [0; typestock::WITNESS];
+    assert_eq!(
+        typestock::type_document(&NESTING, &[], &mut witness, &mut []),
+        typestock::Job::EventsRead {
+            number: 19,
+            place: 0,
+            count: 0
+        }
+    );
+    assert_eq!(typestock::openings(&[]).count(), 0);
+}
+
+#[test]
+fn places_and_counts_of_many_bytes() {
+    let children = 150_000;
+    let mut events = [
+        &[OPEN, 0][..],
+        &[OPEN, 0, CLOSE, 0].repeat(children),
+        &[CLOSE, 0, FINISH],
+    ]
+    .concat();
+    let count = children + 1;
+    let job = |events: &[u8], room| both(&NESTING, events, plain::WITNESS, room).job;
+    let place = events.len();
+    assert_eq!(
+        job(&events, count),
+        Job::EventsRead {
+            number: 0,
+            place,
+            count
+        }
+    );
+    assert_eq!(
+        job(&events, count - 1),
+        Job::EventsRead {
+            number: 20,
+            place: place - 7,
+            count: count - 1
+        }
+    );
+    events.push(FINISH);
+    assert_eq!(
+        job(&events, count),
+        Job::EventsRead {
+            number: 11,
+            place,
+            count
+        }
+    );
+    let schema = [&NESTING[..], &[0x10; 100_000]].concat();
+    assert_eq!(
+        both(&schema, &[], plain::WITNESS, 0).schema,
+        (3, NESTING.len())
+    );
+}
+
+#[test]
+fn levels_of_openings_past_the_limit() {
+    let down = [OPEN, 7].repeat(100_000);
+    both(&NESTING, &down, plain::WITNESS, 100);
+    assert_eq!(
+        typestock::openings(&down)
+            .last()
+            .map(|opening| opening.level),
+        Some(100_000)
+    );
+}

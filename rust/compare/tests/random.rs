@@ -1,0 +1,25 @@
+//! Random inputs, of which each number comes up.
+
+use compare::{Chance, Input, Tally, compare};
+
+const INPUTS: u64 = 20_000;
+
+#[test]
+fn nothing_differs_and_each_number_comes_up() {
+    let mut tally = Tally::default();
+    for index in 0..INPUTS {
+        let mut chance = Chance::of_input(7, index);
+        let input = Input::random(&mut chance);
+        match compare(&input, &mut chance) {
+            Ok(answers) => tally.count(&input, &answers),
+            Err(what) => panic!("input {index}: {what}\n{input}"),
+        }
+    }
+    for (file, number, times) in tally.numbers() {
+        assert!(times > 0, "no {file} file was answered {number}\n{tally}");
+    }
+    assert!(
+        tally.longest_word() > 255,
+        "no word whose length needs two bytes\n{tally}"
+    );
+}

@@ -1,0 +1,208 @@
+//! What is tested of each answer before it is handed on: that it is one of document 01's for what was asked.
+use crate::{foreign, witness, WITNESS};
+
+/// Types are below this.
+pub const TYPES: u8 = 64;
+
+/// A schema file's: 0 to 9; 1 exactly with a short buffer; the place inside the file, at its end for 2 alone, 0 where no command is in
+/// question; on 9 a witness.
+pub fn schema(number: u8, place: usize, length: usize, buffer: &[u8]) {
+    assert!(number <= 9, "typestock: no schema's answer is {number}");
+    assert!(
+        (number == 1) == (buffer.len() < WITNESS),
+        "typestock: a schema was answered {number} with a witness buffer of {} bytes",
+        buffer.len()
+    );
+    let fits = match number {
+        2 => place <= length,
+        3..=7 => place < length,
+        _ => place == 0,
+    };
+    assert!(
+        fits,
+        "typestock: a schema of {length} bytes was answered {number} at {place}"
+    );
+    assert!(
+        number != 9 || witness(buffer).is_some(),
+        "typestock: a schema was refused with 9 and no witness"
+    );
+}
+
+/// A document's where the schema was refused: the schema's number and place once more, and no opening.
+pub fn unasked(told: &foreign::Document) {
+    assert!(
+        told.number == told.schema_number && told.place == told.schema_place && told.count == 0,
+        "typestock: events were answered {} at {} with {} types under a refused schema",
+        told.number,
+        told.place,
+        told.count
+    );
+}
+
+/// An event file's: 0 or 11 to 20; the place its length for 0, at its end for 19 alone, else inside; the openings counted lie before the place
+/// and have their bytes in the buffer, all of them for 20; each type is one.
+pub fn events(number: u8, place: usize, count: usize, length: usize, types: &[u8]) {
+    let fits = match number {
+        0 => place == length,
+        19 => place <= length,
+        11..=20 => place < length,
+        _ => false,
+    };
+    assert!(
+        fits,
+        "typestock: {length} bytes of events were answered {number} at {place}"
+    );
+    let room = types.len();
+    assert!(
+        count <= room && count <= place / 2 && (number != 20 || count == room),
+        "typestock: {count} openings were counted before {place}, answered {number}, with {room} bytes for types"
+    );
+    assert!(
+        types[..count].iter().all(|&a| a < TYPES),
+        "typestock: an opening was given a type of {TYPES} or more"
+    );
+}
+
+/// Whether an opening was found: then it is the one that ends where the cursor has moved to, at most one level deeper; else the cursor is
+/// the one handed in.
+pub fn opening(told: &foreign::Opening, events: &[u8], at: usize, level: usize) -> bool {
+    let &foreign::Opening {
+        found,
+        tag,
+        at: past,
+        level: deep,
+    } = told;
+    let fits = match found {
+        0 => tag == 0 && past == at && deep == level,
+        1 => {
+            past > at
+                && past - at >= 2
+                && past <= events.len()
+                && events[past - 2..past] == [0x21, tag]
+                && deep >= 1
+                && deep - 1 <= level
+        }
+        _ => false,
+    };
+    assert!(
+        fits,
+        "typestock: from {at} at level {level} an opening ({found}) of tag {tag} was found before {past} at level {deep}"
+    );
+    found == 1
+}
+
+#[cfg(test)]
+mod tests {
+    use super::*;
+    use std::panic::catch_unwind;
+
+    // the call panics with a message that names typestock
+    fn breach(call: impl FnOnce() + std::panic::UnwindSafe) {
+        let what = catch_unwind(call).expect_err("a breach is not noticed");
+        let plain = what.downcast_ref::<&str>().copied();
+        let words = plain.or(what.downcast_ref::<String>().map(String::as_str));
+        assert!(words.is_some_and(|w| w.starts_with("typestock: ")));
+    }
+
+    #[test]
+    fn schema_answers() {
+        let buffer = [0; WITNESS];
+        let competing = {
+            let mut b = buffer;
+            b[2] = 1;
+            b
+        };
+        schema(0, 0, 10, &buffer);
+        schema(1, 0, 10, &buffer[..531]);
+        schema(2, 10, 10, &buffer);
+        schema(7, 9, 10, &buffer);
+        schema(9, 0, 10, &competing);
+        for (number, place) in [
+            (0, 1),
+            (2, 11),
+            (3, 10),
+            (7, 10),
+            (8, 3),
+            (9, 1),
+            (10, 0),
+            (255, 0),
+        ] {
+            breach(move || schema(number, place, 10, &competing));
+        }
+        breach(move || schema(9, 0, 10, &buffer));
+        breach(move || schema(1, 0, 10, &buffer));
+        breach(move || schema(0, 0, 10, &buffer[..531]));
+    }
+
+    #[test]
+    fn unasked_events() {
+        let refused = |number, place, count| foreign::Document {
+            schema_number: 4,
+            schema_place: 7,
+            number,
+            place,
+            count,
+        };
+        unasked(&refused(4, 7, 0));
+        breach(|| unasked(&refused(0, 7, 0)));
+        breach(|| unasked(&refused(4, 0, 0)));
+        breach(|| unasked(&refused(4, 7, 1)));
+    }
+
+    #[test]
+    fn event_answers() {
+        let types = [0, 63, 64];
+        events(0, 10, 2, 10, &types);
+        events(19, 10, 2, 10, &types);
+        events(11, 9, 2, 10, &types);
+        events(20, 4, 2, 10, &types[..2]);
+        for (number, place) in [
+            (0, 9),
+            (1, 4),
+            (9, 4),
+            (10, 4),
+            (13, 10),
+            (19, 11),
+            (20, 10),
+            (21, 4),
+        ] {
+            breach(move || events(number, place, 2, 10, &types[..2]));
+        }
+        breach(move || events(20, 8, 2, 10, &types));
+        breach(move || events(0, 10, 3, 10, &types[..2]));
+        breach(move || events(13, 5, 3, 10, &[0; 3]));
+        breach(move || events(0, 10, 3, 10, &types));
+    }
+
+    #[test]
+    fn openings_found() {
+        let told = |found, tag, at, level| foreign::Opening {
+            found,
+            tag,
+            at,
+            level,
+        };
+        let file = [0x21, 0, 0x22, 0, 0x21, 7];
+        assert!(opening(&told(1, 0, 2, 1), &file, 0, 0));
+        assert!(opening(&told(1, 7, 6, 1), &file, 2, 1));
+        assert!(!opening(&told(0, 0, 6, 1), &file, 6, 1));
+        for (found, tag, at, level) in [
+            (0, 1, 2, 1),
+            (0, 0, 3, 1),
+            (0, 0, 2, 0),
+            (1, 7, 2, 1),
+            (1, 7, 3, 1),
+            (1, 0, 4, 1),
+            (1, 6, 6, 1),
+            (1, 7, 6, 0),
+            (1, 7, 6, 3),
+            (1, 7, 8, 1),
+            (2, 7, 6, 1),
+            (255, 7, 6, 1),
+        ] {
+            breach(move || {
+                opening(&told(found, tag, at, level), &file, 2, 1);
+            });
+        }
+    }
+}

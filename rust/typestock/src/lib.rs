@@ -1,0 +1,149 @@
+//! The typing engine typestock for Rust: a schema file is accepted or refused, an event file is typed under it.
+//!
+//! The functions of the library are proved: for all bytes and lengths they answer as docs/FORMATS.md says, and leave each byte of a lent buffer
+//! as it says. What C's calling convention does not carry over (that the library linked is that one, with these declarations) is tested here
+//! after each call; a breach panics.
+//!
+//! ```
+//! let schema = b"\x10\x01\x11\x00\x01\x12\x00\x14\x00\x1f"; // one tag, one type, which has no children
+//! let events = b"\x21\x00\x22\x00\x2f"; // opened, closed, finished
+//! let mut types = [0; 2];
+//! let job = typestock::type_document(schema, events, &mut [0; typestock::WITNESS], &mut types);
+//! assert_eq!(job, typestock::Job::EventsRead { number: 0, place: 5, count: 1 });
+//! assert_eq!(types[0], 0);
+//! ```
+#[cfg(not(all(target_arch = "x86_64", target_os = "linux")))]
+compile_error!("libtypestock_c.a is for x86-64 Linux");
+
+mod foreign;
+mod held;
+
+/// The least length of a witness buffer: with fewer bytes every schema is refused with 1.
+pub const WITNESS: usize = 532;
+
+/// A schema file's answer: 0 and 0 for an accepted one, else the number of the first question answered no, 1 to 9, and its place.
+#[derive(Debug, Clone, Copy, PartialEq, Eq)]
+pub struct SchemaAnswer {
+    pub number: u8,
+    pub place: usize,
+}
+
+/// Answers the schema file. On 9 the first bytes of the buffer are the witness, which [`witness`] reads, and its rest is unchanged; on every
+/// other answer all of it is.
+pub fn check_schema(schema: &[u8], witness: &mut [u8]) -> SchemaAnswer {
+    let told = foreign::check_schema(schema, witness);
+    held::schema(told.number, told.place, schema.len(), witness);
+    SchemaAnswer {
+        number: told.number,
+        place: told.place,
+    }
+}
+
+/// What a schema file and an event file get: the schema's refusal, 1 to 9; or the event file's number, 0 for taken or 11 to 20, the place of
+/// the refused event or the file's length, and the count of openings taken.
+#[derive(Debug, Clone, Copy, PartialEq, Eq)]
+pub enum Job {
+    SchemaRefused {
+        number: u8,
+        place: usize,
+    },
+    EventsRead {
+        number: u8,
+        place: usize,
+        count: usize,
+    },
+}
+
+/// Answers the schema file and, where that is accepted, types the event file under it. The witness buffer is left as by [`check_schema`].
+/// The first `count` bytes of `types` get the types of the openings taken, in order, also where a later event is refused; the rest is
+/// unchanged, all of it where the schema is refused. A byte for every two of the event file is always enough.
+pub fn type_document(schema: &[u8], events: &[u8], witness: &mut [u8], types: &mut [u8]) -> Job {
+    let told = foreign::type_document(schema, events, witness, types);
+    held::schema(told.schema_number, told.schema_place, schema.len(), witness);
+    if told.schema_number != 0 {
+        held::unasked(&told);
+        return Job::SchemaRefused {
+            number: told.schema_number,
+            place: told.schema_place,
+        };
+    }
+    held::events(told.number, told.place, told.count, events.len(), types);
+    Job::EventsRead {
+        number: told.number,
+        place: told.place,
+        count: told.count,
+    }
+}
+
+/// An opening of an event file: its level, the root's being 1, and its tag.
+#[derive(Debug, Clone, Copy, PartialEq, Eq)]
+pub struct Opening {
+    pub level: usize,
+    pub tag: u8,
+}
+
+/// The openings of the event file in order, up to where it ends or goes on with what is no event. The first `count` of them are those that
+/// [`type_document`] writes types of.
+pub fn openings(events: &[u8]) -> Openings<'_> {
+    Openings {
+        events,
+        at: 0,
+        level: 0,
+    }
+}
+
+/// The iterator of [`openings`].
+#[derive(Debug, Clone)]
+pub struct Openings<'a> {
+    events: &'a [u8],
+    at: usize,
+    level: usize,
+}
+
+impl Iterator for Openings<'_> {
+    type Item = Opening;
+
+    fn next(&mut self) -> Option<Opening> {
+        let told = foreign::next_opening(self.events, self.at, self.level);
+        if !held::opening(&told, self.events, self.at, self.level) {
+            self.at = self.events.len();
+            return None;
+        }
+        self.at = told.at;
+        self.level = told.level;
+        Some(Opening {
+            level: told.level,
+            tag: told.tag,
+        })
+    }
+}
+
+impl std::iter::FusedIterator for Openings<'_> {}
+
+/// Why a schema is refused with 9: after the word of children an element of type `within` may go on with type `one` or with type `other`,
+/// which have one tag.
+#[derive(Debug, Clone, Copy, PartialEq, Eq)]
+pub struct Witness<'a> {
+    pub within: u8,
+    pub one: u8,
+    pub other: u8,
+    pub word: &'a [u8],
+}
+
+/// The witness that the buffer of a call that answered 9 begins with. None where the bytes are none: fewer than 5 and the word's, types of
+/// 64 or more, `one` not below `other`, or a word of more than 527.
+pub fn witness(bytes: &[u8]) -> Option<Witness<'_>> {
+    let &[within, one, other, low, high, ref rest @ ..] = bytes else {
+        return None;
+    };
+    let length = usize::from(u16::from_le_bytes([low, high]));
+    let word = rest.get(..length).filter(|_| length <= WITNESS - 5)?;
+    let types = [within, one, other];
+    let known = types.iter().chain(word).all(|&a| a < held::TYPES);
+    (known && one < other).then_some(Witness {
+        within,
+        one,
+        other,
+        word,
+    })
+}

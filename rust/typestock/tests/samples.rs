@@ -1,0 +1,152 @@
+// Document 01's "Samples from the boot wall". Where a sample names elements a, b, c their tags are 1, 2, 3; the root's is 0.
+mod common;
+use common::{checked, hex, read, refused, typed, R, R_EVENTS};
+use typestock::{openings, witness, Opening, SchemaAnswer, Witness, WITNESS};
+
+// The schema gets the number at the place, with the witness, from both calls.
+fn schema_gets(schema: &str, number: u8, place: usize, expected: &str) {
+    let schema = hex(schema);
+    let expected = hex(expected);
+    let (answer, found) = checked(&schema, WITNESS);
+    assert_eq!(answer, SchemaAnswer { number, place });
+    assert_eq!(found, expected);
+    if number > 0 {
+        let (job, found, _) = typed(&schema, &hex(R_EVENTS), WITNESS, 100);
+        assert_eq!(job, refused(number, place));
+        assert_eq!(found, expected);
+    }
+}
+
+// The schema is accepted, and the events get the number at the place, with the types.
+fn events_get(schema: &str, events: &str, number: u8, place: usize, types: &[u8]) {
+    schema_gets(schema, 0, 0, "");
+    let (job, _, found) = typed(&hex(schema), &hex(events), WITNESS, 100);
+    assert_eq!(job, read(number, place, types.len()));
+    assert_eq!(found, types);
+}
+
+fn levels_and_tags(events: &str) -> Vec<(usize, u8)> {
+    openings(&hex(events)).map(|o| (o.level, o.tag)).collect()
+}
+
+#[test]
+fn r() {
+    events_get(R, R_EVENTS, 0, 17, &[0, 1, 2, 3]);
+    assert_eq!(levels_and_tags(R_EVENTS), [(1, 0), (2, 1), (2, 2), (2, 1)]);
+}
+
+#[test]
+fn r_root_closed_with_no_child() {
+    events_get(R, "21 00 22 00", 17, 2, &[0]);
+}
+
+#[test]
+fn r_second_opening_of_tag_2() {
+    events_get(R, "21 00 21 02 22 02 21 02", 13, 6, &[0, 2]);
+}
+
+const CHOICE: &str = "10 04  11 00 02 12 01 13 00 01 01 13 00 02 01  11 01 02 12 01 13 00 03 01  11 01 02 12 01 13 00 04 01  11 02 01 12 00";
+
+#[test]
+fn a_gives_b1_or_b2() {
+    let schema = format!("{CHOICE} 11 03 01 12 00 14 00 1F");
+    schema_gets(&schema, 9, 0, "00 01 02 00 00");
+    let mut buffer = [0xff; WITNESS];
+    typestock::check_schema(&hex(&schema), &mut buffer);
+    let expected = Witness {
+        within: 0,
+        one: 1,
+        other: 2,
+        word: &[],
+    };
+    assert_eq!(witness(&buffer), Some(expected));
+}
+
+#[test]
+fn d_without_an_accepting_state() {
+    schema_gets(&format!("{CHOICE} 11 03 01 14 00 1F"), 0, 0, "");
+}
+
+#[test]
+fn two_ways_by_one_type() {
+    schema_gets(
+        "10 03  11 00 04 13 00 01 01 13 00 01 02 13 01 02 03 13 02 03 03 12 03  11 01 01 12 00  11 02 01 12 00  11 02 01 12 00  14 00 1F",
+        9,
+        0,
+        "00 02 03 01 00 01",
+    );
+}
+
+#[test]
+fn a1_then_a2_or_b1() {
+    schema_gets(
+        "10 03  11 00 03 12 02 13 00 01 01 13 01 02 02 13 01 03 02  11 01 01 12 00  11 01 01 12 00  11 02 01 12 00  14 00 1F",
+        0,
+        0,
+        "",
+    );
+}
+
+#[test]
+fn last_but_one_is_a() {
+    events_get(
+        "10 03  11 00 03 12 02 13 00 01 00 13 00 02 00 13 00 01 01 13 01 01 02 13 01 02 02  11 01 01 12 00  11 02 01 12 00  14 00 1F",
+        "21 00 21 01 22 01 22 00",
+        17,
+        6,
+        &[0, 1],
+    );
+}
+
+#[test]
+fn a_again_near_the_end() {
+    // types 1 to 4: a1, b1, c1, a2
+    events_get(
+        "10 04  11 00 05 13 00 01 01 13 00 02 02 13 01 02 02 13 02 02 02 13 02 03 02 13 02 04 03 13 03 03 04 12 04
+         11 01 01 12 00  11 02 01 12 00  11 03 01 12 00  11 01 01 12 00  14 00 1F",
+        "21 00  21 02 22 02 21 02 22 02 21 03 22 03 21 02 22 02 21 01 22 01 21 03 22 03  22 00 2F",
+        0,
+        29,
+        &[0, 2, 2, 3, 2, 4, 3],
+    );
+}
+
+#[test]
+fn root_bears_no_tree() {
+    schema_gets("10 01  11 00 02 13 00 00 01 12 01  14 00 1F", 8, 0, "");
+}
+
+const NESTED: &str = "10 01  11 00 01 13 00 00 00 12 00  14 00 1F";
+
+#[test]
+fn levels_64_and_the_next() {
+    let open = "21 00 ".repeat(64);
+    let close = "22 00 ".repeat(64);
+    events_get(NESTED, &format!("{open} 21 00"), 14, 128, &[0; 64]);
+    events_get(NESTED, &format!("{open} {close} 2F"), 0, 257, &[0; 64]);
+    let deep: Vec<Opening> = openings(&hex(&open)).collect();
+    let expected: Vec<Opening> = (1..=64).map(|level| Opening { level, tag: 0 }).collect();
+    assert_eq!(deep, expected);
+}
+
+#[test]
+fn witness_buffers_of_531_and_532_bytes() {
+    let short = SchemaAnswer {
+        number: 1,
+        place: 0,
+    };
+    let accepted = SchemaAnswer {
+        number: 0,
+        place: 0,
+    };
+    assert_eq!(checked(&hex(R), 531).0, short);
+    assert_eq!(checked(&hex(R), 532).0, accepted);
+    assert_eq!(typed(&hex(R), &hex(R_EVENTS), 531, 4).0, refused(1, 0));
+    assert_eq!(typed(&hex(R), &hex(R_EVENTS), 532, 4).0, read(0, 17, 4));
+}
+
+#[test]
+fn tag_counts() {
+    schema_gets("10 20", 2, 2, "");
+    schema_gets("10 21", 4, 0, "");
+}
