@@ -1,7 +1,7 @@
-// What is timed: schemas, and the readings that the calls are made on.
-use crate::calls::{FRESH, LEVELS, Reading};
-use crate::plain::Schema;
-use crate::schemas::{Type, chain, leaf, line, schema, small, wide};
+// The calls on a reading that are timed: schemas, and the readings that the calls are made on.
+use crate::common::calls::{FRESH, LEVELS, Reading};
+use crate::common::schema::Schema;
+use crate::common::schemas::{Type, chain, leaf, line, schema, small, wide};
 
 #[derive(Clone, Copy)]
 pub enum Call {
@@ -10,10 +10,10 @@ pub enum Call {
     Finish,
 }
 
-// One call, and the most nanoseconds that it may take.
+// One call, and the most microseconds that it may take.
 pub struct Case {
     pub name: &'static str,
-    pub goal: Option<f64>,
+    pub most: Option<f64>,
     pub schema: Schema,
     pub reading: Reading,
     pub call: Call,
@@ -107,36 +107,39 @@ fn mixture() -> Schema {
 }
 
 pub fn cases() -> Vec<Case> {
-    let on_r = |name, goal, reading, call| Case {
+    let on_r = |name, most, reading, call| Case {
         name,
-        goal,
+        most,
         schema: small(),
         reading,
         call,
     };
-    let mut over = inside_root(2);
-    over.depth = 0;
+    let inside = inside_root(1);
+    let over = Reading {
+        depth: 0,
+        ..inside_root(2)
+    };
     let mut all = vec![
         on_r(
-            "R, inside the root: open tag 0",
-            Some(1e3),
-            inside_root(1),
+            "R, in the root: open tag 0",
+            Some(1.0),
+            inside,
             Call::Open(0),
         ),
         on_r(
-            "R, inside the root: open tag 1",
-            Some(1e3),
-            inside_root(1),
+            "R, in the root: open tag 1",
+            Some(1.0),
+            inside,
             Call::Open(1),
         ),
         on_r(
-            "R, inside the root: open tag 2",
-            Some(1e3),
-            inside_root(1),
+            "R, in the root: open tag 2",
+            Some(1.0),
+            inside,
             Call::Open(2),
         ),
         on_r(
-            "R, inside the root: close",
+            "R, in the root: close",
             None,
             inside_root(2),
             Call::Close(0),
@@ -144,22 +147,17 @@ pub fn cases() -> Vec<Case> {
         on_r("R, after the root: finish", None, over, Call::Finish),
     ];
     let largest = [
-        ("open: chain of 64 types, 16 steps each", chain(), 63, 30),
-        ("the same, 1,024 steps by mixed types", longest(), 63, 30),
-        (
-            "1 type of 32 states, 1,024 steps, 63 leaves",
-            one_type(),
-            0,
-            1,
-        ),
-        ("32 types of 32 states, 32 steps each", wide(0), 31, 30),
-        ("the same, 32 leaves", wide(32), 31, 30),
-        ("31 leaves, a chain, a type of 156 steps", mixture(), 59, 30),
+        ("chain of 64 types, 16 steps each: open", chain(), 63, 30),
+        ("the same, by mixed types: open", longest(), 63, 30),
+        ("1 type, 1,024 steps, 63 leaves: open", one_type(), 0, 1),
+        ("32 types of 32 states, 32 steps: open", wide(0), 31, 30),
+        ("the same, 32 leaves: open", wide(32), 31, 30),
+        ("31 leaves, a chain, 156 steps: open", mixture(), 59, 30),
     ];
     for (name, schema, a, tag) in largest {
         all.push(Case {
             name,
-            goal: Some(2e6),
+            most: Some(2e3),
             reading: nested(&schema, a),
             schema,
             call: Call::Open(tag),

@@ -1,28 +1,15 @@
-// Random schemas and readings, inside the limits and outside them.
-use crate::calls::{Answered, FRESH, LEVELS, REFUSED, Reading};
+// Random schemas and readings, inside the limits and outside them, and random calls on them.
 use crate::cases::Call;
-use crate::plain::Schema;
-use crate::schemas::{Type, schema};
+use crate::common::calls::{Answered, FRESH, LEVELS, REFUSED, Reading};
+use crate::common::random::Random;
+use crate::common::schema::Schema;
+use crate::common::schemas::{Type, schema};
 
 const SCHEMAS: u32 = 4_000;
 const EVENTS: u32 = 60;
 const MADE_UP: u32 = 20;
 
-// Marsaglia's xorshift.
-pub struct Random(pub u64);
-
 impl Random {
-    pub fn below(&mut self, n: u64) -> u64 {
-        self.0 ^= self.0 << 13;
-        self.0 ^= self.0 >> 7;
-        self.0 ^= self.0 << 17;
-        (self.0 >> 11) % n
-    }
-
-    pub fn byte(&mut self, n: u8) -> u8 {
-        self.below(u64::from(n)) as u8
-    }
-
     fn states(&mut self, n: u8) -> u32 {
         self.below(1 << n) as u32
     }
@@ -116,21 +103,20 @@ pub struct Counts {
 
 impl Counts {
     fn count(&mut self, a: &Answered) {
-        let slot = if a.kind == REFUSED {
-            usize::from(a.of) - 8
+        let slot = if a.answer.kind == REFUSED {
+            usize::from(a.answer.of) - 8
         } else {
-            usize::from(a.kind)
+            usize::from(a.answer.kind)
         };
         self.calls += 1;
         self.answers[slot] += 1;
     }
 }
 
-// The same calls to both, the whole of what they hand back compared. A walk from a fresh reading goes on with what was handed back.
-pub fn compare(
-    one: fn(&Schema, &Reading, Call) -> Answered,
-    other: fn(&Schema, &Reading, Call) -> Answered,
-) -> Option<Counts> {
+pub type Calls = fn(&Schema, &Reading, Call) -> Answered;
+
+// The same calls to all, the whole of what they hand back compared. A walk from a fresh reading goes on with what was handed back.
+pub fn compare(all: &[Calls]) -> Option<Counts> {
     let mut random = Random(0x9E37_79B9_7F4A_7C15);
     let mut counts = Counts {
         calls: 0,
@@ -146,8 +132,11 @@ pub fn compare(
                 random.reading(&schema)
             };
             let call = random.call(&schema);
-            let answered = one(&schema, &reading, call);
-            if answered != other(&schema, &reading, call) {
+            let answered = all[0](&schema, &reading, call);
+            if all
+                .iter()
+                .any(|one| one(&schema, &reading, call) != answered)
+            {
                 return None;
             }
             counts.count(&answered);

@@ -1,112 +1,74 @@
 // Event files: those that are timed, and random ones.
-use crate::calls::{FRESH, LEVELS, REFUSED};
-use crate::compare::Random;
-use crate::events::EventFile;
-use crate::plain::Schema;
-use crate::schemas::{Type, dense, leaf, schema, small};
+use crate::common::calls::{FRESH, LEVELS, REFUSED};
+use crate::common::documents::document;
+use crate::common::events::EventFile;
+use crate::common::random::Random;
+use crate::common::schema::Schema;
+use crate::common::schemas::{STEPS_GROW, dense, layered, mixed, nesting, small};
 
 // A schema, and a file whose events are all taken.
 pub struct FileCase {
-    pub name: &'static str,
+    pub name: String,
     pub schema: Schema,
     pub file: Vec<u8>,
 }
 
-// 64 types of 4 states, all accepting, with 4 steps from each state, by 16 types of different tags.
-fn sixteen() -> Schema {
-    let types: Vec<Type> = (0..64u32)
-        .map(|a| Type {
-            tag: (a % 32) as u8,
-            states: 4,
-            accepting: 0b1111,
-            steps: (0..16)
-                .map(|n| {
-                    let to = (a * 5 + n * 7 + n / 3) % 4;
-                    [(n / 4) as u8, ((a * 11 + n) % 64) as u8, to as u8]
-                })
-                .collect(),
-        })
-        .collect();
-    schema(32, 0, &types)
-}
+const LONGEST: usize = 32 * 1024;
 
-// As `dense`, by 31 leaves of different tags, with all states accepting.
-fn dense_mixed() -> Schema {
-    let mut s = dense();
-    s.accepting[0] = u32::MAX;
-    for (i, by) in s.by.iter_mut().enumerate() {
-        *by = (1 + i * 7 % 31) as u8;
+fn case(name: impl Into<String>, schema: Schema, bytes: usize, depths: [u8; 2]) -> FileCase {
+    FileCase {
+        name: name.into(),
+        schema,
+        file: document(&schema, bytes, depths, 0),
     }
-    s
 }
 
-// One type, with one step by itself.
-fn nesting() -> Schema {
-    let own = Type {
-        tag: 0,
-        states: 1,
-        accepting: 1,
-        steps: vec![[0, 0, 0]],
-    };
-    schema(2, 0, &[own, leaf(1)])
-}
-
-// A document of at most so many bytes, its depth between the two once it is reached: an opening or a closing that is taken, at random; in the
-// end all closings and the finish.
-fn document(schema: &Schema, bytes: usize, depths: [u8; 2]) -> Vec<u8> {
-    let mut random = Random(0x2545_F491_4F6C_DD1D);
-    let mut reading = FRESH;
-    let mut file = Vec::new();
-    let [low, high] = depths;
-    let mut reached = false;
-    while file.len() + 2 * usize::from(reading.depth) + 5 <= bytes {
-        reached |= low < reading.depth;
-        let down =
-            reading.depth < high && (!reached || reading.depth <= low || random.below(2) == 0);
-        let (code, tag) = if down {
-            (0x21, random.byte(schema.tags))
-        } else {
-            let inner = reading.depth as usize - 1;
-            (0x22, schema.tag[reading.types[inner] as usize])
-        };
-        let answered = if down {
-            reading.open(*schema, tag)
-        } else {
-            reading.close(*schema, tag)
-        };
-        if answered.kind != REFUSED {
-            file.extend([code, tag]);
-            reading = answered.reading;
-        }
-    }
-    for n in (0..reading.depth as usize).rev() {
-        file.extend([0x22, schema.tag[reading.types[n] as usize]]);
-    }
-    file.push(0x2f);
-    file
-}
-
-pub fn file_cases() -> Vec<FileCase> {
-    let full = LEVELS as u8;
+// Files that grow, of three schemas.
+fn lengths() -> Vec<FileCase> {
     let schemas = [
         ("R", small(), [1, 2]),
-        ("16 steps a type, 64 types", sixteen(), [1, 12]),
-        ("the same, deep", sixteen(), [56, full]),
-        ("1 type, 1,024 steps by one type", dense(), [1, 2]),
-        ("1 type, 1,024 steps by 31 types", dense_mixed(), [1, 2]),
-        ("1 type in itself, up and down", nesting(), [1, full]),
-        ("the same, deep", nesting(), [60, full]),
+        ("64 types of 16 steps", layered(64), [1, 12]),
+        ("1 type, 1,024 steps by 31 types", mixed(32, 32), [1, 2]),
     ];
-    schemas
-        .iter()
-        .flat_map(|&(name, schema, depths)| {
-            [1, 8, 32].map(|kilobytes| FileCase {
-                name,
-                schema,
-                file: document(&schema, kilobytes * 1024, depths),
-            })
+    let grow = |(name, schema, depths)| {
+        [1, 2, 4, 8, 16, 32].map(|kilobytes| {
+            let name = format!("file grows: {name}");
+            case(name, schema, kilobytes * 1024, depths)
         })
-        .collect()
+    };
+    schemas.into_iter().flat_map(grow).collect()
+}
+
+// The timed files.
+pub fn file_cases() -> Vec<FileCase> {
+    let deep = LEVELS as u8;
+    let mut all = lengths();
+    all.extend([
+        case(
+            "64 types of 16 steps, 56 to 64 deep",
+            layered(64),
+            LONGEST,
+            [56, deep],
+        ),
+        case(
+            "1 type in itself, up and down",
+            nesting(),
+            LONGEST,
+            [1, deep],
+        ),
+        case("the same, 60 to 64 deep", nesting(), LONGEST, [60, deep]),
+        case("1 type, 1,024 steps by one type", dense(), LONGEST, [1, 2]),
+    ]);
+    for types in [1, 2, 4, 8, 16, 32, 64] {
+        let name = format!("types grow: {types}, 16 steps each");
+        all.push(case(name, layered(types), LONGEST, [1, 12]));
+    }
+    for (states, targets) in STEPS_GROW {
+        let steps = u32::from(states) * u32::from(targets);
+        let name = format!("steps grow: {steps} by 31 types, in one of {states} states");
+        all.push(case(name, mixed(states, targets), LONGEST, [1, 2]));
+    }
+    all
 }
 
 const SCHEMAS: u32 = 4_000;
@@ -126,8 +88,8 @@ fn random_file(random: &mut Random, schema: &Schema) -> Vec<u8> {
             1..=4 if !deep => (0x22, reading.close(*schema, tag)),
             _ => (0x21, reading.open(*schema, tag)),
         };
-        let full = answered.kind == REFUSED && answered.of == 14;
-        if answered.kind == REFUSED && !full && (care || random.below(16) != 0) {
+        let full = answered.answer.kind == REFUSED && answered.answer.of == 14;
+        if answered.answer.kind == REFUSED && !full && (care || random.below(16) != 0) {
             continue;
         }
         file.push(code);

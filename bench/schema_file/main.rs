@@ -1,20 +1,22 @@
-// Times the proved schema file's call beside a plain Rust reader of questions 2 to 7. The proved call cannot be stopped after question 7, so
-// questions 1 to 7 are timed on two files, in two orders of their steps: on one of the longest files, whose root type has no step, so that 8
-// and 9 have little to ask, with their time in it; and on the longest file that can get 7.
-use std::hint::black_box;
-use std::time::{Duration, Instant};
+// The schema file's call beside plain Rust of the same questions, written in two ways: `plain` stops at the first equal step when it looks for a
+// repeated STEP and trims once; `alike` compares a STEP with all of its block without a branch and trims twice, as the proved reader does.
+#[allow(dead_code)]
+#[path = "../common/mod.rs"]
+mod common;
+mod plain;
 
-// As `Numbers` of the crate schema_file_bench: a refusal's number and place; 0 and 0 for accepted.
-#[derive(Debug, PartialEq)]
-#[repr(C)]
-struct Numbers {
-    number: u8,
-    place: usize,
-}
+use common::measure::{Asked, heading, in_turn, row};
+use common::random::Random;
+use common::schema::{Schema, WITNESS};
+use common::schemas::{
+    STEPS_GROW, full, layered, longest, mixed, samples, schema_file, shuffled, single, small, wide,
+};
+use plain::{Alike, Numbers, Obvious, read};
+use std::hint::black_box;
 
 // A slice goes over as its pointer and its length.
 unsafe extern "C" {
-    fn schema_file_bench_read(
+    fn typestock_check_schema(
         file: *const u8,
         len: usize,
         witness: *mut u8,
@@ -22,11 +24,10 @@ unsafe extern "C" {
     ) -> Numbers;
 }
 
-fn proved(file: &[u8]) -> Numbers {
-    let mut witness = [0; 532];
+fn proved(file: &[u8], witness: &mut [u8]) -> Numbers {
     // SAFETY: each pointer and length are one slice's, which lives through the call; the witness is lent to it alone.
     unsafe {
-        schema_file_bench_read(
+        typestock_check_schema(
             file.as_ptr(),
             file.len(),
             witness.as_mut_ptr(),
@@ -35,191 +36,132 @@ fn proved(file: &[u8]) -> Numbers {
     }
 }
 
-// What the plain reader keeps: of each type its states, accepting states and steps, each step with its place.
-struct Block {
-    states: u8,
-    accepting: u32,
-    steps: Vec<(u8, u8, u8, usize)>,
+type Read = fn(&[u8], &mut [u8]) -> Numbers;
+
+const READERS: [Read; 3] = [proved, read::<Obvious>, read::<Alike>];
+
+// Whether the answers agree, with the whole of a buffer of `room` bytes. On 9 the three search alike, so the witnesses agree too.
+fn agree(file: &[u8], room: usize) -> bool {
+    let answers = READERS.map(|read| {
+        let mut witness = vec![0xA5; room];
+        (read(file, &mut witness), witness)
+    });
+    answers[0] == answers[1] && answers[0] == answers[2]
 }
 
-fn refusal(number: u8, place: usize) -> Numbers {
-    Numbers { number, place }
-}
-
-// Questions 2 to 7.
-fn plain(file: &[u8]) -> Numbers {
-    let (mut at, mut phase, mut tags, mut count) = (0, 0, 0, 0);
-    let mut blocks: Vec<Block> = Vec::new();
-    while phase != 4 {
-        let size = match file.get(at) {
-            Some(0x10 | 0x12 | 0x14) => 2,
-            Some(0x11) => 3,
-            Some(0x13) => 4,
-            Some(0x1f) => 1,
-            _ => return refusal(2, at),
-        };
-        let Some(c) = file.get(at..at + size) else {
-            return refusal(2, at);
-        };
-        let failed = match c[0] {
-            0x10 if phase != 0 => 3,
-            0x10 if c[1] == 0 || c[1] > 32 => 4,
-            0x10 => {
-                (phase, tags) = (1, c[1]);
-                0
-            }
-            0x11 if phase != 1 && phase != 2 => 3,
-            0x11 if c[1] >= tags || c[2] == 0 || c[2] > 32 => 4,
-            0x11 if blocks.len() == 64 => 5,
-            0x11 => {
-                phase = 2;
-                blocks.push(Block {
-                    states: c[2],
-                    accepting: 0,
-                    steps: Vec::new(),
-                });
-                0
-            }
-            0x1f if phase != 3 => 3,
-            0x1f => {
-                phase = 4;
-                0
-            }
-            _ if phase != 2 => 3,
-            0x14 if usize::from(c[1]) >= blocks.len() => 4,
-            0x14 => {
-                phase = 3;
-                0
-            }
-            0x12 => {
-                let b = blocks.last_mut().unwrap();
-                if c[1] >= b.states {
-                    4
-                } else if b.accepting >> c[1] & 1 == 1 {
-                    6
-                } else {
-                    b.accepting |= 1 << c[1];
-                    0
-                }
-            }
-            _ => {
-                let b = blocks.last_mut().unwrap();
-                if c[1] >= b.states || c[2] >= 64 || c[3] >= b.states {
-                    4
-                } else if count == 1024 {
-                    5
-                } else if b
-                    .steps
-                    .iter()
-                    .any(|s| (s.0, s.1, s.2) == (c[1], c[2], c[3]))
-                {
-                    6
-                } else {
-                    b.steps.push((c[1], c[2], c[3], at));
-                    count += 1;
-                    0
-                }
-            }
-        };
-        if failed != 0 {
-            return refusal(failed, at);
+// A row for the files, read one after another. Whether all answers agree.
+fn report(what: &str, files: &[Vec<u8>], asked: Asked) -> bool {
+    let same = files.iter().all(|file| agree(file, WITNESS));
+    let all = |read: Read, witness: &mut [u8]| {
+        for file in files {
+            black_box(read(black_box(file), witness));
         }
-        at += size;
-    }
-    if at < file.len() {
-        return refusal(3, at);
-    }
-    let types = blocks.len();
-    match blocks
-        .iter()
-        .flat_map(|b| &b.steps)
-        .find(|s| usize::from(s.1) >= types)
-    {
-        Some(s) => refusal(7, s.3),
-        None => refusal(0, 0),
-    }
-}
-
-// Types of 32 states, all accepting, and the steps in the first.
-fn file(types: u8, steps: &[[u8; 3]], root: u8) -> Vec<u8> {
-    let mut file = vec![0x10, 32];
-    for a in 0..types {
-        file.extend([0x11, 0, 32]);
-        file.extend((0..32).flat_map(|q| [0x12, q]));
-        if a == 0 {
-            file.extend(steps.iter().flat_map(|&[p, j, q]| [0x13, p, j, q]));
-        }
-    }
-    file.extend([0x14, root, 0x1f]);
-    file
-}
-
-// The longest file of the proofs: from each state to each, in order, by one type.
-fn in_order() -> Vec<[u8; 3]> {
-    (0..32)
-        .flat_map(|p| (0..32).map(move |q| [p, 1, q]))
-        .collect()
-}
-
-// From two states by sixteen types to each state, shuffled: no processor foresees which earlier steps are from the same state as the next.
-fn shuffled() -> Vec<[u8; 3]> {
-    let mut steps: Vec<_> = (0..1024u16)
-        .map(|n| [(n % 2) as u8, (n / 2 % 16) as u8, (n / 32) as u8])
-        .collect();
-    let mut random = 88_172_645_463_325_252u64;
-    for i in (1..steps.len()).rev() {
-        random ^= random << 13;
-        random ^= random >> 7;
-        random ^= random << 17;
-        steps.swap(i, (random % (i as u64 + 1)) as usize);
-    }
-    steps
-}
-
-// Microseconds a call, the best of two hundred runs of about a millisecond or of one call.
-fn best(file: &[u8], call: fn(&[u8]) -> Numbers) -> f64 {
-    let run = |rounds: u32| {
-        let began = Instant::now();
-        for _ in 0..rounds {
-            black_box(call(black_box(file)));
-        }
-        began.elapsed()
     };
-    let mut rounds = 1;
-    while run(rounds) < Duration::from_millis(1) {
-        rounds *= 2;
+    let [mut x, mut y, mut z] = [[0; WITNESS]; 3];
+    let [a, b, c] = READERS;
+    let times = in_turn(
+        &mut [&mut || all(a, &mut x), &mut || all(b, &mut y), &mut || {
+            all(c, &mut z)
+        }],
+    );
+    let size: usize = files.iter().map(Vec::len).sum();
+    row(what, &size.to_string(), &times, asked);
+    if !same {
+        println!("ANSWERS DIFFER");
     }
-    let best = (0..200).map(|_| run(rounds)).min().unwrap();
-    best.as_secs_f64() * 1e6 / f64::from(rounds)
+    same
 }
 
-fn report(what: &str, file: &[u8]) {
-    assert_eq!(proved(file), plain(file));
-    let (ours, theirs) = (best(file, proved), best(file, plain));
-    println!("{what:<62} {:>6} {ours:>7.0} {theirs:>7.0}", file.len());
+fn one(what: &str, schema: &Schema) -> bool {
+    report(what, &[schema_file(schema)], Asked::Nothing)
+}
+
+// The longest files, in two orders of their steps. Questions 1 to 7 cannot be called alone: the root type with no step leaves 8 and 9 little to
+// ask, and a last step that gets 7 leaves them nothing.
+fn longest_files() -> bool {
+    let mut same = true;
+    for (order, steps) in [("in order", full(32, 32, 1)), ("shuffled", shuffled())] {
+        let file = schema_file(&longest(64, steps.clone(), 63));
+        assert_eq!(file.len(), 8389);
+        let what = format!("64 types, 1,024 steps {order}, a root with none");
+        same &= report(&what, &[file], Asked::Microseconds(1e3));
+        let mut unknown = steps;
+        unknown[1023][1] = 63;
+        let what = format!("63 types, the last of 1,024 steps {order} gets 7");
+        let file = schema_file(&longest(63, unknown, 0));
+        same &= report(&what, &[file], Asked::Microseconds(1e3));
+    }
+    same & one(
+        "64 types, 1,024 steps in order, all the root's",
+        &longest(64, full(32, 32, 1), 0),
+    )
+}
+
+// Files with a command more, bytes changed or an end cut off, most of them refused, to all three readers. How many got each number.
+fn spoiled() -> Option<[u32; 10]> {
+    let mut random = Random(0x9E37_79B9_7F4A_7C15);
+    let mut schemas = samples();
+    schemas.extend([small(), layered(5), layered(64), mixed(8, 4)]);
+    let mut numbers = [0; 10];
+    for n in 0..40_000 {
+        let mut file = schema_file(&schemas[n % schemas.len()]);
+        if random.below(4) == 0 {
+            let more: &[u8] = [&[0x11, 0, 1][..], &[0x13, 0, 0, 0]][random.below(2) as usize];
+            let root = file.len() - 3;
+            file.splice(root..root, more.iter().copied());
+        }
+        for _ in 0..random.below(3) {
+            let at = random.below(file.len() as u64) as usize;
+            file[at] = random.byte(0x21);
+        }
+        if random.below(16) == 0 {
+            file.truncate(random.below(file.len() as u64) as usize);
+        }
+        let room = WITNESS - usize::from(random.below(32) == 0);
+        if !agree(&file, room) {
+            return None;
+        }
+        numbers[usize::from(proved(&file, &mut vec![0; room]).number)] += 1;
+    }
+    Some(numbers)
 }
 
 fn main() {
-    println!(
-        "{:<62} {:>6} {:>7} {:>7}",
-        "microseconds a call; asked of questions 1 to 7: 1000", "bytes", "proved", "plain"
+    heading("Schema files", "bytes", &["plain", "alike"]);
+    let files: Vec<Vec<u8>> = samples().iter().map(schema_file).collect();
+    let mut same = one("1 type, no step", &single());
+    same &= one("R", &small());
+    same &= report(
+        "document 01's other 8 samples, together",
+        &files,
+        Asked::Nothing,
     );
-    for (order, steps) in [("in order", in_order()), ("shuffled", shuffled())] {
-        report(
-            &format!("steps {order}: questions 1 to 9, a root type with no step"),
-            &file(64, &steps, 63),
-        );
-        let mut unknown = steps;
-        unknown[1023][1] = 63;
-        report(
-            &format!("steps {order}: questions 1 to 7, a last step that gets 7"),
-            &file(63, &unknown, 0),
+    same &= longest_files();
+    same &= one(
+        "32 types of 32 states and 32 steps: the largest search",
+        &wide(0),
+    );
+    same &= one("the same, 32 leaves", &wide(32));
+    for types in [1, 2, 4, 8, 16, 32, 64] {
+        same &= one(
+            &format!("types grow: {types}, 16 steps each"),
+            &layered(types),
         );
     }
-    let longest = file(64, &in_order(), 0);
-    assert_eq!(longest.len(), 8389);
-    report(
-        "steps in order: questions 1 to 9, a root type with all steps",
-        &longest,
-    );
+    for (states, targets) in STEPS_GROW {
+        let steps = u32::from(states) * u32::from(targets);
+        let what = format!("steps grow: {steps} by 31 types, in one of {states} states");
+        same &= one(&what, &mixed(states, targets));
+    }
+    match spoiled() {
+        Some(numbers) => println!(
+            "{} spoiled files: the same answers and witnesses of all three. Numbers 0 to 9: {numbers:?}",
+            numbers.iter().sum::<u32>()
+        ),
+        None => {
+            println!("A SPOILED FILE'S ANSWERS DIFFER");
+            same = false;
+        }
+    }
+    std::process::exit(i32::from(!same));
 }

@@ -1,27 +1,19 @@
--- A reading's fields as C lays them out, the value that they make, and what the exports hand back.
+-- Answers as C lays them out, and what the exports hand back.
 use mathlib.Core.Path.{_≡_}
 use mathlib.Core.List.{List}
 use Prim.Native.Nat.{ℕ}
 use Rattle.sdtd.specs.Schema.{Schema as Meaning}
 use Rattle.sdtd.specs.Document.{Event}
-use Rattle.reading.specs.Questions.{CallMeans}
+use Rattle.reading.specs.Questions.{CallMeans, gives}
 use Rattle.reading.specs.EventFile.{EventsMean}
 use Rattle.reading.specs.declared.value.Reading.{Reading}
 use Rattle.reading.specs.declared.calls.Next.{Next}
 use Rattle.reading.specs.declared.calls.EventAnswer.{EventAnswer}
 use Rattle.reading.specs.declared.calls.EventAnswer.the-variants.{Typed, Taken, Refused}
 use Rattle.reading.specs.declared.event_file.EventFile.{EventFile}
-use Rattle.reading_bench.specs.declared.Levels.{Levels}
+use Rattle.reading_bench.specs.declared.Answer.{Answer}
 use Rattle.reading_bench.specs.declared.Answered.{Answered}
 use Rattle.reading_bench.specs.declared.EventNumbers.{EventNumbers}
-
--- the reading of the fields
-abbrev pub readingOf : Levels → Reading
-readingOf l = record { depth = l .depth; rooted = l .rooted; finished = l .finished; types = l .types; sets = l .sets }
-
--- the fields of a reading
-abbrev pub levelsOf : Reading → Levels
-levelsOf r = record { depth = r .depth; rooted = r .rooted; finished = r .finished; types = r .types; sets = r .sets }
 
 -- 0 for a type, 1 for taken, 2 for a refusal
 abbrev pub kindOf : EventAnswer → ℕ
@@ -35,15 +27,25 @@ numberOf (Typed j) = j .0
 numberOf Taken = 0
 numberOf (Refused n) = n
 
--- the fields of an answer and the reading that follows
-abbrev pub answeredOf : Next → Answered
-answeredOf n = record { kind = kindOf (n .answer); of = numberOf (n .answer); reading = levelsOf (n .reading) }
+-- an answer as two numbers
+abbrev pub numbersOf : EventAnswer → Answer
+numbersOf a = record { kind = kindOf a; of = numberOf a }
 
--- what the call x hands back on the reading of the fields, as fields
-pub record Handed (S : Meaning) (l : Levels) (x : Event) (a : Answered) : Type 0 where
+-- the same, and the reading that follows
+abbrev pub answeredOf : Next → Answered
+answeredOf n = record { answer = numbersOf (n .answer); reading = n .reading }
+
+-- what the call x hands back on the reading r, its answer as numbers
+pub record Handed (S : Meaning) (r : Reading) (x : Event) (a : Answered) : Type 0 where
   pub next : Next
-  pub means : CallMeans S (readingOf l) x next
-  pub fields : a ≡ answeredOf next
+  pub means : CallMeans S r x next
+  pub numbers : a ≡ answeredOf next
+
+-- what the call x answers on a lent reading, as numbers, and that it moves the reading on from was to is
+pub record HandedLent (S : Meaning) (was : Reading) (x : Event) (is : Reading) (a : Answer) : Type 0 where
+  pub answer : EventAnswer
+  pub means : CallMeans S was x (gives answer is)
+  pub numbers : a ≡ numbersOf answer
 
 -- the numbers of an event file's answer
 abbrev pub eventNumbersOf : EventFile → EventNumbers

@@ -1,8 +1,8 @@
 // Entry points of the benchmark: the calls on a reading and the event file's, on what C and Rust can hand over and take back.
 use reading::EventAnswer;
-use reading::LEVELS;
 use reading::Next;
 use reading::Reading;
+use reading::open_lent;
 use reading::read_events;
 use schema_bench::Flat;
 use schema_bench::value;
@@ -11,38 +11,20 @@ ghost use mathlib.Core.Path.{_≡_};
 ghost use Rattle.sdtd.specs.Document.{opening, closing, finish};
 ghost use Rattle.schema.specs.Value.{meaning};
 ghost use Rattle.schema_bench.specs.Flat.{valueOf};
-ghost use Rattle.reading_bench.specs.Handed.{readingOf, kindOf, numberOf, answeredOf, Handed, HandedFile};
+ghost use Rattle.reading_bench.specs.Handed.{kindOf, numberOf, numbersOf, answeredOf, Handed, HandedLent, HandedFile};
 
-// The fields of a reading.
+// An answer as two numbers.
 #[repr(C)]
-pub struct Levels {
-    pub depth: u8,
-    pub rooted: bool,
-    pub finished: bool,
-    pub types: [u8; LEVELS],
-    pub sets: [u32; LEVELS],
-}
-
-// An answer as two numbers, and the fields of the reading that follows.
-#[repr(C)]
-pub struct Answered {
+pub struct Answer {
     pub kind: u8,
     pub of: u8,
-    pub reading: Levels,
 }
 
-fn reading(levels: Levels) -> Reading
-    ensures { λ r. ⌜ r ≡ readingOf levels ⌝ }
-{
-    let types = levels.types;
-    let sets = levels.sets;
-    Reading {
-        depth: levels.depth,
-        rooted: levels.rooted,
-        finished: levels.finished,
-        types,
-        sets,
-    }
+// The same, and the reading that follows.
+#[repr(C)]
+pub struct Answered {
+    pub answer: Answer,
+    pub reading: Reading,
 }
 
 fn kind(answer: EventAnswer) -> u8
@@ -65,48 +47,56 @@ fn number(answer: EventAnswer) -> u8
     }
 }
 
-fn fields(next: Next) -> Answered
+fn numbers(answer: EventAnswer) -> Answer
+    ensures { λ r. ⌜ r ≡ numbersOf answer ⌝ }
+{
+    Answer {
+        kind: kind(answer),
+        of: number(answer),
+    }
+}
+
+fn handed(next: Next) -> Answered
     ensures { λ r. ⌜ r ≡ answeredOf next ⌝ }
 {
     let answer = next.answer;
     let reading = next.reading;
-    let types = reading.types;
-    let sets = reading.sets;
     Answered {
-        kind: kind(answer),
-        of: number(answer),
-        reading: Levels {
-            depth: reading.depth,
-            rooted: reading.rooted,
-            finished: reading.finished,
-            types,
-            sets,
-        },
+        answer: numbers(answer),
+        reading,
     }
 }
 
 // An opening of the tag.
 #[no_mangle]
-pub extern "C" fn reading_bench_open(flat: Flat, levels: Levels, tag: u8) -> Answered
-    ensures { λ r. ⌜ Handed (meaning (valueOf flat)) levels (opening tag) r ⌝ }
+pub extern "C" fn reading_bench_open(flat: Flat, reading: Reading, tag: u8) -> Answered
+    ensures { λ r. ⌜ Handed (meaning (valueOf flat)) reading (opening tag) r ⌝ }
 {
-    fields(reading(levels).open(value(flat), Tag(tag)))
+    handed(reading.open(value(flat), Tag(tag)))
 }
 
 // A closing of the tag.
 #[no_mangle]
-pub extern "C" fn reading_bench_close(flat: Flat, levels: Levels, tag: u8) -> Answered
-    ensures { λ r. ⌜ Handed (meaning (valueOf flat)) levels (closing tag) r ⌝ }
+pub extern "C" fn reading_bench_close(flat: Flat, reading: Reading, tag: u8) -> Answered
+    ensures { λ r. ⌜ Handed (meaning (valueOf flat)) reading (closing tag) r ⌝ }
 {
-    fields(reading(levels).close(value(flat), Tag(tag)))
+    handed(reading.close(value(flat), Tag(tag)))
 }
 
 // The finish.
 #[no_mangle]
-pub extern "C" fn reading_bench_finish(flat: Flat, levels: Levels) -> Answered
-    ensures { λ r. ⌜ Handed (meaning (valueOf flat)) levels finish r ⌝ }
+pub extern "C" fn reading_bench_finish(flat: Flat, reading: Reading) -> Answered
+    ensures { λ r. ⌜ Handed (meaning (valueOf flat)) reading finish r ⌝ }
 {
-    fields(reading(levels).finish(value(flat)))
+    handed(reading.finish(value(flat)))
+}
+
+// An opening of the tag on a lent reading.
+#[no_mangle]
+pub extern "C" fn reading_bench_open_lent(reading: &mut Reading, flat: Flat, tag: u8) -> Answer
+    ensures { λ r. ⌜ HandedLent (meaning (valueOf flat)) (now (reading .entry)) (opening tag) (now (reading .exit)) r ⌝ }
+{
+    numbers(open_lent(reading, value(flat), Tag(tag)))
 }
 
 // An event file's answer.

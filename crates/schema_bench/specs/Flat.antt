@@ -3,11 +3,10 @@ use mathlib.Core.Path.{_≡_}
 use mathlib.Core.List.{List}
 use Prim.Native.Nat.{ℕ}
 use Rattle.sdtd.specs.Schema.{Schema as Meaning}
-use Rattle.competition.specs.Search.{SearchMeans}
+use Rattle.competition.specs.Search.{numberFor, SearchMeans}
 use Rattle.schema.specs.declared.value.Schema.{Schema}
 use Rattle.schema.specs.declared.tables.Trimming.{Trimming}
 use Rattle.competition.specs.declared.search.Searched.{Searched}
-use Rattle.competition.specs.declared.search.Searched.the-variants.{Unsearched, Restrained, Competes}
 use Rattle.schema_bench.specs.declared.Flat.{Flat}
 use Rattle.schema_bench.specs.declared.Tables.{Tables}
 
@@ -31,14 +30,8 @@ valueOf f =
 abbrev pub trimmingOf : Tables → Trimming
 trimmingOf t = record { live = t .live; bears = t .bears; reached = t .reached }
 
--- the number of an answer
-abbrev pub numberOf : Searched → ℕ
-numberOf Unsearched = 0
-numberOf Restrained = 1
-numberOf Competes = 2
-
 -- n is the number of a right answer
 pub record SearchNumber (S : Meaning) (was is : List ℕ) (n : ℕ) : Type 0 where
   pub answer : Searched
-  pub number : n ≡ numberOf answer
+  pub number : n ≡ numberFor answer
   pub means : SearchMeans S was is answer

@@ -13,7 +13,8 @@ ghost use lib.Dec.{T};
 ghost use Rattle.sdtd.specs.Schema.{WithinLimits};
 ghost use Rattle.schema.specs.Value.{meaning};
 ghost use Rattle.schema.specs.Trimming.{TrimMeans};
-ghost use Rattle.schema_bench.specs.Flat.{valueOf, trimmingOf, numberOf, SearchNumber};
+ghost use Rattle.competition.specs.Search.{numberFor};
+ghost use Rattle.schema_bench.specs.Flat.{valueOf, trimmingOf, SearchNumber};
 
 // The fields of a schema.
 #[repr(C)]
@@ -87,16 +88,17 @@ pub extern "C" fn schema_bench_trim(flat: Flat) -> Tables
 }
 
 fn number(searched: Searched) -> u8
-    ensures { λ r. ⌜ r ≡ numberOf searched ⌝ }
+    ensures { λ r. ⌜ r ≡ numberFor searched ⌝ }
 {
     match searched {
-        Searched::Unsearched => 0,
-        Searched::Restrained => 1,
-        Searched::Competes => 2,
+        Searched::ShortBuffer => 1,
+        Searched::OutsideLimits => 10,
+        Searched::Restrained => 0,
+        Searched::Competes => 9,
     }
 }
 
-// The number of the search's answer: 0 unsearched, 1 restrained, 2 competes.
+// Document 01's number of the search's answer, 0 where nothing competes.
 #[no_mangle]
 pub extern "C" fn schema_bench_competition(flat: Flat, witness: &mut [u8]) -> u8
     ensures { λ r. ⌜ SearchNumber (meaning (valueOf flat)) (now (witness .entry)) (now (witness .exit)) r ⌝ }

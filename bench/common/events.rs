@@ -1,6 +1,6 @@
 // The event file's call in plain Rust, by the library's tables: the steps' labels, where each type's steps begin, sets of states as bits.
-use crate::calls::LEVELS;
-use crate::plain::{STEPS, Schema, TYPES, has};
+use super::calls::LEVELS;
+use super::schema::{STEPS, Schema, TYPES, has};
 
 // As `EventNumbers` of the crate reading_bench.
 #[derive(Clone, Copy, Debug, PartialEq)]

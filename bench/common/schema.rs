@@ -5,8 +5,11 @@ pub const TYPES: usize = 64;
 pub const STEPS: usize = 1024;
 const PAIRS: usize = 528;
 
+// The least length of a witness buffer.
+pub const WITNESS: usize = 532;
+
 // As `Flat` of the crate schema_bench.
-#[derive(Clone, Copy)]
+#[derive(Clone, Copy, PartialEq)]
 #[repr(C)]
 pub struct Schema {
     pub tags: u8,
@@ -31,7 +34,8 @@ pub struct Trimming {
 }
 
 pub enum Searched {
-    Unsearched,
+    ShortBuffer,
+    OutsideLimits,
     Restrained,
     Competes,
 }
@@ -250,10 +254,17 @@ impl Schema {
     }
 
     pub fn competition(&self, witness: &mut [u8]) -> Searched {
-        if witness.len() < 532 || !self.within() {
-            return Searched::Unsearched;
+        if witness.len() < WITNESS {
+            return Searched::ShortBuffer;
         }
-        let trimming = self.trim();
+        if !self.within() {
+            return Searched::OutsideLimits;
+        }
+        self.compete(&self.trim(), witness)
+    }
+
+    // The search of all types, over a trimming of the schema.
+    pub fn compete(&self, trimming: &Trimming, witness: &mut [u8]) -> Searched {
         let mut queue = Queue {
             reached: [false; PAIRS],
             pairs: [(0, 0, 0, 0); PAIRS],
@@ -263,7 +274,7 @@ impl Schema {
         for a in 0..self.types as usize {
             let end = start + self.steps[a] as usize;
             if trimming.reached[a] && has(trimming.live[a], 0) {
-                if let Some((at, j, k)) = self.search(a, start..end, &trimming, &mut queue) {
+                if let Some((at, j, k)) = self.search(a, start..end, trimming, &mut queue) {
                     write_witness(witness, a, j.min(k), j.max(k), &queue, at);
                     return Searched::Competes;
                 }

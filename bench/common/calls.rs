@@ -1,10 +1,10 @@
-// The library's calls in plain Rust: limits of the schema and of the levels, live states round by round, the smallest type that leads on.
-// Schema and reading are handed over by value, and the reading handed back.
-use crate::plain::{Schema, has};
+// The library's calls on a reading in plain Rust: limits of the schema and of the levels, live states round by round, the smallest type that
+// leads on. A schema is handed over by value, a reading by value and handed back, or lent.
+use super::schema::{Schema, has};
 
 pub const LEVELS: usize = 64;
 
-// As `Levels` of the crate reading_bench.
+// As `Reading` of the crate reading.
 #[derive(Clone, Copy, Debug, PartialEq)]
 #[repr(C)]
 pub struct Reading {
@@ -15,18 +15,36 @@ pub struct Reading {
     pub sets: [u32; LEVELS],
 }
 
+// As `Answer` of the crate reading_bench.
+#[derive(Clone, Copy, Debug, PartialEq)]
+#[repr(C)]
+pub struct Answer {
+    pub kind: u8,
+    pub of: u8,
+}
+
 // As `Answered` of the crate reading_bench.
 #[derive(Clone, Copy, Debug, PartialEq)]
 #[repr(C)]
 pub struct Answered {
-    pub kind: u8,
-    pub of: u8,
+    pub answer: Answer,
     pub reading: Reading,
 }
 
 pub const TYPED: u8 = 0;
 pub const TAKEN: u8 = 1;
 pub const REFUSED: u8 = 2;
+
+const fn taken() -> Answer {
+    Answer { kind: TAKEN, of: 0 }
+}
+
+const fn refused(number: u8) -> Answer {
+    Answer {
+        kind: REFUSED,
+        of: number,
+    }
+}
 
 pub const FRESH: Reading = Reading {
     depth: 0,
@@ -37,14 +55,6 @@ pub const FRESH: Reading = Reading {
 };
 
 impl Reading {
-    fn refused(self, number: u8) -> Answered {
-        Answered {
-            kind: REFUSED,
-            of: number,
-            reading: self,
-        }
-    }
-
     fn levels_within(&self, schema: &Schema) -> bool {
         let depth = self.depth as usize;
         depth <= LEVELS
@@ -85,27 +95,26 @@ impl Reading {
         (best.0 < 64).then_some((best.0 as u8, best.1))
     }
 
-    #[inline(never)]
-    pub fn open(mut self, schema: Schema, tag: u8) -> Answered {
+    fn opening(&mut self, schema: &Schema, tag: u8) -> Answer {
         if !schema.within() {
-            return self.refused(10);
+            return refused(10);
         }
         let live = schema.live_states();
-        if !self.levels_within(&schema) {
-            return self.refused(10);
+        if !self.levels_within(schema) {
+            return refused(10);
         }
         if self.finished {
-            return self.refused(11);
+            return refused(11);
         }
         if schema.tags <= tag {
-            return self.refused(12);
+            return refused(12);
         }
-        let Some((of, kept)) = self.coming(&schema, &live, tag) else {
-            return self.refused(13);
+        let Some((of, kept)) = self.coming(schema, &live, tag) else {
+            return refused(13);
         };
         let depth = self.depth as usize;
         if LEVELS <= depth {
-            return self.refused(14);
+            return refused(14);
         }
         if 0 < depth {
             self.sets[depth - 1] = kept;
@@ -114,58 +123,73 @@ impl Reading {
         self.sets[depth] = 1;
         self.depth += 1;
         self.rooted = true;
+        Answer { kind: TYPED, of }
+    }
+
+    fn closing(&mut self, schema: &Schema, tag: u8) -> Answer {
+        if !schema.within() || !self.levels_within(schema) {
+            return refused(10);
+        }
+        if self.finished {
+            return refused(11);
+        }
+        if schema.tags <= tag {
+            return refused(12);
+        }
+        if self.depth == 0 {
+            return refused(15);
+        }
+        let inner = self.depth as usize - 1;
+        let a = self.types[inner] as usize;
+        if schema.tag[a] != tag {
+            return refused(16);
+        }
+        if self.sets[inner] & schema.accepting[a] == 0 {
+            return refused(17);
+        }
+        self.depth -= 1;
+        taken()
+    }
+
+    fn finishing(&mut self, schema: &Schema) -> Answer {
+        if !schema.within() || !self.levels_within(schema) {
+            return refused(10);
+        }
+        if self.finished {
+            return refused(11);
+        }
+        if !self.rooted || 0 < self.depth {
+            return refused(18);
+        }
+        self.finished = true;
+        taken()
+    }
+
+    #[inline(never)]
+    pub fn open_lent(&mut self, schema: Schema, tag: u8) -> Answer {
+        self.opening(&schema, tag)
+    }
+
+    #[inline(never)]
+    pub fn open(mut self, schema: Schema, tag: u8) -> Answered {
         Answered {
-            kind: TYPED,
-            of,
+            answer: self.opening(&schema, tag),
             reading: self,
         }
     }
 
     #[inline(never)]
     pub fn close(mut self, schema: Schema, tag: u8) -> Answered {
-        if !schema.within() || !self.levels_within(&schema) {
-            return self.refused(10);
-        }
-        if self.finished {
-            return self.refused(11);
-        }
-        if schema.tags <= tag {
-            return self.refused(12);
-        }
-        if self.depth == 0 {
-            return self.refused(15);
-        }
-        let inner = self.depth as usize - 1;
-        let a = self.types[inner] as usize;
-        if schema.tag[a] != tag {
-            return self.refused(16);
-        }
-        if self.sets[inner] & schema.accepting[a] == 0 {
-            return self.refused(17);
-        }
-        self.depth -= 1;
         Answered {
-            kind: TAKEN,
-            of: 0,
+            answer: self.closing(&schema, tag),
             reading: self,
         }
     }
 
     #[inline(never)]
     pub fn finish(mut self, schema: Schema) -> Answered {
-        if !schema.within() || !self.levels_within(&schema) {
-            return self.refused(10);
-        }
-        if self.finished {
-            return self.refused(11);
-        }
-        if !self.rooted || 0 < self.depth {
-            return self.refused(18);
-        }
-        self.finished = true;
         Answered {
-            kind: TAKEN,
-            of: 0,
+            answer: self.finishing(&schema),
             reading: self,
         }
     }

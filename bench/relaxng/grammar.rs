@@ -1,0 +1,108 @@
+// A schema as a RELAX NG grammar: a named pattern for each type, its content a regular expression, which eliminating the states of the type's
+// automaton one by one gives.
+use crate::common::schema::Schema;
+use crate::common::schemas::block;
+
+#[derive(Clone, PartialEq)]
+enum Pattern {
+    Nothing,
+    Empty,
+    Type(u8),
+    Choice(Vec<Pattern>),
+    Group(Vec<Pattern>),
+    Many(Box<Pattern>),
+}
+
+use Pattern::{Choice, Empty, Group, Many, Nothing, Type};
+
+fn or(a: Pattern, b: Pattern) -> Pattern {
+    match (a, b) {
+        (Nothing, x) | (x, Nothing) => x,
+        (a, b) if a == b => a,
+        (Choice(mut all), b) => {
+            if !all.contains(&b) {
+                all.push(b);
+            }
+            Choice(all)
+        }
+        (a, b) => Choice(vec![a, b]),
+    }
+}
+
+fn then(a: Pattern, b: Pattern) -> Pattern {
+    match (a, b) {
+        (Nothing, _) | (_, Nothing) => Nothing,
+        (Empty, x) | (x, Empty) => x,
+        (Group(mut all), b) => {
+            all.push(b);
+            Group(all)
+        }
+        (a, b) => Group(vec![a, b]),
+    }
+}
+
+fn many(a: Pattern) -> Pattern {
+    match a {
+        Nothing | Empty => Empty,
+        a => Many(Box::new(a)),
+    }
+}
+
+// What leads from the start state to an accepting one.
+fn content(schema: &Schema, a: usize) -> Pattern {
+    let states = schema.states[a] as usize;
+    let end = states;
+    let mut to = vec![vec![Nothing; states + 1]; states];
+    for i in block(schema, a) {
+        let (p, q) = (schema.from[i] as usize, schema.to[i] as usize);
+        to[p][q] = or(to[p][q].clone(), Type(schema.by[i]));
+    }
+    for (p, row) in to.iter_mut().enumerate() {
+        if schema.accepting[a] >> p & 1 == 1 {
+            row[end] = Empty;
+        }
+    }
+    for out in (1..states).rev() {
+        let around = many(to[out][out].clone());
+        for p in 0..out {
+            let into = then(to[p][out].clone(), around.clone());
+            for q in (0..out).chain([end]) {
+                let past = then(into.clone(), to[out][q].clone());
+                to[p][q] = or(to[p][q].clone(), past);
+            }
+        }
+    }
+    then(many(to[0][0].clone()), to[0][end].clone())
+}
+
+fn write(p: &Pattern, out: &mut String) {
+    let all = |name: &str, parts: &[Pattern], out: &mut String| {
+        *out += &format!("<{name}>");
+        parts.iter().for_each(|part| write(part, out));
+        *out += &format!("</{name}>\n");
+    };
+    match p {
+        Nothing => *out += "<notAllowed/>",
+        Empty => *out += "<empty/>",
+        Type(j) => *out += &format!("<ref name=\"t{j}\"/>"),
+        Choice(parts) => all("choice", parts, out),
+        Group(parts) => all("group", parts, out),
+        Many(part) => all("zeroOrMore", std::slice::from_ref(part), out),
+    }
+}
+
+pub fn grammar(schema: &Schema) -> String {
+    let mut out = format!(
+        "<grammar xmlns=\"http://relaxng.org/ns/structure/1.0\">\n<start><ref name=\"t{}\"/></start>\n",
+        schema.root
+    );
+    for a in 0..schema.types as usize {
+        out += &format!(
+            "<define name=\"t{a}\"><element name=\"e{}\">",
+            schema.tag[a]
+        );
+        write(&content(schema, a), &mut out);
+        out += "</element></define>\n";
+    }
+    out + "</grammar>\n"
+}

@@ -1,2 +1,0 @@
--- What the benchmark's export promises.
-pub mod Numbers
