@@ -1,0 +1,1 @@
+"""What `typestock` prints, said by listing typed trees from the definition."""
