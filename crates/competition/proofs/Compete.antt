@@ -240,10 +240,6 @@ module _ {S : Schema} {a : ℕ} {next bears tag : List ℕ} {own types : ℕ} (c
       free : (p q j k : ℕ) → PairIn reached p q → RivalSteps S a p q j k → ¬ (j ≢ k)
       free p q j k h s e = d .no-rivals p q j k (h .1) (h .2) (h .0) (rivals-steps (h .1) (h .2) .1 (s, e))
 
--- no types compete in a type that is not useful
-pub useless-restrained : {S : Schema} {a : ℕ} → ¬ Useful S a → ¬ CompeteIn S a
-useless-restrained n c = n (c .compete .reached, c .compete .bears)
-
 -- no types compete in a number that is no type
 pub outside-restrained : {S : Schema} {a : ℕ} → length (S .blocks) ≤ a → ¬ CompeteIn S a
 outside-restrained {S} {a} l c =

@@ -104,10 +104,6 @@ none (suc n) (suc i) = none n i
 none-table : Table (replicate 2048 0)
 none-table = record { size = length-replicate {A = ℕ} 2048 0; below = λ i. rw (none 2048 i) (omega arith) }
 
--- the sets of the table are below 2 ^ 32
-pub next-below : (ss : List Step) (i : ℕ) → getD (nextSteps ss (replicate 2048 0)) i 0 < 2 ^ 32
-next-below ss i = (steps-table ss (replicate 2048 0) none-table) .below i
-
 -- the set of the state p and the type j has the states to which the steps lead from p by j
 pub next-states :
     (ss : List Step) → StepsWithin 32 64 ss → (p j q : ℕ) → p < 32 → j < 64

@@ -1,7 +1,7 @@
 -- The loop of the pair search: its invariant, and what holds at its end.
 use mathlib.Core.Path.{_≡_, refl, sym}
 use mathlib.Core.Logic.{⊎-elim}
-use mathlib.Core.Bool.{true, false}
+use mathlib.Core.Bool.{Bool, true, false}
 use mathlib.Core.List.{List}
 use Prim.Native.Nat.{ℕ, zero, suc, _<_, _≤_}
 use native.Mathlib.Decide.{decLt}
@@ -12,11 +12,15 @@ use lib.Seq.{getD-set-same}
 use Rattle.sdtd.specs.Competition.{pairNumber}
 use Rattle.sdtd.proofs.Pairs.{pair-swap-number, pair-one-number}
 use Rattle.sdtd.proofs.Rounds.{count, count-set}
-use Rattle.competition.specs.Marks.{Marks, firstOf, secondOf, markStep, firstMarks}
+use Rattle.competition.specs.Marks.{Marks, firstOf, secondOf, markStep}
 use Rattle.competition.specs.Rivals.{AreRivals}
 use Rattle.competition.specs.Queue.{Leading, ClosedPairs, TrailToRivals}
 use Rattle.competition.proofs.Kept.{IsMarked, entryAt, numberOf, Placed, Kept, set-marked}
 use Rattle.competition.proofs.MarkGrowth.{Grows, LedBy, step-grows}
+
+-- only the pair 0, 0, found from nothing
+abbrev pub firstMarks : List Bool → List ℕ → Marks
+firstMarks none queue = record { reached = set none 0 true; queue = set queue 0 0; count = 1 }
 
 -- all that the pair p, q leads to is marked, and it has no rivals
 pub record Done (next bears tag : List ℕ) (own types : ℕ) (m : Marks) (p q : ℕ) : Type 0 where

@@ -66,10 +66,6 @@ markTypes next bears p q at j (suc n) m =
 unfoldable pub markStep : List ℕ → List ℕ → ℕ → ℕ → Marks → Marks
 markStep next bears types at m = markTypes next bears (firstOf (getD (m .queue) at 0)) (secondOf (getD (m .queue) at 0)) at 0 types m
 
--- only the pair 0, 0, found from nothing
-abbrev pub firstMarks : List Bool → List ℕ → Marks
-firstMarks none queue = record { reached = set none 0 true; queue = set queue 0 0; count = 1 }
-
 -- a step joins the table of next states: entry p * 64 + j is the set of states to which j leads from p
 unfoldable pub nextStep : Step → List ℕ → List ℕ
 nextStep s t =

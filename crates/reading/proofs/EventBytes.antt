@@ -6,7 +6,13 @@ use Prim.Native.Nat.{ℕ}
 use lib.Dec.{eqb, eqb→eq}
 use Rattle.sdtd.specs.Document.{Event, opening, closing, finish}
 use Rattle.reading.specs.EventFile.{Events, ends, stray, event, eventsOf}
-use Rattle.reading.specs.EventMeaning.{bytesOf, eventList}
+use Rattle.reading.specs.EventMeaning.{bytesOf}
+
+-- the events up to the end, or to the first bytes that are none of the three
+abbrev pub eventList : Events → List Event
+eventList ends = []
+eventList stray = []
+eventList (event x es) = x ∷ eventList es
 
 -- the events of the list and then the end
 abbrev pub listed : List Event → Events

@@ -17,8 +17,8 @@ use Rattle.sdtd.proofs.Calls.{RightAt, places-of-each, right-taken, Fits, fits-
 use Rattle.sdtd.proofs.Calls.{calls-meet-whole, fresh as nothing-taken}
 use Rattle.reading.specs.Levels.{fresh}
 use Rattle.reading.specs.EventFile.{Events, ends, stray, event, eventsOf, sizeOf, Verdict, Follows, Walk}
-use Rattle.reading.specs.EventMeaning.{bytesOf, eventList, Judged, EventFileMeets}
-use Rattle.reading.proofs.EventBytes.{listed, listed-events, bytes-events, events-bytes}
+use Rattle.reading.specs.EventMeaning.{bytesOf, Judged, EventFileMeets}
+use Rattle.reading.proofs.EventBytes.{eventList, listed, listed-events, bytes-events, events-bytes}
 use Rattle.reading.proofs.EventWalk.{walk-judged}
 use Rattle.reading.proofs.EventWhole.{typesIn, Whole, judged-whole}
 

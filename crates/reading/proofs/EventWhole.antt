@@ -13,8 +13,8 @@ use Rattle.sdtd.specs.Calls.{Exchange, IsTaken, ifTaken, eventsTaken, calls, an
 use Rattle.sdtd.proofs.Answers.{ordered-taken}
 use Rattle.sdtd.proofs.Calls.{Each, RightAt, refuses-none, answer-taken, right-taken}
 use Rattle.reading.specs.EventFile.{Events, ends, stray, event, sizeOf, Verdict, Follows}
-use Rattle.reading.specs.EventMeaning.{bytesOf, eventList, Judged}
-use Rattle.reading.proofs.EventBytes.{Ended}
+use Rattle.reading.specs.EventMeaning.{bytesOf, Judged}
+use Rattle.reading.proofs.EventBytes.{eventList, Ended}
 
 -- no question is refused with 0
 never-0 : (S : Schema) (e : List Event) (x : Event) → ¬ Right S e x (refused 0)

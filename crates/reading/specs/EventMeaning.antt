@@ -19,12 +19,6 @@ bytesOf (opening g ∷ d) = 0x21 ∷ g ∷ bytesOf d
 bytesOf (closing g ∷ d) = 0x22 ∷ g ∷ bytesOf d
 bytesOf (finish ∷ d) = 0x2f ∷ bytesOf d
 
--- the events up to the end, or to the first bytes that are none of the three
-abbrev pub eventList : Events → List Event
-eventList ends = []
-eventList stray = []
-eventList (event x es) = x ∷ eventList es
-
 -- "A file that ends with no FINISH gets 19 at its length": the question at the end of the file, after the events e.
 abbrev pub finishAsked : List Event → ℕ → Question Verdict
 finishAsked e at = record { holds = List·Memᴰ finish e; refusal = verdict 19 at }

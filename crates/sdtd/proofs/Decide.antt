@@ -174,9 +174,6 @@ after {b} (go {p = p} {j = j} {q = q} s l) ps m =
     after l (next b ps j)
     (next-mem b ps j q .1 (record { member = record { from = p; by = j; to = q }; given = s; holds = ((m, refl), refl) }))
 
-pub states-after : (b : Block) (ps w : List ℕ) (q : ℕ) → List·Memᴰ q (statesAfter b ps w) ↔ LedFrom b ps w q
-states-after b ps w q = (led b ps w, λ r. after (r .leads) ps (r .given))
-
 -- the states that the types of w lead to from the start state
 pub start-after : (b : Block) (w : List ℕ) (q : ℕ) → List·Memᴰ q (statesAfter b (0 ∷ []) w) ↔ Leads b 0 w q
 start-after b w q = (

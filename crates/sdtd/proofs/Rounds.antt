@@ -29,9 +29,6 @@ count-set (true ∷ t) (suc i) h e = omega (arith, count-set t i (omega arith) e
 pub set-same : (t : List Bool) (i : ℕ) → getD t i false ≡ true → set t i true ≡ t
 set-same t i e = rw e at (set-getD t i false)
 
-pub count-set-le : (t : List Bool) (i : ℕ) → getD t i false ≡ true → count (set t i true) ≡ count t
-count-set-le t i e = rw (set-same t i e)
-
 -- n entries were added to the table one after another, each one absent before
 pub data Additions : List Bool → ℕ → List Bool → Type 0 where
   unchanged : {t : List Bool} → Additions t 0 t
