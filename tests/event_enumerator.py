@@ -32,7 +32,7 @@ import enumerator
 import reading_enumerator
 from enumerator import CLOSING, cycles, file_of, longest, many_steps, read_file
 from reading_enumerator import (BARREN, CLOSE, DEAD, DEADLY, FILES, FINISH, KINDS, LAST, OPEN, PINGPONG, SAMPLE, SMALL,
-                                TURNS, Automata, Document, Listed, Value, make, random_file)
+                                TURNS, Automata, Document, Listed, Value, make, random_file, written)
 
 BYTE = {OPEN: 0x21, CLOSE: 0x22, FINISH: 0x2F}
 WHICH = {byte: which for which, byte in BYTE.items()}
@@ -468,16 +468,10 @@ def cases():
 
 
 def main():
-    folder = sys.argv[1]
     kinds, answers = {}, {}
-    with open(folder + '/stdin', 'wb') as given, open(folder + '/stdout', 'w') as expected:
-        for case in cases():
-            given.write(case.bytes())
-            expected.write(case.line + '\n')
-            kinds[case.kind] = kinds.get(case.kind, 0) + 1
-            answers[case.number] = answers.get(case.number, 0) + 1
-        given.write(b'\xff' * 6)
-        expected.write('end\n')
+    for case in written(sys.argv[1], cases(), b'\xff' * 6):
+        kinds[case.kind] = kinds.get(case.kind, 0) + 1
+        answers[case.number] = answers.get(case.number, 0) + 1
     assert set(answers) == {0, *range(10, 21)}
     print(sum(kinds.values()), 'cases:', ', '.join(f'{n} {kind}' for kind, n in kinds.items()))
     print('answers:', ', '.join(f'{n} of {number}' for number, n in sorted(answers.items())) +

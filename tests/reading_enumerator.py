@@ -936,21 +936,26 @@ def cases():
     yield from random_values(rng)
 
 
-def main():
-    folder = sys.argv[1]
-    kinds, answers = {}, {}
+def written(folder, cases, end):
+    """Writes each case to stdin and its line to stdout, and the bytes that end stdin; hands each case on."""
     with open(folder + '/stdin', 'wb') as given, open(folder + '/stdout', 'w') as expected:
-        for case in cases():
+        for case in cases:
             given.write(case.bytes())
             expected.write(case.line + '\n')
-            count = kinds.setdefault(case.kind, [0, 0])
-            count[0] += 1
-            count[1] += len(case.answers)
-            for answer in case.answers:
-                name = 'types' if str(answer).startswith('t') else answer
-                answers[name] = answers.get(name, 0) + 1
-        given.write(b'\xff' * 4)
+            yield case
+        given.write(end)
         expected.write('end\n')
+
+
+def main():
+    kinds, answers = {}, {}
+    for case in written(sys.argv[1], cases(), b'\xff' * 4):
+        count = kinds.setdefault(case.kind, [0, 0])
+        count[0] += 1
+        count[1] += len(case.answers)
+        for answer in case.answers:
+            name = 'types' if str(answer).startswith('t') else answer
+            answers[name] = answers.get(name, 0) + 1
     assert set(answers) == {'types', 'ok', *range(10, 19)}
     print(sum(n for n, _ in kinds.values()), 'cases:',
           ', '.join(f'{n} {kind} ({calls} calls)' for kind, (n, calls) in kinds.items()))

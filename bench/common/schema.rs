@@ -24,6 +24,22 @@ pub struct Schema {
     pub to: [u8; STEPS],
 }
 
+impl Schema {
+    // No tag, no type, every entry 0.
+    pub const NONE: Schema = Schema {
+        tags: 0,
+        types: 0,
+        root: 0,
+        tag: [0; TYPES],
+        states: [0; TYPES],
+        accepting: [0; TYPES],
+        steps: [0; TYPES],
+        from: [0; STEPS],
+        by: [0; STEPS],
+        to: [0; STEPS],
+    };
+}
+
 // As `Tables` of the crate schema_bench.
 #[derive(PartialEq)]
 #[repr(C)]

@@ -1,6 +1,6 @@
 // The schemas that are timed, and the file that states a schema.
 use super::random::Random;
-use super::schema::{STEPS, Schema, TYPES};
+use super::schema::Schema;
 
 pub struct Type {
     pub tag: u8,
@@ -32,13 +32,7 @@ pub fn schema(tags: u8, root: u8, types: &[Type]) -> Schema {
         tags,
         types: types.len() as u8,
         root,
-        tag: [0; TYPES],
-        states: [0; TYPES],
-        accepting: [0; TYPES],
-        steps: [0; TYPES],
-        from: [0; STEPS],
-        by: [0; STEPS],
-        to: [0; STEPS],
+        ..Schema::NONE
     };
     for (a, t) in types.iter().enumerate() {
         s.tag[a] = t.tag;

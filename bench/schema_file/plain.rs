@@ -87,18 +87,7 @@ impl Reader {
     fn new() -> Reader {
         Reader {
             phase: Phase::Start,
-            schema: Schema {
-                tags: 0,
-                types: 0,
-                root: 0,
-                tag: [0; TYPES],
-                states: [0; TYPES],
-                accepting: [0; TYPES],
-                steps: [0; TYPES],
-                from: [0; STEPS],
-                by: [0; STEPS],
-                to: [0; STEPS],
-            },
+            schema: Schema::NONE,
             count: 0,
             places: [0; STEPS],
         }

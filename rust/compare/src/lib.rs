@@ -15,5 +15,5 @@ mod tally;
 
 pub use chance::Chance;
 pub use input::Input;
-pub use side_by_side::{Answers, Job, compare};
+pub use side_by_side::{Answers, compare};
 pub use tally::Tally;

@@ -2,6 +2,7 @@
 
 use crate::chance::Chance;
 use crate::input::Input;
+use plain::Job;
 
 /// What one implementation answers to an input.
 #[derive(Debug, Clone, Copy, PartialEq, Eq)]
@@ -9,20 +10,6 @@ pub struct Answers {
     /// Number and place of the schema file alone.
     pub schema: (u8, usize),
     pub job: Job,
-}
-
-/// What the two files are answered together.
-#[derive(Debug, Clone, Copy, PartialEq, Eq)]
-pub enum Job {
-    SchemaRefused {
-        number: u8,
-        place: usize,
-    },
-    EventsRead {
-        number: u8,
-        place: usize,
-        count: usize,
-    },
 }
 
 /// The parts of a witness: A, J, K and w.

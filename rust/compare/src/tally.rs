@@ -3,7 +3,8 @@
 use std::fmt;
 
 use crate::input::Input;
-use crate::side_by_side::{Answers, Job};
+use crate::side_by_side::Answers;
+use plain::Job;
 
 #[derive(Debug, Clone, Default)]
 pub struct Tally {

@@ -1,6 +1,7 @@
 //! Inputs at the edges of the file forms and of the lent buffers.
 
-use compare::{Answers, Chance, Input, Job, compare};
+use compare::{Answers, Chance, Input, compare};
+use plain::Job;
 
 const OPEN: u8 = 0x21;
 const CLOSE: u8 = 0x22;
