@@ -1,7 +1,7 @@
 -- Laws of sets of states as numbers. A state's digit is 1 in the set and 0 outside. Induction drops the lowest digit.
 use mathlib.Core.Path.{_≡_, refl, sym, ap, ap₂, _∙_, subst}
 use mathlib.Core.Logic.{_↔_, _⊎_, inl, inr, ⊎-elim, _≢_}
-use mathlib.Core.Bool.{Bool, true, false, cond}
+use mathlib.Core.Bool.{Bool, true, false, cond, not, _&&_}
 use mathlib.Core.List.{List, [], _∷_, List·Memᴰ, List·Memᴰ·head, List·Memᴰ·append-cases, List·Memᴰ·eq-of-singleton, List·Memᴰ·not-nil}
 use mathlib.Core.List.{Memᴰ·append-left, Memᴰ·append-right}
 use Prim.Native.Nat.{ℕ, zero, suc, _+_, _-_, _*_, _/_, _%_, _^_, _≤_, _<_, min}
@@ -9,13 +9,14 @@ use native.Mathlib.Nat.{zero-div, div-one, div-eq-of-lt, div-div-eq-div-mul, pow
 use native.Mathlib.Nat.{le-refl, le-trans, le-antisymm, le-of-suc-le-suc, lt-of-not-le, not-suc-le-zero}
 use native.Mathlib.Decide.{decLt, ℕ-discrete}
 use native.Mathlib.Omega.{arith}
-use lib.Dec.{T, eqb, ltb, eqb→eq}
+use lib.Dec.{T, eqb, ltb, eqb→eq, T-not, not-T}
 use lib.ListN.{length, getD, length-append}
 use lib.Arith.{lt-one}
 use lib.Pow.{pow-mono, pow-add}
 use lib.Bits.{bitAnd, bitOr, and-step, and-high, or-add-and}
-use borrow.Author.Tests.{ltb-true, ltb-false, eqb-false, ne-eqb}
-use Rattle.schema.specs.States.{member, insert, membersBelow, members}
+use borrow.Author.Tests.{ltb-true, ltb-false, eqb-false, eq-eqb, ne-eqb}
+use Rattle.sdtd.proofs.Tests.{itself, and-means, or-means}
+use Rattle.schema.specs.States.{member, insert, meetBelow, meet, membersBelow, members}
 
 abbrev digit : ℕ → ℕ → ℕ
 digit s x = x / 2 ^ s % 2
@@ -284,8 +285,40 @@ and-pos (suc q) x y ex ey =
     omega (arith, and-step x y, and-pos q (x / 2) (y / 2) (sym (digit-next q x) ∙ ex) (sym (digit-next q y) ∙ ey))
 
 -- the machine's `&` of two sets is not 0 exactly when they meet
-pub and-meets : (x y : ℕ) → x < 2 ^ 32 → y < 2 ^ 32 → (bitAnd x y ≢ 0) ↔ Meets x y
+and-meets : (x y : ℕ) → x < 2 ^ 32 → y < 2 ^ 32 → (bitAnd x y ≢ 0) ↔ Meets x y
 and-meets x y bx by = (
   meets 32 x y bx,
   λ m e. omega (arith, and-pos (m .state) x y (is-one (m .state) x (m .left)) (is-one (m .state) y (m .right))),
 )
+
+-- the test of the states below n finds a state in common, and each that there is
+meet-finds : (n x y : ℕ) → T (meetBelow n x y) → Meets x y
+unfolding meetBelow
+meet-finds (suc n) x y t =
+    ⊎-elim (λ b. let m = and-means (itself (member n x)) (itself (member n y)) .says b in record { state = n; left = m .0; right = m .1 })
+    (meet-finds n x y) (or-means (itself (member n x && member n y)) (itself (meetBelow n x y)) .says t)
+
+meet-has : (n q x y : ℕ) → q < n → T (member q x) → T (member q y) → T (meetBelow n x y)
+unfolding meetBelow
+meet-has (suc n) q x y l mx my =
+    or-means (itself (member n x && member n y)) (itself (meetBelow n x y)) .passes (elim (ℕ-discrete q n) [
+      | yes e ↦ inl (and-means (itself (member n x)) (itself (member n y)) .passes (rw e at mx, rw e at my))
+      | no d ↦ inr (meet-has n q x y (omega arith) mx my)
+    ])
+meet-has zero q x y l mx my = absurd (not-suc-le-zero l)
+
+pub meet-means : (x y : ℕ) → x < 2 ^ 32 → T (meet x y) ↔ Meets x y
+meet-means x y b = (meet-finds 32 x y, λ m. meet-has 32 (m .state) x y (member-below (m .state) x b (m .left)) (m .left) (m .right))
+
+-- the machine tests by `&` whether two sets meet
+pub and-meet : (x y : ℕ) → x < 2 ^ 32 → y < 2 ^ 32 → not (eqb (bitAnd x y) 0) ≡ meet x y
+and-meet x y bx by =
+    same-test (not (eqb (bitAnd x y) 0)) (meet x y)
+    (λ t. meet-means x y bx .1 (and-meets x y bx by .0 (λ e. T-not (eqb (bitAnd x y) 0) t (rw (eq-eqb (bitAnd x y) 0 e) tt))))
+    (λ t. not-T (eqb (bitAnd x y) 0) (λ z. and-meets x y bx by .1 (meet-means x y bx .0 t) (eqb→eq (bitAnd x y) 0 z)))
+  where
+    same-test : (a b : Bool) → (T a → T b) → (T b → T a) → a ≡ b
+    same-test true true f g = refl
+    same-test false false f g = refl
+    same-test true false f g = absurd (f tt)
+    same-test false true f g = absurd (g tt)

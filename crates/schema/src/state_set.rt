@@ -4,7 +4,7 @@ ghost use mathlib.Core.Path.{_≡_};
 ghost use mathlib.Core.Logic.{_↔_};
 ghost use Prim.Native.Nat.{ℕ, _<_};
 ghost use lib.Dec.{T};
-ghost use Rattle.schema.specs.States.{member, insert};
+ghost use Rattle.schema.specs.States.{member, insert, meet};
 
 // A set of states below 32, a bit each.
 pub struct StateSet(pub u32);
@@ -33,6 +33,13 @@ impl StateSet {
             return self;
         }
         StateSet(self.0 | 1 << (state as u32))
+    }
+
+    // Have the two sets a state in common?
+    pub fn meets(self, other: StateSet) -> bool
+        ensures { λ r. ⌜ r ≡ meet (self .0) (other .0) ⌝ }
+    {
+        self.0 & other.0 != StateSet::NONE.0
     }
 
     // Is every state of the set below the count?
