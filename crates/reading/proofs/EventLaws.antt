@@ -5,15 +5,15 @@ use mathlib.Core.List.{List}
 use Prim.Native.Nat.{ℕ, _+_, _≤_}
 use lib.Dec.{T, eqb, leb, leb→le}
 use lib.ListN.{length}
-use Rattle.reading.specs.Events.{eventFrom, eventAt}
+use Rattle.reading.specs.Events.{size, eventFrom, eventAt}
 use Rattle.reading.specs.declared.events.FileEvent.{FileEvent}
 use Rattle.reading.specs.declared.events.FileEvent.the-variants.{Open, Close, Finish, NoEvent}
 
 -- the event at the place i, if it is one, ends inside the file
 abbrev pub Ends : List ℕ → ℕ → FileEvent → Type 0
-Ends file i (Open g) = i + 2 ≤ length file
-Ends file i (Close g) = i + 2 ≤ length file
-Ends file i Finish = i + 1 ≤ length file
+Ends file i (Open g) = i + size (Open g) ≤ length file
+Ends file i (Close g) = i + size (Close g) ≤ length file
+Ends file i Finish = i + size Finish ≤ length file
 Ends file i NoEvent = Unit
 
 module _ (file : List ℕ) (i : ℕ) where
@@ -25,14 +25,14 @@ module _ (file : List ℕ) (i : ℕ) where
   if-whole true e p = p tt
   if-whole false e p = tt
 
-  whole : (n : ℕ) (e : FileEvent) → (i + n ≤ length file → Ends file i e) → Ends file i (cond (leb (i + n) (length file)) e NoEvent)
-  whole n e p = if-whole (leb (i + n) (length file)) e (λ t. p (leb→le (i + n) (length file) t))
+  whole : (e : FileEvent) → (i + size e ≤ length file → Ends file i e) → Ends file i (cond (leb (i + size e) (length file)) e NoEvent)
+  whole e p = if-whole (leb (i + size e) (length file)) e (λ t. p (leb→le (i + size e) (length file) t))
 
   from-byte : (b : ℕ) → Ends file i (eventFrom file i b)
   unfolding eventFrom
   from-byte b =
-      by-test (eqb b 0x21) _ _ (whole 2 _ (λ h. h))
-      (by-test (eqb b 0x22) _ _ (whole 2 _ (λ h. h)) (by-test (eqb b 0x2f) _ _ (whole 1 _ (λ h. h)) tt))
+      by-test (eqb b 0x21) _ _ (whole (Open _) (λ h. h))
+      (by-test (eqb b 0x22) _ _ (whole (Close _) (λ h. h)) (by-test (eqb b 0x2f) _ _ (whole Finish (λ h. h)) tt))
 
   pub event-ends : Ends file i (eventAt file i)
   event-ends = by-test (leb (i + 1) (length file)) _ NoEvent (from-byte _) tt

@@ -11,15 +11,15 @@ use lib.ListN.{length, getD, drop, drop-of-length-le}
 use lib.Seq.{drop-cons}
 use Rattle.sdtd.specs.Document.{opening, closing, finish}
 use Rattle.reading.specs.EventFile.{Events, ends, stray, event, eventsOf}
-use Rattle.reading.specs.Events.{tagged, eventFrom, eventAt}
+use Rattle.reading.specs.Events.{tagged, size, eventFrom, eventAt}
 use Rattle.reading.specs.declared.events.FileEvent.{FileEvent}
 use Rattle.reading.specs.declared.events.FileEvent.the-variants.{Open, Close, Finish, NoEvent}
 
 -- The events from the place on, where e stands there: e and those past it; the end, or stray bytes.
 abbrev pub Stands : List ℕ → ℕ → FileEvent → Type 0
-Stands file at (Open g) = eventsOf (drop at file) ≡ event (opening (g .0)) (eventsOf (drop (at + 2) file))
-Stands file at (Close g) = eventsOf (drop at file) ≡ event (closing (g .0)) (eventsOf (drop (at + 2) file))
-Stands file at Finish = eventsOf (drop at file) ≡ event finish (eventsOf (drop (at + 1) file))
+Stands file at (Open g) = eventsOf (drop at file) ≡ event (opening (g .0)) (eventsOf (drop (at + size (Open g)) file))
+Stands file at (Close g) = eventsOf (drop at file) ≡ event (closing (g .0)) (eventsOf (drop (at + size (Close g)) file))
+Stands file at Finish = eventsOf (drop at file) ≡ event finish (eventsOf (drop (at + size Finish) file))
 Stands file at NoEvent =
     (at ≡ length file → eventsOf (drop at file) ≡ ends) × (at < length file → eventsOf (drop at file) ≡ stray)
 

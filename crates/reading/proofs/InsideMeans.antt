@@ -6,7 +6,7 @@ use Prim.Native.Nat.{ℕ, suc, pred, _+_, _≤_, _<_}
 use native.Mathlib.Numerals.{add-one}
 use native.Mathlib.Omega.{arith}
 use lib.ListN.{getD}
-use Rattle.sdtd.specs.Limits.{mostStates, mostSteps}
+use Rattle.sdtd.specs.Limits.{mostSteps}
 use Rattle.sdtd.specs.Schema.{Step, blockOf, tagOf}
 use Rattle.sdtd.specs.Schema.{Schema as Meaning}
 use Rattle.sdtd.specs.Trim.{Bears, Live}
@@ -102,13 +102,6 @@ module _ {v : Schema} {r : Reading} (fits : Fits v) (within : Within (meaning v)
     step-place x =
         rw (own-steps fits (within .schema) (innerType r) inner-type)
         (steps-mem (v .from) (v .by) (v .to) (start v r) (getD (v .steps) (innerType r) 0) x)
-
-    -- the steps of the innermost element's type lead from and to states below 32
-    pub inside-low : (i : ℕ) → start v r ≤ i → i < end v r → (getD (v .from) i 0 < mostStates) × (getD (v .to) i 0 < mostStates)
-    inside-low i l m =
-        let x = stepAt (v .from) (v .by) (v .to) i in
-        let o = own-step fits (within .schema) (innerType r) x (step-place x .1 (record { place = i; least = l; most = m; is = refl })) in
-        (o .from, o .to)
 
     module _ (live label : List ℕ) (table : LiveTable (meaning v) live) (labels : LabelsOf v live (innerType r) label) (g : ℕ) (tag : g < v .tags) where
       -- the label of a step's place

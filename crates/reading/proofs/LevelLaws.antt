@@ -1,19 +1,18 @@
 -- The levels that the code checks are those of question 10.
 use mathlib.Core.Path.{_≡_, refl, sym, ap, _∙_}
 use mathlib.Core.Bool.{Bool, true, false, not, true≢false}
-use mathlib.Core.Logic.{_↔_, _≢_}
+use mathlib.Core.Logic.{_↔_}
 use mathlib.Core.List.{List, List·Memᴰ}
 use Prim.Native.Nat.{ℕ, zero, suc, pred, _-_, _%_, _^_, _≤_, _<_}
 use native.Mathlib.Nat.{mod-eq-of-lt}
 use native.Mathlib.Omega.{arith}
-use lib.Bits.{bitAnd}
 use lib.Dec.{T, T-not}
 use lib.ListN.{getD, set}
 use Rattle.sdtd.specs.Schema.{Block, blockOf, tagOf}
-use Rattle.schema.specs.States.{member, members}
+use Rattle.schema.specs.States.{member, meet, members}
 use Rattle.schema.specs.Value.{meaning, blockAt}
 use Rattle.schema.specs.declared.value.Schema.{Schema}
-use Rattle.schema.proofs.Bits.{mem-members, and-meets}
+use Rattle.schema.proofs.Bits.{mem-members, meet-means}
 use Rattle.schema.proofs.Values.{types-count, block-of}
 use Rattle.schema.proofs.LimitLaws.{within-room}
 use Rattle.reading.specs.declared.value.Reading.{Reading}
@@ -92,14 +91,14 @@ module _ (v : Schema) (r : Reading) (w : Within (meaning v) r) (open-one : 0 < r
 
   -- question 17: the kept states and the accepting ones have one in common
   pub ends-meets : innerSet r < 2 ^ 32 → getD (v .accepting) (innerType r) 0 < 2 ^ 32
-      → Ends (meaning v) r ↔ (bitAnd (innerSet r) (getD (v .accepting) (innerType r) 0) ≢ 0)
+      → Ends (meaning v) r ↔ T (meet (innerSet r) (getD (v .accepting) (innerType r) 0))
   ends-meets x y =
       let is = own-block v (innerType r) inner-below .1 in
-      let meets = and-meets (innerSet r) (getD (v .accepting) (innerType r) 0) x y in
+      let meets = meet-means (innerSet r) (getD (v .accepting) (innerType r) 0) x in
       let mem : (q : ℕ) → List·Memᴰ q (members (getD (v .accepting) (innerType r) 0)) ↔ T (member q (getD (v .accepting) (innerType r) 0)) =
       λ q. mem-members q (getD (v .accepting) (innerType r) 0) y in (
         λ e. meets .1 (record { state = e .state; left = e .kept; right = mem (e .state) .0 (rw is at (e .accepting)) }),
-        λ n.
-            let m = meets .0 n in
+        λ t.
+            let m = meets .0 t in
             record { state = m .state; kept = m .left; accepting = rw is (mem (m .state) .1 (m .right)) },
       )

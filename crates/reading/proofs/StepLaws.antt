@@ -1,20 +1,19 @@
 -- The steps over an examined schema answer what the calls promise.
 use mathlib.Core.Path.{_≡_, refl, sym, _∙_}
-use mathlib.Core.Logic.{_⊎_, inl, inr}
+use mathlib.Core.Logic.{_↔_, _⊎_, inl, inr}
 use mathlib.Core.Bool.{Bool, true, false, cond, _&&_, and-true, and-false}
 use mathlib.Core.List.{List, [], _∷_}
 use Prim.Native.Nat.{ℕ, _+_, _^_, _≤_, _<_}
 use native.Mathlib.Numerals.{add-one}
 use native.Mathlib.Omega.{arith}
 use borrow.Author.Tests.{ne-eqb}
-use lib.Bits.{bitAnd}
 use lib.Dec.{T, eqb, leb, eqb→eq, leb→le, le→leb, eqb-refl}
 use lib.ListN.{length, getD, drop}
-use Rattle.sdtd.specs.Limits.{mostStates, mostSteps, mostLevels}
+use Rattle.sdtd.specs.Limits.{mostSteps, mostLevels}
 use Rattle.sdtd.specs.Schema.{Schema as Meaning}
 use Rattle.sdtd.specs.Document.{Event, opening, closing, finish}
 use Rattle.sdtd.specs.Answer.{Ordered}
-use Rattle.schema.specs.States.{member}
+use Rattle.schema.specs.States.{member, meet}
 use Rattle.schema.specs.Value.{meaning}
 use Rattle.schema.specs.declared.value.Schema.{Schema}
 use Rattle.schema.proofs.Values.{offset-step}
@@ -31,7 +30,7 @@ use Rattle.reading.specs.Examined.{Tables as Found}
 use Rattle.reading.specs.Steps.{Tables, tables, comingAt, openBy, openStep, closeStep, finishStep, Steady, Inside}
 use Rattle.reading.proofs.LevelLaws.{not-both, tags-of, inner-below, inner-most, inner-tag, ends-meets}
 use Rattle.reading.proofs.ComingMeans.{ComingMeans}
-use Rattle.reading.proofs.InsideMeans.{inside-room, inside-low, inside-means}
+use Rattle.reading.proofs.InsideMeans.{inside-room, inside-means}
 use Rattle.reading.proofs.RootMeans.{root-means}
 
 -- the tables of an opening, by what the examination found
@@ -160,12 +159,8 @@ module _ {v : Schema} {r : Reading} (fits : Fits v) (within : Within (meaning v)
 
     -- what the code of an opening asks for
     pub stands-inside : length label ≡ mostSteps → Inside (tablesOf v root start label) r
-    stands-inside long = record { steady = stands-steady v within; long = long; room = room; low = low }
+    stands-inside long = record { steady = stands-steady v within; long = long; room = room }
       where
-        low : 0 < r .depth → (i : ℕ) → getD start (innerType r) 0 ≤ i → i < getD start (innerType r) 0 + getD (v .steps) (innerType r) 0
-            → (getD (v .from) i 0 < mostStates) × (getD (v .to) i 0 < mostStates)
-        low d = rw (found .starts (innerType r) (inner-below v r within d)) (inside-low fits within d)
-
         room : 0 < r .depth → getD start (innerType r) 0 + getD (v .steps) (innerType r) 0 ≤ mostSteps
         room d =
             let most = rw add-one at (inside-room fits within d .1) in
@@ -173,12 +168,8 @@ module _ {v : Schema} {r : Reading} (fits : Fits v) (within : Within (meaning v)
 
   module _ (sets : (n : ℕ) → getD (r .sets) n 0 < 2 ^ 32) where
     -- 17
-    ends-no : (d : 0 < r .depth) → T (eqb (bitAnd (innerSet r) (getD (v .accepting) (innerType r) 0)) 0) → ¬ Ends (meaning v) r
-    ends-no d h e =
-        ends-meets v r within d (sets _) (fits .accepting-below _) .0 e (eqb→eq (bitAnd (innerSet r) (getD (v .accepting) (innerType r) 0)) 0 h)
-
-    ends-yes : (d : 0 < r .depth) → ¬ T (eqb (bitAnd (innerSet r) (getD (v .accepting) (innerType r) 0)) 0) → Ends (meaning v) r
-    ends-yes d n = ends-meets v r within d (sets _) (fits .accepting-below _) .1 (λ e. n (rw e tt))
+    ends : (d : 0 < r .depth) → Ends (meaning v) r ↔ T (meet (innerSet r) (getD (v .accepting) (innerType r) 0))
+    ends d = ends-meets v r within d (sets _) (fits .accepting-below _)
 
     pub close-step-means : (g : ℕ) → CallMeans (meaning v) r (closing g) (closeStep (v .tag) (v .accepting) (v .tags) r g)
     unfolding closeStep
@@ -190,9 +181,9 @@ module _ {v : Schema} {r : Reading} (fits : Fits v) (within : Within (meaning v)
           asked-yes (Rest (meaning v) r (closing g) 5) (eqb (getD (v .tag) (innerType r) 0) g)
               (λ h. (
                 inner-tag v r within d ∙ eqb→eq (getD (v .tag) (innerType r) 0) g h,
-                asked-no (Rest (meaning v) r (closing g) 6) (eqb (bitAnd (innerSet r) (getD (v .accepting) (innerType r) 0)) 0)
-                    (ends-no d)
-                    (λ z. (ends-yes d z, refl)),
+                asked-yes (Rest (meaning v) r (closing g) 6) (meet (innerSet r) (getD (v .accepting) (innerType r) 0))
+                    (λ m. (ends d .1 m, refl))
+                    (λ z e. z (ends d .0 e)),
               ))
               (λ z e. z (rw (sym (inner-tag v r within d) ∙ e) (eqb-refl g))),
         )))

@@ -92,7 +92,7 @@ module _ {S : Meaning} {file was : List ℕ} {s : State} (k : Sound S file was s
 
     -- an opening taken needs a byte of the buffer
     typed : (j : TypeNo) → m .answer ≡ Typed j → (b : Bool) → ltb (s .count) (length (s .out)) ≡ b
-        → Sound S file was (cond b (goOnTyped s (sizeOf x) (j .0) (m .reading)) (stop s 20 (m .reading)))
+        → Sound S file was (cond b (goOnTyped s (s .at + sizeOf x) (j .0) (m .reading)) (stop s 20 (m .reading)))
     typed j e true q =
         let l : s .count < length was = omega (arith, ltb-true (s .count) (length (s .out)) q, out-long k) in
         let c = k .count in
@@ -112,7 +112,7 @@ module _ {S : Meaning} {file was : List ℕ} {s : State} (k : Sound S file was s
         stops 20 (from-here (Typed j) e 0 (omega arith) (verdict 20 (s .at)) [] (refl, refl))
 
     -- after the event, by its answer
-    pub answered : (a : EventAnswer) → m .answer ≡ a → Sound S file was (turnBy s (sizeOf x) a (m .reading))
+    pub answered : (a : EventAnswer) → m .answer ≡ a → Sound S file was (turnBy s (s .at + sizeOf x) a (m .reading))
     unfolding turnBy
     answered (Refused n) e = stops n (from-here (Refused n) e _ refl (verdict n (s .at)) [] (refl, refl))
     answered (Typed j) e = typed j e (ltb (s .count) (length (s .out))) refl

@@ -6,9 +6,10 @@ use mathlib.Core.List.{List}
 use Prim.Native.Nat.{ℕ, suc, _+_, _-_, _≤_, _<_}
 use native.Mathlib.Omega.{arith}
 use borrow.Author.Tests.{eq-eqb, ne-eqb, le-leb, lt-leb}
-use lib.Bits.{bitAnd}
+use lib.Dec.{eqb}
 use lib.ListN.{getD, set}
 use Rattle.sdtd.specs.declared.TypeNo.{TypeNo}
+use Rattle.schema.specs.States.{meet}
 use Rattle.reading.specs.declared.value.Reading.{Reading}
 use Rattle.reading.specs.declared.calls.EventAnswer.the-variants.{Typed, Taken, Refused}
 use Rattle.reading.specs.declared.coming.Coming.{Coming}
@@ -59,36 +60,23 @@ module _ (tag accepting : List ℕ) (tags : ℕ) (r : Reading) (g : ℕ) where
       close-outside d = rw (f, lt-leb tags g l, eq-eqb (r .depth) 0 d)
 
       module _ (d : r .depth ≢ 0) where
-        pub close-other : getD tag (getD (r .types) (r .depth - 1) 0) 0 ≢ g → gives (Refused 16) r ≡ closeStep tag accepting tags r g
+        pub close-other : eqb (getD tag (getD (r .types) (r .depth - 1) 0) 0) g ≡ false → gives (Refused 16) r ≡ closeStep tag accepting tags r g
         unfolding closeStep
-        close-other o =
-            rw (f, lt-leb tags g l, ne-eqb (r .depth) 0 d, ne-eqb _ g (rw (sub-one (r .depth)) at o))
+        close-other o = rw (f, lt-leb tags g l, ne-eqb (r .depth) 0 d, rw (sub-one (r .depth)) at o)
 
-        pub close-word : getD tag (getD (r .types) (r .depth - 1) 0) 0 ≡ g
-            → bitAnd (getD (r .sets) (r .depth - 1) 0) (getD accepting (getD (r .types) (r .depth - 1) 0) 0) ≡ 0
+        pub close-word : eqb (getD tag (getD (r .types) (r .depth - 1) 0) 0) g ≡ true
+            → meet (getD (r .sets) (r .depth - 1) 0) (getD accepting (getD (r .types) (r .depth - 1) 0) 0) ≡ false
             → gives (Refused 17) r ≡ closeStep tag accepting tags r g
         unfolding closeStep
         close-word o w =
-            rw (
-              f,
-              lt-leb tags g l,
-              ne-eqb (r .depth) 0 d,
-              eq-eqb _ g (rw (sub-one (r .depth)) at o),
-              eq-eqb _ 0 (rw (sub-one (r .depth)) at w),
-            )
+            rw (f, lt-leb tags g l, ne-eqb (r .depth) 0 d, rw (sub-one (r .depth)) at o, rw (sub-one (r .depth)) at w)
 
-        pub close-taken : getD tag (getD (r .types) (r .depth - 1) 0) 0 ≡ g
-            → bitAnd (getD (r .sets) (r .depth - 1) 0) (getD accepting (getD (r .types) (r .depth - 1) 0) 0) ≢ 0
+        pub close-taken : eqb (getD tag (getD (r .types) (r .depth - 1) 0) 0) g ≡ true
+            → meet (getD (r .sets) (r .depth - 1) 0) (getD accepting (getD (r .types) (r .depth - 1) 0) 0) ≡ true
             → gives Taken (closed r) ≡ closeStep tag accepting tags r g
         unfolding closeStep
         close-taken o w =
-            rw (
-              f,
-              lt-leb tags g l,
-              ne-eqb (r .depth) 0 d,
-              eq-eqb _ g (rw (sub-one (r .depth)) at o),
-              ne-eqb _ 0 (rw (sub-one (r .depth)) at w),
-            )
+            rw (f, lt-leb tags g l, ne-eqb (r .depth) 0 d, rw (sub-one (r .depth)) at o, rw (sub-one (r .depth)) at w)
 
 -- what comes next
 module _ (t : Tables) (r : Reading) (g : ℕ) where
@@ -96,13 +84,13 @@ module _ (t : Tables) (r : Reading) (g : ℕ) where
   unfolding comingAt
   coming-rooted d o = rw (eq-eqb (r .depth) 0 d, o)
 
-  pub coming-other : r .depth ≡ 0 → r .rooted ≡ false → t .root-label ≢ g → found 64 0 ≡ comingAt t r g
+  pub coming-other : r .depth ≡ 0 → r .rooted ≡ false → eqb (t .root-label) g ≡ false → found 64 0 ≡ comingAt t r g
   unfolding comingAt
-  coming-other d o n = rw (eq-eqb (r .depth) 0 d, o, ne-eqb (t .root-label) g n)
+  coming-other d o n = rw (eq-eqb (r .depth) 0 d, o, n)
 
-  pub coming-root : r .depth ≡ 0 → r .rooted ≡ false → t .root-label ≡ g → found (t .root) 0 ≡ comingAt t r g
+  pub coming-root : r .depth ≡ 0 → r .rooted ≡ false → eqb (t .root-label) g ≡ true → found (t .root) 0 ≡ comingAt t r g
   unfolding comingAt
-  coming-root d o n = rw (eq-eqb (r .depth) 0 d, o, eq-eqb (t .root-label) g n)
+  coming-root d o n = rw (eq-eqb (r .depth) 0 d, o, n)
 
   pub coming-inside : r .depth ≢ 0
       → comingFrom (t .from) (t .by) (t .to) (t .label) (getD (r .sets) (r .depth - 1) 0) g
@@ -130,15 +118,15 @@ module _ (t : Tables) (r : Reading) (g : ℕ) where
           let asked : openBy r (comingAt t r g) ≡ openStep t r g = rw (f, lt-leb (t .tags) g l) in
           ap (λ (x : Coming). openBy r x) e ∙ asked
 
-      pub open-none : c .of .0 ≡ 64 → gives (Refused 13) r ≡ openStep t r g
-      open-none n = rw (← open-by, eq-eqb (c .of .0) 64 n)
+      pub open-none : eqb (c .of .0) 64 ≡ true → gives (Refused 13) r ≡ openStep t r g
+      open-none n = rw (← open-by, n)
 
-      pub open-deep : c .of .0 ≢ 64 → 64 ≤ r .depth → gives (Refused 14) r ≡ openStep t r g
-      open-deep n d = rw (← open-by, ne-eqb (c .of .0) 64 n, le-leb 64 (r .depth) d)
+      pub open-deep : eqb (c .of .0) 64 ≡ false → 64 ≤ r .depth → gives (Refused 14) r ≡ openStep t r g
+      open-deep n d = rw (← open-by, n, le-leb 64 (r .depth) d)
 
-      pub open-taken : c .of .0 ≢ 64 → r .depth < 64
+      pub open-taken : eqb (c .of .0) 64 ≡ false → r .depth < 64
           → gives (Typed (c .of)) (opened r (c .of .0) (c .kept)) ≡ openStep t r g
-      open-taken n d = rw (← open-by, ne-eqb (c .of .0) 64 n, lt-leb 64 (r .depth) d)
+      open-taken n d = rw (← open-by, n, lt-leb 64 (r .depth) d)
 
 -- one level more is the reading opened
 pub descended : (s : Stepped) (at : Standing) (types sets types' sets' : List ℕ) (j : TypeNo) (kept : ℕ)

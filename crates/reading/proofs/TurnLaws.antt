@@ -25,11 +25,11 @@ use Rattle.reading.specs.declared.events.FileEvent.the-variants.{Open, C
 use Rattle.reading.specs.declared.event_file.EventFile.{EventFile}
 use Rattle.reading.specs.Levels.{fresh}
 use Rattle.reading.specs.Questions.{gives}
-use Rattle.reading.specs.Events.{eventAt}
+use Rattle.reading.specs.Events.{size, eventAt}
 use Rattle.reading.specs.EventFile.{eventsOf, verdict, Walk, EventsMean}
 use Rattle.reading.specs.Examined.{Tables as Found}
 use Rattle.reading.specs.Steps.{Tables, openStep, closeStep, finishStep}
-use Rattle.reading.specs.Turns.{State, stop, goOnTyped, turnBy, turnEnd, turnOn, turnOf, outsideNumber}
+use Rattle.reading.specs.Turns.{State, stop, goOnTyped, turnBy, turnTo, turnEnd, turnOn, turnOf, outsideNumber}
 use Rattle.reading.proofs.StepLaws.{tablesOf, open-step-means, close-step-means, finish-step-means}
 use Rattle.reading.proofs.EventLaws.{Ends, event-ends}
 use Rattle.reading.proofs.EventPlaces.{Stands, event-stands}
@@ -101,7 +101,7 @@ module _ {v : Schema} (fits : Fits v) {root : ℕ} {start label : List ℕ} (fou
     (k : Sound (meaning v) file was s) (going : s .going ≡ true) where
   -- by what stands at the place
   by-event : (e : FileEvent) → Stands file (s .at) e → Ends file (s .at) e
-      → Sound (meaning v) file was (turnOn (tablesOf v root start label) (v .tag) (v .accepting) (length file) s e)
+      → Sound (meaning v) file was (turnOn (tablesOf v root start label) (v .tag) (v .accepting) (length file) s e (s .at + size e))
   by-event (Open g) stands inside =
       answered k going (opening (g .0)) (openStep (tablesOf v root start label) (s .reading) (g .0))
       (open-step-means fits (k .reading .within) found (g .0)) stands inside _ refl
@@ -124,24 +124,24 @@ abbrev pub toGo : List ℕ → State → ℕ
 toGo file s = cond (s .going) (suc (length file - s .at)) 0
 
 module _ (t : Tables) (tag accepting file : List ℕ) (s : State) (going : s .going ≡ true) where
-  -- after an event of n bytes inside the file
-  step-less : (n : ℕ) (r : Reading) → 0 < n → s .at + n ≤ length file → (a : EventAnswer) → toGo file (turnBy s n a r) < toGo file s
+  -- after an event inside the file, with `past` the place past it
+  step-less : (past : ℕ) (r : Reading) → s .at < past → past ≤ length file → (a : EventAnswer) → toGo file (turnBy s past a r) < toGo file s
   unfolding turnBy
-  step-less n r h l (Refused k) = rw going (omega arith)
-  step-less n r h l (Typed j) = typed-less (ltb (s .count) (length (s .out)))
+  step-less past r h l (Refused k) = rw going (omega arith)
+  step-less past r h l (Typed j) = typed-less (ltb (s .count) (length (s .out)))
     where
-      typed-less : (b : Bool) → toGo file (cond b (goOnTyped s n (j .0) r) (stop s 20 r)) < toGo file s
+      typed-less : (b : Bool) → toGo file (cond b (goOnTyped s past (j .0) r) (stop s 20 r)) < toGo file s
       typed-less true = rw going (omega arith)
       typed-less false = rw going (omega arith)
-  step-less n r h l Taken = rw going (omega arith)
+  step-less past r h l Taken = rw going (omega arith)
 
-  next-less : (n : ℕ) (x : Next) → 0 < n → s .at + n ≤ length file → toGo file (turnBy s n (x .answer) (x .reading)) < toGo file s
-  next-less n x h l = step-less n (x .reading) h l (x .answer)
+  next-less : (past : ℕ) (x : Next) → s .at < past → past ≤ length file → toGo file (turnTo s past x) < toGo file s
+  next-less past x h l = step-less past (x .reading) h l (x .answer)
 
-  event-less : (e : FileEvent) → Ends file (s .at) e → toGo file (turnOn t tag accepting (length file) s e) < toGo file s
-  event-less (Open g) l = next-less 2 (openStep t (s .reading) (g .0)) (omega arith) l
-  event-less (Close g) l = next-less 2 (closeStep tag accepting (t .tags) (s .reading) (g .0)) (omega arith) l
-  event-less Finish l = next-less 1 (finishStep (s .reading)) (omega arith) l
+  event-less : (e : FileEvent) → Ends file (s .at) e → toGo file (turnOn t tag accepting (length file) s e (s .at + size e)) < toGo file s
+  event-less (Open g) l = next-less _ (openStep t (s .reading) (g .0)) (omega arith) l
+  event-less (Close g) l = next-less _ (closeStep tag accepting (t .tags) (s .reading) (g .0)) (omega arith) l
+  event-less Finish l = next-less _ (finishStep (s .reading)) (omega arith) l
   event-less NoEvent l = rw going (omega arith)
 
   -- a turn comes nearer to the end of the file, or stops

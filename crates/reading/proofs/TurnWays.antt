@@ -14,53 +14,54 @@ use Rattle.reading.specs.declared.events.FileEvent.{FileEvent}
 use Rattle.reading.specs.declared.events.FileEvent.the-variants.{Open, Close, Finish, NoEvent}
 use Rattle.reading.specs.declared.event_file.Walking.{Walking}
 use Rattle.reading.specs.declared.steps.Stepped.{Stepped}
-use Rattle.reading.specs.Events.{eventAt}
+use Rattle.reading.specs.Events.{eventAt, placeAfter}
 use Rattle.reading.specs.Steps.{Tables, readingOf, nextOf, openStep, closeStep, Finishes}
 use Rattle.reading.specs.Turns.{State, stateOf, stop, goOn, goOnTyped, turnBy, turnTo, AfterStep, EndsHere, turnOn, turnOf}
 
 -- what follows an answer
-module _ (s : State) (n : ℕ) (a : EventAnswer) (r : Reading) where
-  pub by-full : (j : TypeNo) → a ≡ Typed j → length (s .out) ≤ s .count → stop s 20 r ≡ turnBy s n a r
+module _ (s : State) (past : ℕ) (a : EventAnswer) (r : Reading) where
+  pub by-full : (j : TypeNo) → a ≡ Typed j → length (s .out) ≤ s .count → stop s 20 r ≡ turnBy s past a r
   unfolding turnBy
   by-full j e l = rw (e, le-ltb _ _ l)
 
-  pub by-typed : (j : TypeNo) → a ≡ Typed j → s .count < length (s .out) → goOnTyped s n (j .0) r ≡ turnBy s n a r
+  pub by-typed : (j : TypeNo) → a ≡ Typed j → s .count < length (s .out) → goOnTyped s past (j .0) r ≡ turnBy s past a r
   unfolding turnBy
   by-typed j e l = rw (e, lt-ltb _ _ l)
 
-  pub by-taken : a ≡ Taken → goOn s n r ≡ turnBy s n a r
+  pub by-taken : a ≡ Taken → goOn s past r ≡ turnBy s past a r
   unfolding turnBy
   by-taken e = rw e
 
-  pub by-refused : (k : ℕ) → a ≡ Refused k → stop s k r ≡ turnBy s n a r
+  pub by-refused : (k : ℕ) → a ≡ Refused k → stop s k r ≡ turnBy s past a r
   unfolding turnBy
   by-refused k e = rw e
 
 -- a step that comes to x moves the walk to what x makes of it
-turned : (w : Walking) (types sets was : List ℕ) (s : Stepped) (n : ℕ) (types′ sets′ is : List ℕ) (r : Walking) (x : Next)
-    → AfterStep w s n was is r → nextOf s types′ sets′ ≡ x → stateOf r types′ sets′ is ≡ turnTo (stateOf w types sets was) n x
-turned w types sets was s n types′ sets′ is r x a e =
-    a types sets types′ sets′ ∙ ap (λ (y : Next). turnTo (stateOf w types sets was) n y) e
+turned : (w : Walking) (types sets was : List ℕ) (s : Stepped) (past : ℕ) (types′ sets′ is : List ℕ) (r : Walking) (x : Next)
+    → AfterStep w s past was is r → nextOf s types′ sets′ ≡ x → stateOf r types′ sets′ is ≡ turnTo (stateOf w types sets was) past x
+turned w types sets was s past types′ sets′ is r x a e =
+    a types sets types′ sets′ ∙ ap (λ (y : Next). turnTo (stateOf w types sets was) past y) e
 
-module _ (t : Tables) (tag accepting file : List ℕ) (w : Walking) (types sets was : List ℕ) {e : FileEvent} (found : e ≡ eventAt file (w .at)) where
+module _ (t : Tables) (tag accepting file : List ℕ) (w : Walking) (types sets was : List ℕ) {e : FileEvent} {past : ℕ}
+    (found : (e ≡ eventAt file (w .at)) × (past ≡ placeAfter file (w .at))) where
   -- the turn is that of the case matched
   matched : (d : FileEvent) → e ≡ d
-      → turnOn t tag accepting (length file) (stateOf w types sets was) d ≡ turnOf t tag accepting file (stateOf w types sets was)
+      → turnOn t tag accepting (length file) (stateOf w types sets was) d past ≡ turnOf t tag accepting file (stateOf w types sets was)
   unfolding turnOf
-  matched d case = ap (λ (x : FileEvent). turnOn t tag accepting (length file) (stateOf w types sets was) x) (sym case ∙ found)
+  matched d case = rw (← case, found .0, found .1)
 
   module _ (s : Stepped) (types′ sets′ is : List ℕ) (r : Walking) where
     pub turn-open : (g : Tag) → e ≡ Open g → nextOf s types′ sets′ ≡ openStep t (readingOf (w .standing) types sets) (g .0)
-        → AfterStep w s 2 was is r → stateOf r types′ sets′ is ≡ turnOf t tag accepting file (stateOf w types sets was)
-    turn-open g case step after = turned w types sets was s 2 types′ sets′ is r _ after step ∙ matched (Open g) case
+        → AfterStep w s past was is r → stateOf r types′ sets′ is ≡ turnOf t tag accepting file (stateOf w types sets was)
+    turn-open g case step after = turned w types sets was s past types′ sets′ is r _ after step ∙ matched (Open g) case
 
     pub turn-close : (g : Tag) → e ≡ Close g → nextOf s types′ sets′ ≡ closeStep tag accepting (t .tags) (readingOf (w .standing) types sets) (g .0)
-        → AfterStep w s 2 was is r → stateOf r types′ sets′ is ≡ turnOf t tag accepting file (stateOf w types sets was)
-    turn-close g case step after = turned w types sets was s 2 types′ sets′ is r _ after step ∙ matched (Close g) case
+        → AfterStep w s past was is r → stateOf r types′ sets′ is ≡ turnOf t tag accepting file (stateOf w types sets was)
+    turn-close g case step after = turned w types sets was s past types′ sets′ is r _ after step ∙ matched (Close g) case
 
-  pub turn-finish : (s : Stepped) (is : List ℕ) (r : Walking) → e ≡ Finish → Finishes (w .standing) s → AfterStep w s 1 was is r
+  pub turn-finish : (s : Stepped) (is : List ℕ) (r : Walking) → e ≡ Finish → Finishes (w .standing) s → AfterStep w s past was is r
       → stateOf r types sets is ≡ turnOf t tag accepting file (stateOf w types sets was)
-  turn-finish s is r case step after = turned w types sets was s 1 types sets is r _ after (step types sets) ∙ matched Finish case
+  turn-finish s is r case step after = turned w types sets was s past types sets is r _ after (step types sets) ∙ matched Finish case
 
   pub turn-ends : (r : Walking) → e ≡ NoEvent → EndsHere (length file) w r
       → stateOf r types sets was ≡ turnOf t tag accepting file (stateOf w types sets was)

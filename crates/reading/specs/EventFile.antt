@@ -11,6 +11,7 @@ use Rattle.sdtd.specs.Answer.{Answer, refused, typed, taken}
 use Rattle.reading.specs.declared.value.Reading.{Reading}
 use Rattle.reading.specs.declared.calls.Next.{Next}
 use Rattle.reading.specs.declared.event_file.EventFile.{EventFile}
+use Rattle.reading.specs.Events.{size, fileEvent}
 use Rattle.reading.specs.Levels.{fresh}
 use Rattle.reading.specs.Questions.{CallMeans}
 use Rattle.reading.specs.Calls.{answerOf}
@@ -33,9 +34,7 @@ eventsOf (b ∷ (g ∷ rest)) =
 
 -- how many bytes an event has
 abbrev pub sizeOf : Event → ℕ
-sizeOf (opening g) = 2
-sizeOf (closing g) = 2
-sizeOf finish = 1
+sizeOf x = size (fileEvent x)
 
 -- "The answer is a number (0 for taken), a place (of the refused event; the file's length for 0)".
 pub record Verdict : Type 0 where

@@ -4,6 +4,7 @@ use mathlib.Core.List.{List}
 use Prim.Native.Nat.{ℕ, _+_}
 use lib.Dec.{eqb, leb}
 use lib.ListN.{length, getD}
+use Rattle.sdtd.specs.Document.{Event, opening, closing, finish}
 use Rattle.sdtd.specs.declared.Tag.{Tag}
 use Rattle.reading.specs.declared.events.FileEvent.{FileEvent}
 use Rattle.reading.specs.declared.events.FileEvent.the-variants.{Open, Close, Finish, NoEvent}
@@ -16,29 +17,35 @@ tagged g = record { 0 = g }
 abbrev operand : List ℕ → ℕ → Tag
 operand file i = tagged (getD file (i + 1) 0)
 
--- the event, if the file has its n bytes from the place i on
-abbrev whole : List ℕ → ℕ → ℕ → FileEvent → FileEvent
-whole file i n e = cond (leb (i + n) (length file)) e NoEvent
+-- how many bytes an event has
+abbrev pub size : FileEvent → ℕ
+size (Open g) = 2
+size (Close g) = 2
+size Finish = 1
+size NoEvent = 0
+
+-- the event, if the file has its bytes from the place i on
+abbrev whole : List ℕ → ℕ → FileEvent → FileEvent
+whole file i e = cond (leb (i + size e) (length file)) e NoEvent
 
 -- "21 OPEN (tag), 22 CLOSE (tag), 2F FINISH": the event that begins with the byte b at the place i.
 unfoldable pub eventFrom : List ℕ → ℕ → ℕ → FileEvent
 eventFrom file i b =
-    cond (eqb b 0x21) (whole file i 2 (Open (operand file i)))
-    (cond (eqb b 0x22) (whole file i 2 (Close (operand file i)))
-    (cond (eqb b 0x2f) (whole file i 1 Finish) NoEvent))
+    cond (eqb b 0x21) (whole file i (Open (operand file i)))
+    (cond (eqb b 0x22) (whole file i (Close (operand file i)))
+    (cond (eqb b 0x2f) (whole file i Finish) NoEvent))
 
 -- "is it one of the three with its operand inside the file?": the event at the place i; none where the file ends, where the byte begins
 -- none of the three, or where its operand runs past the end.
 abbrev pub eventAt : List ℕ → ℕ → FileEvent
 eventAt file i = cond (leb (i + 1) (length file)) (eventFrom file i (getD file i 0)) NoEvent
 
--- the place past an event at the place i; where there is none, i itself
-abbrev pub past : FileEvent → ℕ → ℕ
-past (Open g) i = i + 2
-past (Close g) i = i + 2
-past Finish i = i + 1
-past NoEvent i = i
-
--- "gives one event after another": where a walker stands after the event at the place i
+-- "gives one event after another": where a walker stands after the event at the place i; where there is none, it stays
 abbrev pub placeAfter : List ℕ → ℕ → ℕ
-placeAfter file i = past (eventAt file i) i
+placeAfter file i = i + size (eventAt file i)
+
+-- document 01's event as a case of the code's
+abbrev pub fileEvent : Event → FileEvent
+fileEvent (opening g) = Open (tagged g)
+fileEvent (closing g) = Close (tagged g)
+fileEvent finish = Finish

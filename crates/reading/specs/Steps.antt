@@ -3,10 +3,10 @@ use mathlib.Core.Path.{_≡_}
 use mathlib.Core.Bool.{cond, not, _&&_}
 use mathlib.Core.List.{List}
 use Prim.Native.Nat.{ℕ, _+_, _≤_, _<_}
-use lib.Bits.{bitAnd}
 use lib.Dec.{eqb, leb}
 use lib.ListN.{length, getD}
-use Rattle.sdtd.specs.Limits.{mostLevels, mostStates, mostSteps, mostTypes}
+use Rattle.sdtd.specs.Limits.{mostLevels, mostSteps, mostTypes}
+use Rattle.schema.specs.States.{meet}
 use Rattle.reading.specs.declared.value.Reading.{Reading}
 use Rattle.reading.specs.declared.calls.EventAnswer.the-variants.{Typed, Taken, Refused}
 use Rattle.reading.specs.declared.calls.Next.{Next}
@@ -76,7 +76,7 @@ closeStep tag accepting tags r g =
     (cond (leb tags g) (gives (Refused 12) r)
     (cond (eqb (r .depth) 0) (gives (Refused 15) r)
     (cond (eqb (getD tag (innerType r) 0) g)
-    (cond (eqb (bitAnd (innerSet r) (getD accepting (innerType r) 0)) 0) (gives (Refused 17) r) (gives Taken (closed r)))
+    (cond (meet (innerSet r) (getD accepting (innerType r) 0)) (gives Taken (closed r)) (gives (Refused 17) r))
     (gives (Refused 16) r))))
 
 -- a finish
@@ -89,13 +89,11 @@ pub record Steady (r : Reading) : Type 0 where
   pub depth : r .depth ≤ mostLevels
   pub inner : 0 < r .depth → innerType r < mostTypes
 
--- the steps of the innermost type lie inside the tables, and lead from and to states below 32
+-- the steps of the innermost type lie inside the tables
 pub record Inside (t : Tables) (r : Reading) : Type 0 where
   pub steady : Steady r
   pub long : length (t .label) ≡ mostSteps
   pub room : 0 < r .depth → getD (t .start) (innerType r) 0 + getD (t .steps) (innerType r) 0 ≤ mostSteps
-  pub low : 0 < r .depth → (i : ℕ) → getD (t .start) (innerType r) 0 ≤ i
-      → i < getD (t .start) (innerType r) 0 + getD (t .steps) (innerType r) 0 → (getD (t .from) i 0 < mostStates) × (getD (t .to) i 0 < mostStates)
 
 -- what a finish does, whatever the levels hold
 abbrev pub Finishes : Standing → Stepped → Type 0

@@ -5,9 +5,8 @@ use schema::TYPES;
 use sdtd::Tag;
 use sdtd::TypeNo;
 ghost use mathlib.Core.Path.{_≡_};
-ghost use Prim.Native.Nat.{ℕ, _+_, _≤_, _<_};
-ghost use lib.ListN.{length, getD};
-ghost use Rattle.schema.specs.States.{member};
+ghost use Prim.Native.Nat.{_+_, _≤_};
+ghost use lib.ListN.{length};
 ghost use Rattle.reading.specs.Coming.{Labelled, labelOf, comingFrom, found};
 ghost use Rattle.reading.specs.Coming.{join as joined};
 
@@ -61,31 +60,26 @@ pub(crate) fn label_type<'a>(
     }
 }
 
-// A step by j to q, beside what came so far: the same type adds the state, a smaller type replaces it. The state is known to be below 32, so
-// it is not asked for again.
+// A step by j to q, beside what came so far: a smaller type replaces it, a larger one changes nothing, the same type adds the state.
 fn join(best: Coming, j: TypeNo, q: u8) -> Coming
-    requires { ⌜ q < 32 ⌝ }
     ensures { λ r. ⌜ r ≡ joined best (j .0) q ⌝ }
 {
-    let only = 1u32 << (q as u32);
-    if j.0 == best.of.0 {
+    let of = best.of;
+    if j.before(of) {
+        let only = StateSet::NONE.with(q);
         return Coming {
             of: j,
-            kept: best.kept | only,
+            kept: only.0,
         };
     }
-    if j.0 < best.of.0 {
-        return Coming { of: j, kept: only };
+    if of.before(j) {
+        return best;
     }
-    best
-}
-
-// Is the state, which is known to be below 32, in the set?
-fn holds(states: u32, p: u8) -> bool
-    requires { ⌜ p < 32 ⌝ }
-    ensures { λ r. ⌜ r ≡ member p states ⌝ }
-{
-    states >> (p as u32) & 1 == 1
+    let more = StateSet(best.kept).with(q);
+    Coming {
+        of: j,
+        kept: more.0,
+    }
 }
 
 // What comes next under the tag g from the states of the set, by the n labelled steps from start on.
@@ -100,7 +94,7 @@ pub(crate) fn coming_from<'a>(
     states: u32,
     g: Tag,
 ) -> Coming
-    requires { ⌜ (start + n ≤ 1024) × (length (now label) ≡ 1024) × ((i : ℕ) → start ≤ i → i < start + n → (getD (now from) i 0 < 32) × (getD (now to) i 0 < 32)) ⌝ }
+    requires { ⌜ (start + n ≤ 1024) × (length (now label) ≡ 1024) ⌝ }
     ensures { λ r. ⌜ r ≡ comingFrom (now (from .entry)) (now (by .entry)) (now (to .entry)) (now (label .entry)) states (g .0) start n (found 64 0) ⌝ }
 {
     let mut next = Coming {
@@ -110,8 +104,8 @@ pub(crate) fn coming_from<'a>(
     let end = start + n;
     let mut i = start;
     while i < end {
-        if label[i] == g.0 {
-            if holds(states, from[i]) {
+        if Tag(label[i]).same(g) {
+            if StateSet(states).has(from[i]) {
                 next = join(next, TypeNo(by[i]), to[i]);
             }
         }

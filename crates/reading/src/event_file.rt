@@ -16,7 +16,6 @@ use schema::TYPES;
 use sdtd::Tag;
 use sdtd::TypeNo;
 ghost use mathlib.Core.Path.{_≡_};
-ghost use Prim.Native.Nat.{_+_, _^_, _<_};
 ghost use Rattle.schema.specs.Value.{meaning};
 ghost use Rattle.reading.specs.Steps.{tables, readingOf, Inside};
 ghost use Rattle.reading.specs.Events.{eventAt};
@@ -40,14 +39,12 @@ pub(crate) struct Walking {
     pub standing: Standing,
 }
 
-// After what an event of n bytes got: an opening's type goes to the buffer.
-fn after_step(out: &mut [u8], w: Walking, s: Stepped, n: usize) -> Walking
-    requires { ⌜ w .at + n < 2 ^ 64 ⌝ }
-    ensures { λ r. ⌜ AfterStep w s n (now (out .entry)) (now (out .exit)) r ⌝ }
+// After what an event got, with `past` the place past it: an opening's type goes to the buffer.
+fn after_step(out: &mut [u8], w: Walking, s: Stepped, past: usize) -> Walking
+    ensures { λ r. ⌜ AfterStep w s past (now (out .entry)) (now (out .exit)) r ⌝ }
 {
     let standing = s.standing;
     let answer = s.answer;
-    let past = w.at + n;
     match answer {
         EventAnswer::Typed(j) => {
             let count = w.count;
@@ -134,7 +131,8 @@ fn turn<'a>(
         (stateOf w (now (types .entry)) (now (sets .entry)) (now (out .entry))) ⌝ }
 {
     let standing = w.standing;
-    let event = walk_to(events, w.at);
+    let passed = walk_to(events, w.at);
+    let event = passed.event;
     match event {
         FileEvent::Open(g) => {
             let s = step_open(
@@ -152,15 +150,15 @@ fn turn<'a>(
                 standing,
                 g,
             );
-            after_step(out, w, s, 2)
+            after_step(out, w, s, passed.past)
         }
         FileEvent::Close(g) => {
             let s = step_close(tag, accepting, tags, types, sets, standing, g);
-            after_step(out, w, s, 2)
+            after_step(out, w, s, passed.past)
         }
         FileEvent::Finish => {
             let s = step_finish(standing);
-            after_step(out, w, s, 1)
+            after_step(out, w, s, passed.past)
         }
         FileEvent::NoEvent => at_no_event(events.len(), w),
     }
@@ -170,7 +168,8 @@ fn turn<'a>(
 fn outside(events: &[u8]) -> EventFile
     ensures { λ r. ⌜ (r .number ≡ outsideNumber (eventAt (now (events .entry)) 0)) × (r .place ≡ 0) × (r .count ≡ 0) ⌝ }
 {
-    let event = walk_to(events, 0);
+    let passed = walk_to(events, 0);
+    let event = passed.event;
     match event {
         FileEvent::NoEvent => EventFile {
             number: 19,

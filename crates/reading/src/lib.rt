@@ -20,5 +20,6 @@ pub use lent::finish_lent;
 pub use lent::open_lent;
 pub use value::LEVELS;
 pub use value::Reading;
+pub use walker::PassedEvent;
 pub use walker::Walker;
 pub use walker::walk_to;

@@ -101,7 +101,7 @@ fn coming_at<'a>(
         if at.rooted {
             return none;
         }
-        if opens.0 != g.0 {
+        if !opens.same(g) {
             return none;
         }
         return Coming {
@@ -109,7 +109,8 @@ fn coming_at<'a>(
             kept: StateSet::NONE.0,
         };
     }
-    let a = types[depth - 1] as usize;
+    let inner = TypeNo(types[depth - 1]);
+    let a = inner.0 as usize;
     coming_from(
         from,
         by,
@@ -165,13 +166,13 @@ pub(crate) fn step_open<'a>(
         at,
         g,
     );
-    if next.of.0 == NO_TYPE.0 {
+    let j = next.of;
+    if j.same(NO_TYPE) {
         return stays(13, at);
     }
     if LEVELS <= at.depth as usize {
         return stays(14, at);
     }
-    let j = next.of;
     descend(types, sets, at, j, next.kept)
 }
 
@@ -198,12 +199,13 @@ pub(crate) fn step_close<'a>(
     if at.depth == 0 {
         return stays(15, at);
     }
-    let inner = (at.depth - 1) as usize;
-    let a = types[inner] as usize;
-    if tag[a] != g.0 {
+    let level = (at.depth - 1) as usize;
+    let inner = TypeNo(types[level]);
+    let a = inner.0 as usize;
+    if !Tag(tag[a]).same(g) {
         return stays(16, at);
     }
-    if sets[inner] & accepting[a] == 0 {
+    if !StateSet(sets[level]).meets(StateSet(accepting[a])) {
         return stays(17, at);
     }
     Stepped {

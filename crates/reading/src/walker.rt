@@ -38,9 +38,22 @@ impl<'a> Walker<'a> {
     }
 }
 
-// The event that a walker over the bytes gives at a place. Its parameters are plain, so whoever calls it needs no walker.
-pub fn walk_to(events: &[u8], at: usize) -> FileEvent
-    ensures { λ r. ⌜ r ≡ eventAt (now (events .entry)) at ⌝ }
+// The event at a place, and the place past it; where there is no event, the same place.
+pub struct PassedEvent {
+    pub event: FileEvent,
+    pub past: usize,
+}
+
+// What a walker over the bytes gives at a place, and where it stands after that. The parameters are plain, so whoever calls this needs no
+// walker.
+pub fn walk_to(events: &[u8], at: usize) -> PassedEvent
+    ensures { λ r. ⌜ (r .event ≡ eventAt (now (events .entry)) at) × (r .past ≡ placeAfter (now (events .entry)) at) ⌝ }
 {
-    Walker::new(events, at).event()
+    let walker = Walker::new(events, at);
+    let event = walker.event();
+    let next = walker.next();
+    PassedEvent {
+        event,
+        past: next.at,
+    }
 }

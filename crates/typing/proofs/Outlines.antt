@@ -13,7 +13,7 @@ use Rattle.sdtd.specs.Reading.{depth}
 use Rattle.sdtd.specs.declared.Tag.{Tag}
 use Rattle.sdtd.proofs.Depth.{depth-opening, depth-closing, depth-finish}
 use Rattle.reading.specs.EventFile.{Events, ends, stray, event, eventsOf, sizeOf}
-use Rattle.reading.specs.Events.{tagged, eventAt}
+use Rattle.reading.specs.Events.{tagged, size, eventAt, placeAfter}
 use Rattle.reading.specs.declared.events.FileEvent.{FileEvent}
 use Rattle.reading.specs.declared.events.FileEvent.the-variants.{Open, Close, Finish, NoEvent}
 use Rattle.reading.proofs.EventLaws.{Ends, event-ends, matched-ends}
@@ -30,9 +30,9 @@ cursor at level = record { at = at; level = level }
 module _ (file : List ℕ) (c : Cursor) where
   -- what is found, by the event at the cursor
   abbrev by : FileEvent → Found
-  by (Open g) = Opening g (cursor (c .at + 2) (deeper (c .level)))
-  by (Close g) = found file (cursor (c .at + 2) (shallower (c .level)))
-  by Finish = found file (cursor (c .at + 1) (c .level))
+  by (Open g) = Opening g (cursor (c .at + size (Open g)) (deeper (c .level)))
+  by (Close g) = found file (cursor (c .at + size (Close g)) (shallower (c .level)))
+  by Finish = found file (cursor (c .at + size Finish) (c .level))
   by NoEvent = NoOpening
 
   first : Events → Found
@@ -60,37 +60,33 @@ module _ (file : List ℕ) (c : Cursor) where
       ]
 
   -- what a look says, by the case matched
-  module _ {e : FileEvent} (at-cursor : e ≡ eventAt file (c .at)) where
-    pub looked-open : (past : Cursor) {g : Tag} {level : ℕ} → e ≡ Open g → level ≡ deeper (c .level)
-        → Looked file c (record { going = false; found = Opening g (cursor (c .at + 2) level); cursor = past })
-    looked-open past {g} m l =
-        record {
-          same =
-              ap (λ (n : ℕ). Opening g (cursor (c .at + 2) n)) l ∙ ap by (sym m) ∙ ap by at-cursor ∙ sym by-event;
-          moves = λ q. absurd (false≢true q);
-        }
+  module _ {e : FileEvent} {past : ℕ} (here : (e ≡ eventAt file (c .at)) × (past ≡ placeAfter file (c .at))) where
+    past-case : {d : FileEvent} → e ≡ d → past ≡ c .at + size d
+    past-case m = here .1 ∙ ap (λ (x : FileEvent). c .at + size x) (sym (here .0) ∙ m)
 
-    pub looked-none : (past : Cursor) → e ≡ NoEvent → Looked file c (record { going = false; found = NoOpening; cursor = past })
-    looked-none past m =
-        record {
-          same = ap by (sym m) ∙ ap by at-cursor ∙ sym by-event;
-          moves = λ q. absurd (false≢true q);
-        }
+    finds : {d : FileEvent} → e ≡ d → by d ≡ found file c
+    finds m = ap by (sym m ∙ here .0) ∙ sym by-event
+
+    pub looked-open : (kept : Cursor) {g : Tag} {level : ℕ} → e ≡ Open g → level ≡ deeper (c .level)
+        → Looked file c (record { going = false; found = Opening g (cursor past level); cursor = kept })
+    looked-open kept m l = record { same = rw (past-case m, l) (finds m); moves = λ q. absurd (false≢true q) }
+
+    pub looked-none : (kept : Cursor) → e ≡ NoEvent → Looked file c (record { going = false; found = NoOpening; cursor = kept })
+    looked-none kept m = record { same = finds m; moves = λ q. absurd (false≢true q) }
 
     pub looked-close : {g : Tag} {level : ℕ} → e ≡ Close g → level ≡ shallower (c .level)
-        → Looked file c (record { going = true; found = NoOpening; cursor = cursor (c .at + 2) level })
+        → Looked file c (record { going = true; found = NoOpening; cursor = cursor past level })
     looked-close m l =
         record {
-          same =
-              ap (λ (n : ℕ). found file (cursor (c .at + 2) n)) l ∙ ap by (sym m) ∙ ap by at-cursor ∙ sym by-event;
-          moves = λ q. (omega arith, matched-ends file (c .at) at-cursor m);
+          same = rw (past-case m, l) (finds m);
+          moves = λ q. (omega (arith, past-case m), rw (past-case m) (matched-ends file (c .at) (here .0) m));
         }
 
-    pub looked-finish : e ≡ Finish → Looked file c (record { going = true; found = NoOpening; cursor = cursor (c .at + 1) (c .level) })
+    pub looked-finish : e ≡ Finish → Looked file c (record { going = true; found = NoOpening; cursor = cursor past (c .level) })
     looked-finish m =
         record {
-          same = ap by (sym m) ∙ ap by at-cursor ∙ sym by-event;
-          moves = λ q. (omega arith, matched-ends file (c .at) at-cursor m);
+          same = rw (past-case m) (finds m);
+          moves = λ q. (omega (arith, past-case m), rw (past-case m) (matched-ends file (c .at) (here .0) m));
         }
 
 -- A search: what it will find, and how far it may go yet.
@@ -120,19 +116,19 @@ module _ (file : List ℕ) (at : ℕ) where
   after : (e : FileEvent) (x : Event) {es : Events} → at ≤ length file → Stands file at e → Ends file at e
       → eventsOf (drop at file) ≡ event x es → (eventsOf (drop (at + sizeOf x) file) ≡ es) × (at + sizeOf x ≤ length file)
   after (Open g) x {es} h s l q =
-      let later = eventsOf (drop (at + 2) file) in
+      let later = eventsOf (drop (at + size (Open g)) file) in
       let p : event (opening (g .0)) later ≡ event x es = sym s ∙ q in
       let y : opening (g .0) ≡ x = cc in
       let z : later ≡ es = cc in
       subst (λ (w : Event). (eventsOf (drop (at + sizeOf w) file) ≡ es) × (at + sizeOf w ≤ length file)) y (z, l)
   after (Close g) x {es} h s l q =
-      let later = eventsOf (drop (at + 2) file) in
+      let later = eventsOf (drop (at + size (Close g)) file) in
       let p : event (closing (g .0)) later ≡ event x es = sym s ∙ q in
       let y : closing (g .0) ≡ x = cc in
       let z : later ≡ es = cc in
       subst (λ (w : Event). (eventsOf (drop (at + sizeOf w) file) ≡ es) × (at + sizeOf w ≤ length file)) y (z, l)
   after Finish x {es} h s l q =
-      let later = eventsOf (drop (at + 1) file) in
+      let later = eventsOf (drop (at + size Finish) file) in
       let p : event finish later ≡ event x es = sym s ∙ q in
       let y : finish ≡ x = cc in
       let z : later ≡ es = cc in
@@ -176,19 +172,20 @@ lines-from file h ends level at l q = refl
 lines-from file h stray level at l q = refl
 lines-from file h (event (opening g) es) level at l q =
     let k = goes-on file at (opening g) q in
-    let next = cursor (at + 2) (suc level) in
-    let rest : Lines file (firstOpening (suc level) (at + 2) es) (outline (suc level) es) =
-    lines-from file h es (suc level) (at + 2) (omega arith) (k .0) in
+    let past = at + sizeOf (opening g) in
+    let next = cursor past (suc level) in
+    let rest : Lines file (firstOpening (suc level) past es) (outline (suc level) es) =
+    lines-from file h es (suc level) past (omega arith) (k .0) in
     let d : deeper level ≡ suc level = deeper-inside level (omega (arith, k .1)) in (
       next,
-      ap (λ (n : ℕ). Opening (tagged g) (cursor (at + 2) n)) d,
+      ap (λ (n : ℕ). Opening (tagged g) (cursor past n)) d,
       refl,
       lines-turn file next (outline (suc level) es)
-          (subst (λ (u : Events). Lines file (firstOpening (suc level) (at + 2) u) (outline (suc level) es)) (sym (k .0)) rest),
+          (subst (λ (u : Events). Lines file (firstOpening (suc level) past u) (outline (suc level) es)) (sym (k .0)) rest),
     )
 lines-from file h (event (closing g) es) level at l q =
-    lines-from file h es (shallower level) (at + 2) (omega arith) (goes-on file at (closing g) q .0)
-lines-from file h (event finish es) level at l q = lines-from file h es level (at + 1) (omega arith) (goes-on file at finish q .0)
+    lines-from file h es (shallower level) (at + sizeOf (closing g)) (omega arith) (goes-on file at (closing g) q .0)
+lines-from file h (event finish es) level at l q = lines-from file h es level (at + sizeOf finish) (omega arith) (goes-on file at finish q .0)
 
 -- From a cursor whose level is at most its place, as from a file's start on, what is found in turn is the outline of the rest of the file.
 pub found-in-turn : (file : List ℕ) → length file < 2 ^ 64 → (c : Cursor) → c .level ≤ c .at

@@ -6,7 +6,7 @@ use Prim.Native.Nat.{ℕ, suc, _+_, _-_, _^_, _<_, _≤_, min}
 use lib.ListN.{length, drop}
 use Rattle.sdtd.specs.Document.{Event, opening, closing, finish}
 use Rattle.sdtd.specs.Reading.{depth}
-use Rattle.reading.specs.EventFile.{Events, ends, stray, event, eventsOf}
+use Rattle.reading.specs.EventFile.{Events, ends, stray, event, eventsOf, sizeOf}
 use Rattle.reading.specs.Events.{tagged}
 use Rattle.typing.specs.declared.outline.Cursor.{Cursor}
 use Rattle.typing.specs.declared.outline.Found.{Found}
@@ -26,9 +26,9 @@ shallower level = level - 1
 abbrev pub firstOpening : ℕ → ℕ → Events → Found
 firstOpening level at ends = NoOpening
 firstOpening level at stray = NoOpening
-firstOpening level at (event (opening g) es) = Opening (tagged g) (record { at = at + 2; level = deeper level })
-firstOpening level at (event (closing g) es) = firstOpening (shallower level) (at + 2) es
-firstOpening level at (event finish es) = firstOpening level (at + 1) es
+firstOpening level at (event (opening g) es) = Opening (tagged g) (record { at = at + sizeOf (opening g); level = deeper level })
+firstOpening level at (event (closing g) es) = firstOpening (shallower level) (at + sizeOf (closing g)) es
+firstOpening level at (event finish es) = firstOpening level (at + sizeOf finish) es
 
 -- what is found from the cursor on
 abbrev pub found : List ℕ → Cursor → Found

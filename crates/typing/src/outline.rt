@@ -44,14 +44,15 @@ fn shallower(level: usize) -> usize
 fn look(events: &[u8], c: Cursor) -> Search
     ensures { λ r. ⌜ Looked (now (events .entry)) c r ⌝ }
 {
-    let event = walk_to(events, c.at);
+    let passed = walk_to(events, c.at);
+    let event = passed.event;
     match event {
         FileEvent::Open(g) => Search {
             going: false,
             found: Found::Opening(
                 g,
                 Cursor {
-                    at: c.at + 2,
+                    at: passed.past,
                     level: deeper(c.level),
                 },
             ),
@@ -61,7 +62,7 @@ fn look(events: &[u8], c: Cursor) -> Search
             going: true,
             found: Found::NoOpening,
             cursor: Cursor {
-                at: c.at + 2,
+                at: passed.past,
                 level: shallower(c.level),
             },
         },
@@ -69,7 +70,7 @@ fn look(events: &[u8], c: Cursor) -> Search
             going: true,
             found: Found::NoOpening,
             cursor: Cursor {
-                at: c.at + 1,
+                at: passed.past,
                 level: c.level,
             },
         },

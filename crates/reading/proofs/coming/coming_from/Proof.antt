@@ -1,6 +1,6 @@
 -- `reading::coming::coming_from` meets its contract. The loop's invariant: the steps from i on, over what came so far,
 -- give what all of them give.
-use mathlib.Core.Path.{_≡_, refl, sym, _∙_}
+use mathlib.Core.Path.{_≡_, refl, sym, ap, _∙_}
 use mathlib.Core.Logic.{⊎-elim}
 use mathlib.Core.Bool.{Bool, true, false, cond, _&&_}
 use mathlib.Core.List.{List, [], _∷_}
@@ -8,7 +8,6 @@ use Prim.Native.Nat.{ℕ, zero, suc, _+_, _-_, _≤_, _<_}
 use native.Mathlib.Numerals.{add-one}
 use native.Mathlib.Omega.{arith}
 use borrow.Author.Needs.{needs}
-use borrow.Author.Tests.{eq-eqb, ne-eqb}
 use lib.Dec.{eqb}
 use lib.ListN.{length, getD}
 use Rattle.schema.specs.States.{member}
@@ -24,15 +23,15 @@ inside (x ∷ xs) zero d e l = refl
 inside (x ∷ xs) (suc i) d e l = inside xs i d e (omega arith)
 
 -- what the two tests of a turn decide
-module _ {A : Type 0} (l g : ℕ) (b : Bool) (x y z : A) where
-  both : l ≡ g → b ≡ true → z ≡ x → z ≡ cond (eqb l g && b) x y
-  both e t h = rw (eq-eqb l g e, t) h
+module _ {A : Type 0} (a b : Bool) (x y z : A) where
+  both : a ≡ true → b ≡ true → z ≡ x → z ≡ cond (a && b) x y
+  both e t h = rw (e, t) h
 
-  one : l ≡ g → b ≡ false → z ≡ y → z ≡ cond (eqb l g && b) x y
-  one e t h = rw (eq-eqb l g e, t) h
+  one : a ≡ true → b ≡ false → z ≡ y → z ≡ cond (a && b) x y
+  one e t h = rw (e, t) h
 
-  neither : (l ≡ g → ⊥) → z ≡ y → z ≡ cond (eqb l g && b) x y
-  neither d h = rw (ne-eqb l g d) h
+  neither : a ≡ false → z ≡ y → z ≡ cond (a && b) x y
+  neither e h = rw e h
 
 -- a turn takes the first of the steps left
 turn : (from by to label : List ℕ) (states g i end : ℕ) (x x′ y : Coming) → i < end
@@ -53,7 +52,6 @@ abbrev Inv-loop : tie.InvT-loop
 Inv-loop from by to label start n states g next₀ end i₀ next i =
     (i ≤ end) × (end ≤ 1024)
     × (comingFrom from by to label states (g .0) i (end - i) next ≡ comingFrom from by to label states (g .0) start n (found 64 0))
-    × (start ≤ i)
 
 abbrev μ-loop : tie.MeasureT-loop
 μ-loop from by to label start n states g next₀ end i₀ next i = end - i
@@ -64,29 +62,28 @@ add-end c = search needs
 loop-holds : tie.Need-loop-holds Inv-loop μ-loop
 loop-holds c =
     let e : c .args .start + c .args .n - c .args .start ≡ c .args .n = omega arith in
-    (omega arith, omega arith, rw e, omega arith)
+    (omega arith, omega arith, rw e)
 
-element-copy-out-if1 : tie.Need-element-copy-out-if1 Inv-loop μ-loop
-element-copy-out-if1 c = search needs
+element-copy-out-t18 : tie.Need-element-copy-out-t18 Inv-loop μ-loop
+element-copy-out-t18 c = search needs
 
-element-copy-out-holds : tie.Need-element-copy-out-holds Inv-loop μ-loop
-element-copy-out-holds c = search needs
+same-requires : tie.Need-same-requires Inv-loop μ-loop
+same-requires c κs = search needs
 
-holds-requires : tie.Need-holds-requires Inv-loop μ-loop
-holds-requires c κs =
-    let s = c .before .before .before .before .before in
-    s .before .pre .2 (s .loop .i) (s .loop .inv .3) (omega arith) .0
+element-copy-out-has : tie.Need-element-copy-out-has Inv-loop μ-loop
+element-copy-out-has c = search needs
 
-element-copy-out-t24 : tie.Need-element-copy-out-t24 Inv-loop μ-loop
-element-copy-out-t24 c = search needs
+has-requires : tie.Need-has-requires Inv-loop μ-loop
+has-requires c κs = search needs
+
+element-copy-out-t27 : tie.Need-element-copy-out-t27 Inv-loop μ-loop
+element-copy-out-t27 c = search needs
 
 element-copy-out-join : tie.Need-element-copy-out-join Inv-loop μ-loop
 element-copy-out-join c = search needs
 
 join-requires : tie.Need-join-requires Inv-loop μ-loop
-join-requires c κs =
-    let s = c .before .before .before .before .before .before .before .before .before in
-    s .before .pre .2 (s .loop .i) (s .loop .inv .3) (omega arith) .1
+join-requires c κs = search needs
 
 add-i : tie.Need-add-i Inv-loop μ-loop
 add-i c = search needs
@@ -96,19 +93,21 @@ loop-less c = search needs
 
 loop-again : tie.Need-loop-again Inv-loop μ-loop
 loop-again c =
-    let k = c .before .before .before in
-    let a = k .before .before .args in
-    let l = k .before .loop in
-    let i : getD (a .label .now) (l .i) noTag ≡ getD (a .label .now) (l .i) 0 = inside (a .label .now) (l .i) noTag 0 (omega arith) in (
+    let k = c .before in
+    let m = k .before .before in
+    let a = m .before .before .args in
+    let l = m .before .loop in
+    let i : getD (a .label .now) (l .i) noTag ≡ getD (a .label .now) (l .i) 0 = inside (a .label .now) (l .i) noTag 0 (omega arith) in
+    let e : eqb (getD (a .label .now) (l .i) noTag) (a .g .0) ≡ k .same .result =
+    ap (λ (n : ℕ). eqb n (a .g .0)) i ∙ sym (k .same .ensures) in (
       omega arith,
       omega arith,
-      turn _ _ _ _ _ _ _ _ _ _ _ (k .loop-test .taken)
-          (⊎-elim (λ w. both _ _ _ _ _ _ (i ∙ w .0 .taken) (sym (w .2 .ensures) ∙ w .3 .taken) (w .7 ∙ w .6 .ensures))
-          (⊎-elim (λ w. one _ _ _ _ _ _ (i ∙ w .0 .taken) (sym (w .2 .ensures) ∙ w .3 .left) (w .4))
-          (λ w. neither _ _ _ _ _ _ (λ e. w .0 .left (sym i ∙ e)) (w .1)))
+      turn _ _ _ _ _ _ _ _ _ _ _ (m .loop-test .taken)
+          (⊎-elim (λ w. both _ _ _ _ _ (e ∙ w .0 .taken) (sym (w .2 .ensures) ∙ w .3 .taken) (w .7 ∙ w .6 .ensures))
+          (⊎-elim (λ w. one _ _ _ _ _ (e ∙ w .0 .taken) (sym (w .2 .ensures) ∙ w .3 .left) (w .4))
+          (λ w. neither _ _ _ _ _ (e ∙ w .0 .left) (w .1)))
           (c .if1 .came))
           (l .inv .2),
-      omega arith,
     )
 
 returns : tie.Need-returns Inv-loop μ-loop
@@ -122,10 +121,11 @@ coming-from-spec =
     μ-loop
     add-end
     loop-holds
-    element-copy-out-if1
-    element-copy-out-holds
-    holds-requires
-    element-copy-out-t24
+    element-copy-out-t18
+    same-requires
+    element-copy-out-has
+    has-requires
+    element-copy-out-t27
     element-copy-out-join
     join-requires
     add-i

@@ -5,9 +5,6 @@ use Rattle.reading.proofs.TurnWays.{by-full, by-typed, by-taken, by-ref
 use Rattle.reading.proofs.event_file.after_step.Statement.{statement}
 use Rattle.reading.proofs.event_file.after_step.Tie as tie
 
-add-past : tie.Need-add-past
-add-past c = search needs
-
 enum-known-answer : tie.Need-enum-known-answer
 enum-known-answer c = search needs
 
@@ -42,7 +39,6 @@ pub after-step-spec : {M : Type 1} → statement M
 after-step-spec =
     tie.close
     (tie.spec
-    add-past
     enum-known-answer
     returns
     slice-write-out

@@ -26,12 +26,12 @@ enum-told c = search needs
 
 returns : tie.Need-returns
 returns c =
-    let e = sym (c .enum-told .given .1) ∙ c .before .before .walk-to .ensures in
+    let e = sym (c .enum-told .given .1) ∙ c .before .before .walk-to .ensures .0 in
     (ap (λ (x : FileEvent). outsideNumber x) e, refl, refl)
 
 returns-2 : tie.Need-returns-2
 returns-2 c =
-    (event (c .before .walk-to .result) (c .match .keys2) ∙ ap (λ (x : FileEvent). outsideNumber x) (c .before .walk-to .ensures), refl, refl)
+    (event (c .before .walk-to .result .event) (c .match .keys2) ∙ ap (λ (x : FileEvent). outsideNumber x) (c .before .walk-to .ensures .0), refl, refl)
 
 pub outside-spec : {M : Type 1} → statement M
 outside-spec = tie.close (tie.spec walk-to-requires enum-told returns returns-2)

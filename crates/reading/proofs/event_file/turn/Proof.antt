@@ -1,16 +1,8 @@
--- `reading::event_file::turn` meets its contract: by the event, what its step promises and what follows it; an event ends inside the file.
-use Prim.Native.Nat.{ℕ, _^_, _≤_, _<_}
-use native.Mathlib.Omega.{arith}
-use lib.ListN.{length}
+-- `reading::event_file::turn` meets its contract: by the event, what its step promises and what follows it.
 use borrow.Author.Needs.{needs}
-use Rattle.reading.proofs.EventLaws.{matched-ends}
 use Rattle.reading.proofs.TurnWays.{turn-open, turn-close, turn-finish, turn-ends}
 use Rattle.reading.proofs.event_file.turn.Statement.{statement}
 use Rattle.reading.proofs.event_file.turn.Tie as tie
-
--- what lies inside the file is a place
-place : (b : tie.Start) (i : ℕ) → i ≤ length (b .args .events .now) → i < 2 ^ 64
-place b i h = omega arith
 
 walk-to-requires : tie.Need-walk-to-requires
 walk-to-requires c κs = search needs
@@ -22,12 +14,7 @@ step-open-requires : tie.Need-step-open-requires
 step-open-requires c κs = search needs
 
 after-step-requires : tie.Need-after-step-requires
-after-step-requires c κs =
-    let v = c .before .before .before .before .before in
-    let f = v .before .before in
-    let b = f .before .before .before .before in
-    let a = b .args in
-    place b _ (matched-ends (a .events .now) (a .w .at) (f .walk-to .ensures) (v .event .given .1))
+after-step-requires c κs = search needs
 
 enum-known-event-2 : tie.Need-enum-known-event-2
 enum-known-event-2 c = search needs
@@ -36,12 +23,7 @@ step-close-requires : tie.Need-step-close-requires
 step-close-requires c κs = search needs
 
 after-step-requires-2 : tie.Need-after-step-requires-2
-after-step-requires-2 c κs =
-    let v = c .before .before .before .before .before in
-    let f = v .before .before in
-    let b = f .before .before .before .before in
-    let a = b .args in
-    place b _ (matched-ends (a .events .now) (a .w .at) (f .walk-to .ensures) (v .event2 .given .1))
+after-step-requires-2 c κs = search needs
 
 enum-told : tie.Need-enum-told
 enum-told c = search needs
@@ -50,12 +32,7 @@ step-finish-requires : tie.Need-step-finish-requires
 step-finish-requires c κs = search needs
 
 after-step-requires-3 : tie.Need-after-step-requires-3
-after-step-requires-3 c κs =
-    let v = c .before .before in
-    let f = v .before .before in
-    let b = f .before .before .before .before in
-    let a = b .args in
-    place b _ (matched-ends (a .events .now) (a .w .at) (f .walk-to .ensures) (v .enum-told .given .1))
+after-step-requires-3 c κs = search needs
 
 enum-told-2 : tie.Need-enum-told-2
 enum-told-2 c = search needs

@@ -1,10 +1,11 @@
 -- `reading::events::place_after` meets its contract: an event ends inside the file, so its end is a place.
 use mathlib.Core.Path.{_≡_, sym, ap, _∙_}
 use mathlib.Core.List.{List}
-use Prim.Native.Nat.{ℕ}
+use Prim.Native.Nat.{ℕ, _+_}
+use native.Mathlib.Nat.{add-zero}
 use native.Mathlib.Omega.{arith}
 use borrow.Author.Needs.{needs}
-use Rattle.reading.specs.Events.{eventAt, past, placeAfter}
+use Rattle.reading.specs.Events.{size, eventAt, placeAfter}
 use Rattle.reading.specs.declared.events.FileEvent.{FileEvent}
 use Rattle.reading.proofs.EventLaws.{matched-ends}
 use Rattle.reading.proofs.events.place_after.Statement.{statement}
@@ -12,8 +13,8 @@ use Rattle.reading.proofs.events.place_after.Tie as tie
 
 -- what is found at the place is the case matched
 module _ (file : List ℕ) (i : ℕ) {e d : FileEvent} (found : e ≡ eventAt file i) (case : e ≡ d) where
-  after : past d i ≡ placeAfter file i
-  after = ap (λ (x : FileEvent). past x i) (sym case ∙ found)
+  after : i + size d ≡ placeAfter file i
+  after = ap (λ (x : FileEvent). i + size x) (sym case ∙ found)
 
 event-at-requires : tie.Need-event-at-requires
 event-at-requires c κs = search needs
@@ -70,7 +71,7 @@ returns-4 : tie.Need-returns-4
 returns-4 c =
     let g = c .before .before in
     let a = g .before .before .args in
-    after (a .events .now) (a .at) (g .event-at .ensures) (c .enum-told4 .given .1)
+    sym (add-zero (a .at)) ∙ after (a .events .now) (a .at) (g .event-at .ensures) (c .enum-told4 .given .1)
 
 pub place-after-spec : {M : Type 1} → statement M
 place-after-spec =

@@ -1,5 +1,5 @@
 -- `reading::steps::step_open` meets its contract.
-use mathlib.Core.Path.{_∙_}
+use mathlib.Core.Path.{sym, _∙_}
 use borrow.Author.Needs.{needs}
 use Rattle.reading.proofs.StepWays.{stayed, descended, open-finished, open-tag, open-none, open-deep, open-taken}
 use Rattle.reading.proofs.steps.step_open.Statement.{statement}
@@ -21,15 +21,19 @@ returns-2 c =
 coming-at-requires : tie.Need-coming-at-requires
 coming-at-requires c κs = search needs
 
+same-requires : tie.Need-same-requires
+same-requires c κs = search needs
+
 stays-requires-3 : tie.Need-stays-requires-3
 stays-requires-3 c κs = search needs
 
 returns-3 : tie.Need-returns-3
 returns-3 c =
-    let k = c .before .before .before .before in
+    let s = c .before .before in
+    let k = s .before .before in
     let e = k .before .before .before in
     stayed _ _ _ _ _ (c .stays3 .ensures)
-    ∙ open-none _ _ _ (e .before .before .if1 .left) (e .if2 .left) _ (k .coming-at .ensures) (c .before .if3 .taken)
+    ∙ open-none _ _ _ (e .before .before .if1 .left) (e .if2 .left) _ (k .coming-at .ensures) (sym (s .same .ensures) ∙ c .before .if3 .taken)
 
 cast-if4 : tie.Need-cast-if4
 cast-if4 c = search needs
@@ -40,24 +44,28 @@ stays-requires-4 c κs = search needs
 returns-4 : tie.Need-returns-4
 returns-4 c =
     let o = c .before .before .before in
-    let k = o .before .before .before in
+    let s = o .before in
+    let k = s .before .before in
     let e = k .before .before .before in
     stayed _ _ _ _ _ (c .stays4 .ensures)
-    ∙ open-deep _ _ _ (e .before .before .if1 .left) (e .if2 .left) _ (k .coming-at .ensures) (o .if3 .left) (c .before .if4 .taken)
+    ∙ open-deep _ _ _ (e .before .before .if1 .left) (e .if2 .left) _ (k .coming-at .ensures) (sym (s .same .ensures) ∙ o .if3 .left)
+    (c .before .if4 .taken)
 
 descend-requires : tie.Need-descend-requires
 descend-requires c κs = search needs
 
 returns-5 : tie.Need-returns-5
 returns-5 c =
-    let d = c .before .before .before .before in
+    let d = c .before .before .before in
     let o = d .before .before in
-    let k = o .before .before .before in
+    let s = o .before in
+    let k = s .before .before in
     let e = k .before .before .before in
     let a = e .before .before .before .args in
     let x = c .descend .ensures in
     descended _ (a .at) (a .types .now) (a .sets .now) _ _ _ _ (x .0) (x .1) (x .2) (x .3) (x .4) (x .5)
-    ∙ open-taken _ _ _ (e .before .before .if1 .left) (e .if2 .left) _ (k .coming-at .ensures) (o .if3 .left) (d .if4 .left)
+    ∙ open-taken _ _ _ (e .before .before .if1 .left) (e .if2 .left) _ (k .coming-at .ensures) (sym (s .same .ensures) ∙ o .if3 .left)
+    (d .if4 .left)
 
 pub step-open-spec : {M : Type 1} → statement M
 step-open-spec =
@@ -68,6 +76,7 @@ step-open-spec =
     stays-requires-2
     returns-2
     coming-at-requires
+    same-requires
     stays-requires-3
     returns-3
     cast-if4

@@ -1,7 +1,5 @@
--- `typing::outline::look` meets its contract: by the event at the cursor, which ends inside the file.
-use native.Mathlib.Omega.{arith}
+-- `typing::outline::look` meets its contract: by the event at the cursor and the place past it.
 use borrow.Author.Needs.{needs}
-use Rattle.reading.proofs.EventLaws.{matched-ends}
 use Rattle.typing.proofs.Outlines.{looked-open, looked-close, looked-finish, looked-none}
 use Rattle.typing.proofs.outline.look.Statement.{statement}
 use Rattle.typing.proofs.outline.look.Tie as tie
@@ -12,35 +10,17 @@ walk-to-requires c κs = search needs
 enum-known-event : tie.Need-enum-known-event
 enum-known-event c = search needs
 
-add-t6 : tie.Need-add-t6
-add-t6 c =
-    let w = c .before .before .before .before in
-    let a = w .before .before .args in
-    record { fits = omega (arith, matched-ends (a .events .now) (a .c .at) (w .walk-to .ensures) (c .before .before .event .given .1)) }
-
 deeper-requires : tie.Need-deeper-requires
 deeper-requires c κs = search needs
 
 enum-told : tie.Need-enum-told
 enum-told c = search needs
 
-add-t11 : tie.Need-add-t11
-add-t11 c =
-    let w = c .before .before .before in
-    let a = w .before .before .args in
-    record { fits = omega (arith, matched-ends (a .events .now) (a .c .at) (w .walk-to .ensures) (c .before .enum-told .given .1)) }
-
 shallower-requires : tie.Need-shallower-requires
 shallower-requires c κs = search needs
 
 enum-told-2 : tie.Need-enum-told-2
 enum-told-2 c = search needs
-
-add-t15 : tie.Need-add-t15
-add-t15 c =
-    let w = c .before .before .before in
-    let a = w .before .before .args in
-    record { fits = omega (arith, matched-ends (a .events .now) (a .c .at) (w .walk-to .ensures) (c .before .enum-told2 .given .1)) }
 
 enum-told-3 : tie.Need-enum-told-3
 enum-told-3 c = search needs
@@ -78,13 +58,10 @@ look-spec =
     (tie.spec
     walk-to-requires
     enum-known-event
-    add-t6
     deeper-requires
     enum-told
-    add-t11
     shallower-requires
     enum-told-2
-    add-t15
     enum-told-3
     returns
     returns-2
