@@ -143,7 +143,7 @@ module _ {file : List ℕ} {i : ℕ} {s : State} {t : Tables} (r : Reads file i 
       (record {
         tags = s .tags;
         types = s .types % 256;
-        root = record { 0 = s .root };
+        root = s .root;
         tag = t .tag;
         states = t .states;
         accepting = t .accepting;

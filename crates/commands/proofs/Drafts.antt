@@ -9,9 +9,11 @@ use native.Mathlib.Omega.{arith}
 use borrow.Author.Tests.{le-leb, leb-true}
 use lib.Dec.{T, eqb, leb, ltb, eqb→eq, ltb→lt}
 use lib.ListN.{length, getD, replicate, length-replicate, getD-replicate, List·getD-eq-default}
+use Rattle.sdtd.specs.declared.Tag.{Tag}
+use Rattle.sdtd.specs.declared.TypeNo.{TypeNo}
 use Rattle.schema.specs.States.{member}
 use Rattle.schema.specs.Value.{upFrom, offset, blockAt, meaning}
-use Rattle.commands.specs.Command.{commandOf, commandAt, isCommand, size}
+use Rattle.commands.specs.Command.{typeNo, commandOf, commandAt, isCommand, size}
 use Rattle.commands.specs.File.{tagged, inside, rooted, ended, Placed, Stated, nothingStated, current, stepCount, hasStep}
 use Rattle.commands.specs.File.{inOrder, inRange, withinCounts, notGiven, failed, after, stopped, states, commandsFrom}
 use Rattle.commands.specs.File.{schemaBy, unknown}
@@ -27,7 +29,7 @@ use Rattle.commands.proofs.TableLaws.{step-sized, step-blocks, step-cou
 use Rattle.commands.proofs.StatedLaws.{offset-back, valueOf, blocks-back, unknown-back}
 
 abbrev pub firstState : State
-firstState = record { phase = 0; tags = 0; types = 0; root = 0; count = 0 }
+firstState = record { phase = 0; tags = 0; types = 0; root = typeNo 0; count = 0 }
 
 -- before any command: tables of zeros hold that nothing is stated
 pub first-holds : {t : Tables} → Sized t → EmptyPast t 0 0 → Holds nothingStated firstState t
@@ -108,9 +110,9 @@ asked-failed {g} h (Step p j q) =
     λ e.
     let b = current (g .blocks) in
     let i = eqb→eq (g .phase) inside e in
-    rw (given-step h i p j q, inside-holds h i .states, h .count)
-    (under (ltb p (b .states) && (ltb j 64 && ltb q (b .states))) 4
-    λ r. under (ltb (stepCount (g .blocks)) 1024) 5 λ l. cond-not (hasStep p j q (b .steps))))
+    rw (given-step h i p (j .0) q, inside-holds h i .states, h .count)
+    (under (ltb p (b .states) && (ltb (j .0) 64 && ltb q (b .states))) 4
+    λ r. under (ltb (stepCount (g .blocks)) 1024) 5 λ l. cond-not (hasStep p (j .0) q (b .steps))))
 asked-failed h (Root a) = rw (h .phase, h .types)
 asked-failed h Done = rw (h .phase)
 asked-failed h NoCommand = refl
@@ -131,9 +133,9 @@ inside-place {g} {s} h e =
     record { phase = p; some = omega (arith, h .types); last = omega (arith, h .types, h .types-most) }
 
 -- a command that changes neither the blocks nor the tables, and after which the file is in no block
-stays : {g : Stated} {s : State} {t : Tables} (phase tags root : ℕ) → phase ≢ inside → Holds g s t
+stays : {g : Stated} {s : State} {t : Tables} (phase tags : ℕ) (root : TypeNo) → phase ≢ inside → Holds g s t
     → Holds
-    (record { phase = phase; tags = tags; blocks = g .blocks; root = root })
+    (record { phase = phase; tags = tags; blocks = g .blocks; root = root .0 })
     (record { phase = phase; tags = tags; types = s .types; root = root; count = s .count })
     t
 stays phase tags root o h =
@@ -152,14 +154,14 @@ stays phase tags root o h =
     }
 
 -- one type, one accepting state or one step more
-after-type : {g : Stated} {s : State} {t : Tables} → Holds g s t → (i a k : ℕ) → failed g (TypeBlock a k) ≡ 0
+after-type : {g : Stated} {s : State} {t : Tables} → Holds g s t → (i : ℕ) (a : Tag) (k : ℕ) → failed g (TypeBlock a k) ≡ 0
     → Holds (after g i (TypeBlock a k)) (stateAfter s (TypeBlock a k)) (tablesAfter s t i (TypeBlock a k))
 unfolding after stateAfter tablesAfter
 after-type {g} {s} {t} h i a k e =
     let q = passed-parts g (TypeBlock a k) e in
     let l : length (g .blocks) < 64 = ltb→lt (length (g .blocks)) 64 (q .1) in
     record {
-      sized = type-sized t (h .sized) (s .types % 64) a k;
+      sized = type-sized t (h .sized) (s .types % 64) (a .0) k;
       phase = refl;
       tags = h .tags;
       root = h .root;
@@ -168,8 +170,8 @@ after-type {g} {s} {t} h i a k e =
       types-most = omega (arith, h .types);
       count-most = h .count-most;
       some = omega arith;
-      blocks = type-blocks t (h .sized) (g .blocks) (s .types % 64) a k (omega (arith, h .types)) (omega arith) (h .blocks);
-      empty = type-empty (h .empty) (s .types % 64) a k (omega (arith, h .types));
+      blocks = type-blocks t (h .sized) (g .blocks) (s .types % 64) (a .0) k (omega (arith, h .types)) (omega arith) (h .blocks);
+      empty = type-empty (h .empty) (s .types % 64) (a .0) k (omega (arith, h .types));
     }
 
 after-final : {g : Stated} {s : State} {t : Tables} → Holds g s t → (i q : ℕ) → failed g (Final q) ≡ 0
@@ -191,16 +193,16 @@ after-final {g} {s} {t} h i q e =
       empty = accepting-empty (h .empty) (lastType s) q (omega (arith, h .types, x .last));
     }
 
-after-step : {g : Stated} {s : State} {t : Tables} → Holds g s t → (i p j q : ℕ) → failed g (Step p j q) ≡ 0
+after-step : {g : Stated} {s : State} {t : Tables} → Holds g s t → (i p : ℕ) (j : TypeNo) (q : ℕ) → failed g (Step p j q) ≡ 0
     → Holds (after g i (Step p j q)) (stateAfter s (Step p j q)) (tablesAfter s t i (Step p j q))
 unfolding after stateAfter tablesAfter
 after-step {g} {s} {t} h i p j q e =
     let v = passed-parts g (Step p j q) e in
     let x = inside-place h (v .0) in
     let l : stepCount (g .blocks) < 1024 = ltb→lt (stepCount (g .blocks)) 1024 (v .1) in
-    let y : Placed = record { step = record { from = p; by = j; to = q }; place = i } in
+    let y : Placed = record { step = record { from = p; by = j .0; to = q }; place = i } in
     record {
-      sized = step-sized t (h .sized) (lastType s) (s .count % 1024) p j q i;
+      sized = step-sized t (h .sized) (lastType s) (s .count % 1024) p (j .0) q i;
       phase = h .phase ∙ x .phase;
       tags = h .tags;
       root = h .root;
@@ -211,8 +213,8 @@ after-step {g} {s} {t} h i p j q e =
       some = λ p. h .some (x .phase);
       blocks =
           let n : s .count % 1024 ≡ stepCount (g .blocks) = omega (arith, h .count) in
-          step-blocks t (h .sized) (g .blocks) (lastType s) (s .count % 1024) p j q i (x .last) (omega arith) n (omega arith) (h .blocks);
-      empty = step-empty (h .empty) (lastType s) (s .count % 1024) p j q i (omega (arith, h .types, x .last)) (omega (arith, h .count));
+          step-blocks t (h .sized) (g .blocks) (lastType s) (s .count % 1024) p (j .0) q i (x .last) (omega arith) n (omega arith) (h .blocks);
+      empty = step-empty (h .empty) (lastType s) (s .count % 1024) p (j .0) q i (omega (arith, h .types, x .last)) (omega (arith, h .count));
     }
 
 -- after a command that passed them, they hold what is stated then
@@ -233,7 +235,7 @@ pub stated-value : {g : Stated} {s : State} {t : Tables} → Holds g s t
     (record {
       tags = s .tags;
       types = s .types % 256;
-      root = record { 0 = s .root };
+      root = s .root;
       tag = t .tag;
       states = t .states;
       accepting = t .accepting;

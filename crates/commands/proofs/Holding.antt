@@ -62,7 +62,7 @@ pub record Holds (g : Stated) (s : State) (t : Tables) : Type 0 where
   pub sized : Sized t
   pub phase : s .phase ≡ g .phase
   pub tags : s .tags ≡ g .tags
-  pub root : s .root ≡ g .root
+  pub root : s .root .0 ≡ g .root
   pub types : s .types ≡ length (g .blocks)
   pub count : s .count ≡ stepCount (g .blocks)
   pub types-most : s .types ≤ 64

@@ -74,7 +74,7 @@ counted i g (Tags n) p h l = omega arith
 counted i g (TypeBlock t s) p h l = omega arith
 counted i g (Final q) p h l = omega (arith, final-bytes q (g .blocks) (h .blocks) (p .1) (p .2))
 counted i g (Step x j y) p h l =
-    let s : Placed = record { step = record { from = x; by = j; to = y }; place = i } in
+    let s : Placed = record { step = record { from = x; by = j .0; to = y }; place = i } in
     omega (arith, step-bytes s (g .blocks) (p .1))
 counted i g (Root a) p h l = omega arith
 counted i g Done p h l = omega arith

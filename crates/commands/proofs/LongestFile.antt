@@ -17,11 +17,22 @@ use Rattle.sdtd.proofs.Bearing.{word-bears}
 use Rattle.sdtd.proofs.Rivals.{compete-rivals}
 use Rattle.schema.specs.States.{member, insert}
 use Rattle.schema.proofs.Bits.{member-none, insert-below, member-insert, mem-members}
+use Rattle.commands.specs.Command.{tagNo, typeNo}
 use Rattle.commands.specs.File.{tagged, inside, ended, Placed, Draft, Stated, hasStep, after, failed, states, commands}
 use Rattle.commands.specs.File.{blockBy, schemaBy, unknownIn, unknownBy, unknown, mostBytes}
 use Rattle.commands.specs.declared.command.Command.{Command}
 use Rattle.commands.specs.declared.command.Command.the-variants.{Tags, TypeBlock, Final, Step, Root, Done}
 use Rattle.commands.proofs.Runs.{bytesOf, length-more, Passes, passes-none, passes-more, passes-all}
+
+-- the TYPE of each block, the STEP of the pair of states number n, and the ROOT
+abbrev typeCommand : Command
+typeCommand = TypeBlock (tagNo 0) 32
+
+abbrev stepCommand : ℕ → Command
+stepCommand n = Step (n / 32) (typeNo 1) (n % 32)
+
+abbrev rootCommand : Command
+rootCommand = Root (typeNo 0)
 
 -- the commands, then FINAL 0 to n - 1
 unfoldable pub thenFinals : List Command → ℕ → List Command
@@ -31,11 +42,11 @@ thenFinals cs (suc n) = thenFinals cs n ++ (Final n ∷ [])
 -- the commands, then n STEPs by the type 1, the pairs of states in order
 unfoldable pub thenSteps : List Command → ℕ → List Command
 thenSteps cs zero = cs
-thenSteps cs (suc n) = thenSteps cs n ++ (Step (n / 32) 1 (n % 32) ∷ [])
+thenSteps cs (suc n) = thenSteps cs n ++ (stepCommand n ∷ [])
 
 -- the commands, then a block of 32 states, all accepting
 unfoldable pub thenBlock : List Command → List Command
-thenBlock cs = thenFinals (cs ++ (TypeBlock 0 32 ∷ [])) 32
+thenBlock cs = thenFinals (cs ++ (typeCommand ∷ [])) 32
 
 -- the commands, then n such blocks
 unfoldable pub thenBlocks : List Command → ℕ → List Command
@@ -47,7 +58,7 @@ unfoldable pub firstCommands : List Command
 firstCommands = thenSteps (thenBlock (Tags 32 ∷ [])) 1024
 
 unfoldable pub longestCommands : List Command
-longestCommands = thenBlocks firstCommands 63 ++ (Root 0 ∷ []) ++ (Done ∷ [])
+longestCommands = thenBlocks firstCommands 63 ++ (rootCommand ∷ []) ++ (Done ∷ [])
 
 unfoldable pub longestFile : List ℕ
 longestFile = bytesOf longestCommands
@@ -61,11 +72,11 @@ finals-length cs (suc n) = rw (length-more (thenFinals cs n) (Final n)) (omega (
 steps-length : (cs : List Command) (n : ℕ) → length (bytesOf (thenSteps cs n)) ≡ length (bytesOf cs) + 4 * n
 unfolding thenSteps
 steps-length cs zero = omega arith
-steps-length cs (suc n) = rw (length-more (thenSteps cs n) (Step (n / 32) 1 (n % 32))) (omega (arith, steps-length cs n))
+steps-length cs (suc n) = rw (length-more (thenSteps cs n) (stepCommand n)) (omega (arith, steps-length cs n))
 
 block-length : (cs : List Command) → length (bytesOf (thenBlock cs)) ≡ length (bytesOf cs) + 67
 unfolding thenBlock
-block-length cs = omega (arith, finals-length (cs ++ (TypeBlock 0 32 ∷ [])) 32, length-more cs (TypeBlock 0 32))
+block-length cs = omega (arith, finals-length (cs ++ (typeCommand ∷ [])) 32, length-more cs typeCommand)
 
 blocks-length : (cs : List Command) (n : ℕ) → length (bytesOf (thenBlocks cs n)) ≡ length (bytesOf cs) + 67 * n
 unfolding thenBlocks
@@ -82,7 +93,7 @@ pub longest-length : length longestFile ≡ mostBytes
 unfolding longestFile longestCommands
 longest-length =
     let cs = thenBlocks firstCommands 63 in
-    omega (arith, length-more (cs ++ (Root 0 ∷ [])) Done, length-more cs (Root 0), blocks-length firstCommands 63, first-length)
+    omega (arith, length-more (cs ++ (rootCommand ∷ [])) Done, length-more cs rootCommand, blocks-length firstCommands 63, first-length)
 
 -- the states below n as a set
 firstStates : ℕ → ℕ
@@ -123,10 +134,10 @@ finals-pass ds zero l r = r
 finals-pass ds (suc n) l r = passes-more (Final n) (finals-pass ds n (omega arith) r) (rw (lt-ltb n 32 l, first-new n))
 
 -- a block, where its TYPE passes
-block-pass : {cs : List Command} (phase : ℕ) (ds : List Draft) → failed (stated phase ds) (TypeBlock 0 32) ≡ 0 → Passes cs (stated phase ds)
+block-pass : {cs : List Command} (phase : ℕ) (ds : List Draft) → failed (stated phase ds) typeCommand ≡ 0 → Passes cs (stated phase ds)
     → Passes (thenBlock cs) (stated inside (plain 32 ∷ ds))
 unfolding thenBlock after firstStates
-block-pass phase ds z r = finals-pass ds 32 (omega arith) (passes-more (TypeBlock 0 32) r z)
+block-pass phase ds z r = finals-pass ds 32 (omega arith) (passes-more typeCommand r z)
 
 -- the steps of n STEPs, the last first, with their places
 stepsOf : List Command → ℕ → List Placed
@@ -165,7 +176,7 @@ steps-pass {cs} (suc n) l r =
     let from-below = lt-ltb (n / 32) 32 (omega arith) in
     let to-below = lt-ltb (n % 32) 32 (omega arith) in
     let few = lt-ltb (0 + length (stepsOf cs n)) 1024 (omega (arith, steps-count cs n)) in
-    passes-more (Step (n / 32) 1 (n % 32)) (steps-pass n (omega arith) r) (rw (from-below, to-below, few, step-new cs n n (omega arith)))
+    passes-more (stepCommand n) (steps-pass n (omega arith) r) (rw (from-below, to-below, few, step-new cs n n (omega arith)))
 
 -- n blocks of FINALs alone after the others
 plains : List Draft → ℕ → List Draft
@@ -201,7 +212,7 @@ unfolding longestCommands after allBlocks
 longest-pass =
     let r = blocks-pass (firstBlock ∷ []) 63 (omega arith) first-pass in
     let given = lt-ltb 0 (length allBlocks) (omega (arith, plains-count (firstBlock ∷ []) 63)) in
-    passes-more Done (passes-more (Root 0) r (rw given)) refl
+    passes-more Done (passes-more rootCommand r (rw given)) refl
 
 -- each step names a given type
 known-steps : (cs : List Command) (n : ℕ) → unknownIn 64 (stepsOf cs n) ≡ []

@@ -39,11 +39,11 @@ answered g c z = all-yes (isCommand c) (inOrder g c) (inRange g c) (withinCounts
 abbrev pub Passed : Stated → Command → Type 0
 Passed g (Tags n) = (g .phase ≡ fresh) × (1 ≤ n) × (n ≤ mostTags)
 Passed g (TypeBlock t s) =
-    (tagged ≤ g .phase) × (g .phase ≤ inside) × (t < g .tags) × (1 ≤ s) × (s ≤ mostStates) × (length (g .blocks) < mostTypes)
+    (tagged ≤ g .phase) × (g .phase ≤ inside) × (t .0 < g .tags) × (1 ≤ s) × (s ≤ mostStates) × (length (g .blocks) < mostTypes)
 Passed g (Final q) = (g .phase ≡ inside) × (q < current (g .blocks) .states) × ¬ T (member q (current (g .blocks) .accepting))
 Passed g (Step p j q) =
     (g .phase ≡ inside) × (p < current (g .blocks) .states) × (q < current (g .blocks) .states) × (stepCount (g .blocks) < mostSteps)
-Passed g (Root a) = (g .phase ≡ inside) × (a < length (g .blocks))
+Passed g (Root a) = (g .phase ≡ inside) × (a .0 < length (g .blocks))
 Passed g Done = g .phase ≡ rooted
 Passed g NoCommand = ⊥
 
@@ -62,7 +62,7 @@ passed g (Tags n) z =
     omega (arith, eqb→eq, leb→le)
 passed g (TypeBlock t s) z =
     let h = answered g (TypeBlock t s) z in
-    let r = both (ltb t (g .tags)) (leb 1 s && leb s mostStates) (h .2) in
+    let r = both (ltb (t .0) (g .tags)) (leb 1 s && leb s mostStates) (h .2) in
     let l = both (leb 1 s) (leb s mostStates) (r .1) in
     let o = before-type (g .phase) (h .1) in
     omega (arith, leb→le, ltb→lt)
@@ -73,8 +73,8 @@ passed g (Final q) z =
 passed g (Step p j q) z =
     let h = answered g (Step p j q) z in
     let n = current (g .blocks) .states in
-    let r = both (ltb p n) (ltb j mostTypes && ltb q n) (h .2) in
-    let l = both (ltb j mostTypes) (ltb q n) (r .1) in
+    let r = both (ltb p n) (ltb (j .0) mostTypes && ltb q n) (h .2) in
+    let l = both (ltb (j .0) mostTypes) (ltb q n) (r .1) in
     omega (arith, eqb→eq, ltb→lt)
 passed g (Root a) z = let h = answered g (Root a) z in omega (arith, eqb→eq, ltb→lt)
 passed g Done z = let h = answered g Done z in omega (arith, eqb→eq)

@@ -18,10 +18,10 @@ use Rattle.commands.proofs.Drafts.{size-some, fuel-enough}
 -- a command's bytes
 abbrev pub bytesFor : Command → List ℕ
 bytesFor (Tags n) = 0x10 ∷ n ∷ []
-bytesFor (TypeBlock t s) = 0x11 ∷ t ∷ s ∷ []
+bytesFor (TypeBlock t s) = 0x11 ∷ t .0 ∷ s ∷ []
 bytesFor (Final q) = 0x12 ∷ q ∷ []
-bytesFor (Step p j q) = 0x13 ∷ p ∷ j ∷ q ∷ []
-bytesFor (Root a) = 0x14 ∷ a ∷ []
+bytesFor (Step p j q) = 0x13 ∷ p ∷ j .0 ∷ q ∷ []
+bytesFor (Root a) = 0x14 ∷ a .0 ∷ []
 bytesFor Done = 0x1f ∷ []
 bytesFor NoCommand = 0 ∷ []
 

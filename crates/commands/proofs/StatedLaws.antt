@@ -7,6 +7,7 @@ use native.Mathlib.Nat.{suc-add}
 use native.Mathlib.Omega.{arith}
 use lib.Dec.{ltb}
 use lib.ListN.{length, getD}
+use Rattle.sdtd.specs.declared.TypeNo.{TypeNo}
 use Rattle.schema.specs.States.{members}
 use Rattle.schema.specs.Value.{upFrom, stepAt, stepsOf, offset, blockAt}
 use Rattle.schema.specs.declared.value.Schema.{Schema}
@@ -48,12 +49,12 @@ offset-back t (d ∷ ds) h =
     offset-step (t .counts) (length ds) ∙ (λ i. offset-back t ds (h .1) i + h .0 .count i)
 
 -- the schema value of the tables
-abbrev pub valueOf : Tables → ℕ → ℕ → ℕ → Schema
+abbrev pub valueOf : Tables → ℕ → ℕ → TypeNo → Schema
 valueOf t tags types root =
     record {
       tags = tags;
       types = types;
-      root = record { 0 = root };
+      root = root;
       tag = t .tag;
       states = t .states;
       accepting = t .accepting;
@@ -63,7 +64,7 @@ valueOf t tags types root =
       to = t .to;
     }
 
-module _ (t : Tables) (tags types root : ℕ) where
+module _ (t : Tables) (tags types : ℕ) (root : TypeNo) where
   block-back : (d : Draft) (a s : ℕ) → offset (t .counts) a ≡ s → DraftHolds t d a s
       → blockAt (valueOf t tags types root) a ≡ blockBy d
   unfolding blockAt

@@ -140,7 +140,7 @@ fine-kept i g (Final q) p h =
     let l = h .counts .types-least (omega arith) in
     record { counts = omega arith; blocks = final-fine q (g .blocks) (p .1) (h .blocks) }
 fine-kept i g (Step x j y) p h =
-    let s : Placed = record { step = record { from = x; by = j; to = y }; place = i } in
+    let s : Placed = record { step = record { from = x; by = j .0; to = y }; place = i } in
     let n = step-counts s (g .blocks) in
     let t = h .counts .tags-least (omega arith) in
     let l = h .counts .types-least (omega arith) in

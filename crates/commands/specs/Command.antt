@@ -4,8 +4,17 @@ use mathlib.Core.List.{List}
 use Prim.Native.Nat.{ℕ, _+_}
 use lib.Dec.{eqb, leb}
 use lib.ListN.{length, getD}
+use Rattle.sdtd.specs.declared.Tag.{Tag}
+use Rattle.sdtd.specs.declared.TypeNo.{TypeNo}
 use Rattle.commands.specs.declared.command.Command.{Command}
 use Rattle.commands.specs.declared.command.Command.the-variants.{Tags, TypeBlock, Final, Step, Root, Done, NoCommand}
+
+-- the tag and the type with a number
+abbrev pub tagNo : ℕ → Tag
+tagNo g = record { 0 = g }
+
+abbrev pub typeNo : ℕ → TypeNo
+typeNo j = record { 0 = j }
 
 -- the operand number k of the command at the place i
 abbrev operand : List ℕ → ℕ → ℕ → ℕ
@@ -20,10 +29,10 @@ whole file i n c = cond (leb (i + n) (length file)) c NoCommand
 unfoldable pub commandOf : List ℕ → ℕ → ℕ → Command
 commandOf file i b =
     cond (eqb b 0x10) (whole file i 2 (Tags (operand file i 1)))
-    (cond (eqb b 0x11) (whole file i 3 (TypeBlock (operand file i 1) (operand file i 2)))
+    (cond (eqb b 0x11) (whole file i 3 (TypeBlock (tagNo (operand file i 1)) (operand file i 2)))
     (cond (eqb b 0x12) (whole file i 2 (Final (operand file i 1)))
-    (cond (eqb b 0x13) (whole file i 4 (Step (operand file i 1) (operand file i 2) (operand file i 3)))
-    (cond (eqb b 0x14) (whole file i 2 (Root (operand file i 1)))
+    (cond (eqb b 0x13) (whole file i 4 (Step (operand file i 1) (typeNo (operand file i 2)) (operand file i 3)))
+    (cond (eqb b 0x14) (whole file i 2 (Root (typeNo (operand file i 1))))
     (cond (eqb b 0x1f) (whole file i 1 Done) NoCommand)))))
 
 -- The command at the place i: none where the file ends, where the byte begins none of the six, or where its operands run past the end.

@@ -75,10 +75,10 @@ inOrder g NoCommand = false
 -- already given)?"
 abbrev pub inRange : Stated → Command → Bool
 inRange g (Tags n) = leb 1 n && leb n mostTags
-inRange g (TypeBlock t s) = ltb t (g .tags) && (leb 1 s && leb s mostStates)
+inRange g (TypeBlock t s) = ltb (t .0) (g .tags) && (leb 1 s && leb s mostStates)
 inRange g (Final q) = ltb q (current (g .blocks) .states)
-inRange g (Step p j q) = ltb p (current (g .blocks) .states) && (ltb j mostTypes && ltb q (current (g .blocks) .states))
-inRange g (Root a) = ltb a (length (g .blocks))
+inRange g (Step p j q) = ltb p (current (g .blocks) .states) && (ltb (j .0) mostTypes && ltb q (current (g .blocks) .states))
+inRange g (Root a) = ltb (a .0) (length (g .blocks))
 inRange g Done = true
 inRange g NoCommand = true
 
@@ -106,7 +106,7 @@ abbrev pub notGiven : Stated → Command → Bool
 notGiven g (Tags n) = true
 notGiven g (TypeBlock t s) = true
 notGiven g (Final q) = not (member q (current (g .blocks) .accepting))
-notGiven g (Step p j q) = not (hasStep p j q (current (g .blocks) .steps))
+notGiven g (Step p j q) = not (hasStep p (j .0) q (current (g .blocks) .steps))
 notGiven g (Root a) = true
 notGiven g Done = true
 notGiven g NoCommand = true
@@ -124,16 +124,16 @@ withStep s (d ∷ ds) = record { tag = d .tag; states = d .states; accepting = d
 unfoldable pub after : Stated → ℕ → Command → Stated
 after g i (Tags n) = record { phase = tagged; tags = n; blocks = g .blocks; root = g .root }
 after g i (TypeBlock t s) =
-    record { phase = inside; tags = g .tags; blocks = record { tag = t; states = s; accepting = 0; steps = [] } ∷ g .blocks; root = g .root }
+    record { phase = inside; tags = g .tags; blocks = record { tag = t .0; states = s; accepting = 0; steps = [] } ∷ g .blocks; root = g .root }
 after g i (Final q) = record { phase = inside; tags = g .tags; blocks = withFinal q (g .blocks); root = g .root }
 after g i (Step p j q) =
     record {
       phase = inside;
       tags = g .tags;
-      blocks = withStep (record { step = record { from = p; by = j; to = q }; place = i }) (g .blocks);
+      blocks = withStep (record { step = record { from = p; by = j .0; to = q }; place = i }) (g .blocks);
       root = g .root;
     }
-after g i (Root a) = record { phase = rooted; tags = g .tags; blocks = g .blocks; root = a }
+after g i (Root a) = record { phase = rooted; tags = g .tags; blocks = g .blocks; root = a .0 }
 after g i Done = record { phase = ended; tags = g .tags; blocks = g .blocks; root = g .root }
 after g i NoCommand = g
 

@@ -47,11 +47,11 @@ tables tag own final counts from by to places =
 unfoldable pub asked : State → ℕ → ℕ → Bool → Command → ℕ
 asked s own final given (Tags n) = cond (eqb (s .phase) 0) (cond (leb 1 n && leb n 32) 0 4) 3
 asked s own final given (TypeBlock t k) =
-    cond (eqb (s .phase) 1 || eqb (s .phase) 2) (cond (ltb t (s .tags) && (leb 1 k && leb k 32)) (cond (ltb (s .types) 64) 0 5) 4) 3
+    cond (eqb (s .phase) 1 || eqb (s .phase) 2) (cond (ltb (t .0) (s .tags) && (leb 1 k && leb k 32)) (cond (ltb (s .types) 64) 0 5) 4) 3
 asked s own final given (Final q) = cond (eqb (s .phase) 2) (cond (ltb q own) (cond (member q final) 6 0) 4) 3
 asked s own final given (Step p j q) =
-    cond (eqb (s .phase) 2) (cond (ltb p own && (ltb j 64 && ltb q own)) (cond (ltb (s .count) 1024) (cond given 6 0) 5) 4) 3
-asked s own final given (Root a) = cond (eqb (s .phase) 2) (cond (ltb a (s .types)) 0 4) 3
+    cond (eqb (s .phase) 2) (cond (ltb p own && (ltb (j .0) 64 && ltb q own)) (cond (ltb (s .count) 1024) (cond given 6 0) 5) 4) 3
+asked s own final given (Root a) = cond (eqb (s .phase) 2) (cond (ltb (a .0) (s .types)) 0 4) 3
 asked s own final given Done = cond (eqb (s .phase) 3) 0 3
 asked s own final given NoCommand = 2
 
@@ -129,9 +129,9 @@ withOneStep t a n p j q i =
 -- the tables after the command at the place i, which passed its questions
 unfoldable pub tablesAfter : State → Tables → ℕ → Command → Tables
 tablesAfter s t i (Tags n) = t
-tablesAfter s t i (TypeBlock g k) = withType t (s .types % 64) g k
+tablesAfter s t i (TypeBlock g k) = withType t (s .types % 64) (g .0) k
 tablesAfter s t i (Final q) = withAccepting t (lastType s) q
-tablesAfter s t i (Step p j q) = withOneStep t (lastType s) (s .count % 1024) p j q i
+tablesAfter s t i (Step p j q) = withOneStep t (lastType s) (s .count % 1024) p (j .0) q i
 tablesAfter s t i (Root a) = t
 tablesAfter s t i Done = t
 tablesAfter s t i NoCommand = t
@@ -145,7 +145,7 @@ unfoldable pub givenAlready : ℕ → List ℕ → List ℕ → List ℕ → ℕ
 givenAlready count from by to n (Tags k) = false
 givenAlready count from by to n (TypeBlock g k) = false
 givenAlready count from by to n (Final q) = false
-givenAlready count from by to n (Step p j q) = givenLast from by to p j q count n
+givenAlready count from by to n (Step p j q) = givenLast from by to p (j .0) q count n
 givenAlready count from by to n (Root a) = false
 givenAlready count from by to n Done = false
 givenAlready count from by to n NoCommand = false

@@ -6,6 +6,7 @@ use lib.ListN.{getD, replicate}
 use Rattle.sdtd.specs.Limits.{mostTypes, mostSteps}
 use Rattle.schema.specs.Value.{offset, meaning}
 use Rattle.schema.specs.declared.value.Schema.{Schema}
+use Rattle.commands.specs.Command.{typeNo}
 use Rattle.commands.specs.File.{Stated, schemaBy}
 
 -- the schema value beside a refusal: no tag, no type
@@ -14,7 +15,7 @@ noSchema =
     record {
       tags = 0;
       types = 0;
-      root = record { 0 = 0 };
+      root = typeNo 0;
       tag = replicate mostTypes 0;
       states = replicate mostTypes 0;
       accepting = replicate mostTypes 0;

@@ -1,14 +1,16 @@
 // Commands of the schema file.
+use sdtd::Tag;
+use sdtd::TypeNo;
 ghost use mathlib.Core.Path.{_≡_};
 ghost use Rattle.commands.specs.Command.{commandAt, size};
 
 // A command with its operands, or that there is none.
 pub(crate) enum Command {
     Tags(u8),
-    TypeBlock(u8, u8),
+    TypeBlock(Tag, u8),
     Final(u8),
-    Step(u8, u8, u8),
-    Root(u8),
+    Step(u8, TypeNo, u8),
+    Root(TypeNo),
     Done,
     NoCommand,
 }
@@ -32,7 +34,7 @@ pub(crate) fn command_at(file: &[u8], at: usize) -> Command
         if left < 3 {
             return Command::NoCommand;
         }
-        return Command::TypeBlock(file[at + 1], file[at + 2]);
+        return Command::TypeBlock(Tag(file[at + 1]), file[at + 2]);
     }
     if b == 0x12 {
         if left < 2 {
@@ -44,13 +46,13 @@ pub(crate) fn command_at(file: &[u8], at: usize) -> Command
         if left < 4 {
             return Command::NoCommand;
         }
-        return Command::Step(file[at + 1], file[at + 2], file[at + 3]);
+        return Command::Step(file[at + 1], TypeNo(file[at + 2]), file[at + 3]);
     }
     if b == 0x14 {
         if left < 2 {
             return Command::NoCommand;
         }
-        return Command::Root(file[at + 1]);
+        return Command::Root(TypeNo(file[at + 1]));
     }
     if b == 0x1f {
         return Command::Done;

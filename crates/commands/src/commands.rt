@@ -11,6 +11,7 @@ use crate::tables::add_type;
 use crate::tables::given_already;
 use schema::STEPS;
 use schema::Schema;
+use schema::StateSet;
 use schema::TYPES;
 use sdtd::TypeNo;
 ghost use mathlib.Core.Path.{_≡_};
@@ -110,7 +111,7 @@ pub fn no_schema() -> Schema
         root: TypeNo(0),
         tag: [0; TYPES],
         states: [0; TYPES],
-        accepting: [0; TYPES],
+        accepting: [StateSet::NONE.0; TYPES],
         steps: [0; TYPES],
         from: [0; STEPS],
         by: [0; STEPS],
@@ -136,7 +137,7 @@ fn pass_commands(file: &[u8]) -> Passed
 {
     let mut tag = [0u8; TYPES];
     let mut states = [0u8; TYPES];
-    let mut accepting = [0u32; TYPES];
+    let mut accepting = [StateSet::NONE.0; TYPES];
     let mut counts = [0u16; TYPES];
     let mut from = [0u8; STEPS];
     let mut by = [0u8; STEPS];
@@ -146,7 +147,7 @@ fn pass_commands(file: &[u8]) -> Passed
         phase: 0,
         tags: 0,
         types: 0,
-        root: 0,
+        root: TypeNo(0),
         count: 0,
     };
     let mut at = 0;
@@ -177,12 +178,13 @@ fn pass_commands(file: &[u8]) -> Passed
     if at < file.len() {
         return not_passed(3, at);
     }
+    let root = state.root;
     Passed {
         outcome: Outcome::AllStated,
         schema: Schema {
             tags: state.tags,
             types: (state.types % 256) as u8,
-            root: TypeNo(state.root),
+            root,
             tag,
             states,
             accepting,
@@ -208,7 +210,8 @@ fn first_unknown<'a>(
 {
     let mut i = 0;
     while i < count {
-        if types <= by[i] {
+        let j = TypeNo(by[i]);
+        if types <= j.0 {
             return Unknown::At(places[i]);
         }
         i += 1;

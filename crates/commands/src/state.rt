@@ -5,6 +5,8 @@ use schema::STEPS;
 use schema::StateSet;
 use schema::TAGS;
 use schema::TYPES;
+use sdtd::Tag;
+use sdtd::TypeNo;
 ghost use mathlib.Core.Path.{_≡_};
 ghost use mathlib.Core.Bool.{false};
 ghost use Rattle.commands.specs.declared.command.Command.the-variants.{TypeBlock, Final, Step};
@@ -18,12 +20,12 @@ pub(crate) struct State {
     pub phase: u8,
     pub tags: u8,
     pub types: usize,
-    pub root: u8,
+    pub root: TypeNo,
     pub count: usize,
 }
 
 // What a TYPE is asked; 0 where it passes.
-fn type_asked(state: State, tag: u8, states: u8) -> u8
+fn type_asked(state: State, tag: Tag, states: u8) -> u8
     ensures { λ r. ⌜ r ≡ asked state 0 0 false (TypeBlock tag states) ⌝ }
 {
     if state.phase != 1 {
@@ -31,7 +33,7 @@ fn type_asked(state: State, tag: u8, states: u8) -> u8
             return 3;
         }
     }
-    if state.tags <= tag {
+    if state.tags <= tag.0 {
         return 4;
     }
     if states == 0 {
@@ -63,7 +65,7 @@ fn final_asked(state: State, own: u8, accepting: u32, q: u8) -> u8
 }
 
 // What a STEP is asked, of a block with `own` states.
-fn step_asked(state: State, own: u8, given: bool, p: u8, j: u8, q: u8) -> u8
+fn step_asked(state: State, own: u8, given: bool, p: u8, j: TypeNo, q: u8) -> u8
     ensures { λ r. ⌜ r ≡ asked state own 0 given (Step p j q) ⌝ }
 {
     if state.phase != 2 {
@@ -72,7 +74,7 @@ fn step_asked(state: State, own: u8, given: bool, p: u8, j: u8, q: u8) -> u8
     if own <= p {
         return 4;
     }
-    if TYPE_NUMBERS <= j {
+    if TYPE_NUMBERS <= j.0 {
         return 4;
     }
     if own <= q {
@@ -109,7 +111,7 @@ fn other_asked(state: State, command: Command) -> u8
             if phase != 2 {
                 return 3;
             }
-            if state.types <= a as usize {
+            if state.types <= a.0 as usize {
                 return 4;
             }
             0
@@ -141,26 +143,27 @@ pub(crate) fn asked_of(state: State, own: u8, accepting: u32, given: bool, comma
 pub(crate) fn state_after(state: State, command: Command) -> State
     ensures { λ r. ⌜ r ≡ stateAfter state command ⌝ }
 {
+    let root = state.root;
     match command {
         Command::Tags(n) => State {
             phase: 1,
             tags: n,
             types: state.types,
-            root: state.root,
+            root,
             count: state.count,
         },
         Command::TypeBlock(_, _) => State {
             phase: 2,
             tags: state.tags,
             types: state.types % TYPES + 1,
-            root: state.root,
+            root,
             count: state.count,
         },
         Command::Step(_, _, _) => State {
             phase: state.phase,
             tags: state.tags,
             types: state.types,
-            root: state.root,
+            root,
             count: state.count % STEPS + 1,
         },
         Command::Root(a) => State {
@@ -174,7 +177,7 @@ pub(crate) fn state_after(state: State, command: Command) -> State
             phase: 4,
             tags: state.tags,
             types: state.types,
-            root: state.root,
+            root,
             count: state.count,
         },
         _ => state,

@@ -3,6 +3,8 @@ use crate::command::Command;
 use schema::STEPS;
 use schema::StateSet;
 use schema::TYPES;
+use sdtd::Tag;
+use sdtd::TypeNo;
 ghost use mathlib.Core.Path.{_≡_};
 ghost use Prim.Native.Nat.{_+_, _%_, _≤_, _<_};
 ghost use lib.ListN.{getD, set};
@@ -15,10 +17,10 @@ ghost use Rattle.commands.specs.Tables.{givenIn, givenLast, givenAlready
 const MOST_COUNT: u16 = STEPS as u16;
 
 // Is the step f, b, t the step p, j, q? All three parts are compared, with no branch.
-fn same_step(f: u8, b: u8, t: u8, p: u8, j: u8, q: u8) -> bool
-    ensures { λ r. ⌜ r ≡ sameStep p j q (record { from = f; by = b; to = t }) ⌝ }
+fn same_step(f: u8, b: TypeNo, t: u8, p: u8, j: TypeNo, q: u8) -> bool
+    ensures { λ r. ⌜ r ≡ sameStep p (j .0) q (record { from = f; by = b .0; to = t }) ⌝ }
 {
-    (f == p) & ((b == j) & (t == q))
+    (f == p) & (b.same(j) & (t == q))
 }
 
 // Is one of the n steps from start on this one? All of them are compared.
@@ -29,17 +31,17 @@ fn has_step<'a>(
     start: usize,
     n: usize,
     p: u8,
-    j: u8,
+    j: TypeNo,
     q: u8,
 ) -> bool
     requires { ⌜ start + n ≤ mostSteps ⌝ }
-    ensures { λ r. ⌜ r ≡ givenIn (now (from .entry)) (now (by .entry)) (now (to .entry)) p j q start n ⌝ }
+    ensures { λ r. ⌜ r ≡ givenIn (now (from .entry)) (now (by .entry)) (now (to .entry)) p (j .0) q start n ⌝ }
 {
     let end = start + n;
     let mut found = false;
     let mut i = start;
     while i < end {
-        let same = same_step(from[i], by[i], to[i], p, j, q);
+        let same = same_step(from[i], TypeNo(by[i]), to[i], p, j, q);
         found = found | same;
         i += 1;
     }
@@ -54,10 +56,10 @@ fn has_last<'a>(
     count: usize,
     n: usize,
     p: u8,
-    j: u8,
+    j: TypeNo,
     q: u8,
 ) -> bool
-    ensures { λ r. ⌜ r ≡ givenLast (now (from .entry)) (now (by .entry)) (now (to .entry)) p j q count n ⌝ }
+    ensures { λ r. ⌜ r ≡ givenLast (now (from .entry)) (now (by .entry)) (now (to .entry)) p (j .0) q count n ⌝ }
 {
     if count < n {
         return false;
@@ -85,25 +87,25 @@ pub(crate) fn given_already<'a>(
     }
 }
 
-// One type more.
+// One type more, at the place a of the tables.
 pub(crate) fn add_type<'a>(
     tag: &'a mut [u8; TYPES],
     states: &'a mut [u8; TYPES],
     accepting: &'a mut [u32; TYPES],
     counts: &'a mut [u16; TYPES],
     a: usize,
-    g: u8,
+    g: Tag,
     k: u8,
 )
     requires { ⌜ a < mostTypes ⌝ }
-    ensures { λ _. ⌜ (now (tag .exit) ≡ set (now (tag .entry)) a g)
+    ensures { λ _. ⌜ (now (tag .exit) ≡ set (now (tag .entry)) a (g .0))
         × (now (states .exit) ≡ set (now (states .entry)) a k)
         × (now (accepting .exit) ≡ set (now (accepting .entry)) a 0)
         × (now (counts .exit) ≡ set (now (counts .entry)) a 0) ⌝ }
 {
-    tag[a] = g;
+    tag[a] = g.0;
     states[a] = k;
-    accepting[a] = 0;
+    accepting[a] = StateSet::NONE.0;
     counts[a] = 0;
 }
 
@@ -126,20 +128,20 @@ pub(crate) fn add_step<'a>(
     a: usize,
     n: usize,
     p: u8,
-    j: u8,
+    j: TypeNo,
     q: u8,
     at: usize,
 )
     requires { ⌜ (a < mostTypes) × (n < mostSteps) ⌝ }
     ensures { λ _. ⌜ (now (counts .exit) ≡ set (now (counts .entry)) a (getD (now (counts .entry)) a 0 % mostSteps + 1))
         × (now (from .exit) ≡ set (now (from .entry)) n p)
-        × (now (by .exit) ≡ set (now (by .entry)) n j)
+        × (now (by .exit) ≡ set (now (by .entry)) n (j .0))
         × (now (to .exit) ≡ set (now (to .entry)) n q)
         × (now (places .exit) ≡ set (now (places .entry)) n at) ⌝ }
 {
     counts[a] = counts[a] % MOST_COUNT + 1;
     from[n] = p;
-    by[n] = j;
+    by[n] = j.0;
     to[n] = q;
     places[n] = at;
 }

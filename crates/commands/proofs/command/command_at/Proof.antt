@@ -72,11 +72,11 @@ add-t14 c = search needs
 shared-slice-read-t16 : tie.Need-shared-slice-read-t16
 shared-slice-read-t16 c = search needs
 
-add-t17 : tie.Need-add-t17
-add-t17 c = search needs
+add-t18 : tie.Need-add-t18
+add-t18 c = search needs
 
-shared-slice-read-t19 : tie.Need-shared-slice-read-t19
-shared-slice-read-t19 c = search needs
+shared-slice-read-t20 : tie.Need-shared-slice-read-t20
+shared-slice-read-t20 c = search needs
 
 returns-5 : tie.Need-returns-5
 unfolding commandOf
@@ -90,11 +90,11 @@ returns-6 c =
     let a = c .before .before .before .before .before .before .args in
     short (a .file .now) (a .at) 18 2 _ (omega arith) (omega arith) (omega arith) refl
 
-add-t21 : tie.Need-add-t21
-add-t21 c = search needs
+add-t22 : tie.Need-add-t22
+add-t22 c = search needs
 
-shared-slice-read-t23 : tie.Need-shared-slice-read-t23
-shared-slice-read-t23 c = search needs
+shared-slice-read-t24 : tie.Need-shared-slice-read-t24
+shared-slice-read-t24 c = search needs
 
 returns-7 : tie.Need-returns-7
 unfolding commandOf
@@ -108,23 +108,23 @@ returns-8 c =
     let a = c .before .before .before .before .before .before .before .args in
     short (a .file .now) (a .at) 19 4 _ (omega arith) (omega arith) (omega arith) refl
 
-add-t25 : tie.Need-add-t25
-add-t25 c = search needs
+add-t26 : tie.Need-add-t26
+add-t26 c = search needs
 
-shared-slice-read-t27 : tie.Need-shared-slice-read-t27
-shared-slice-read-t27 c = search needs
+shared-slice-read-t28 : tie.Need-shared-slice-read-t28
+shared-slice-read-t28 c = search needs
 
-add-t28 : tie.Need-add-t28
-add-t28 c = search needs
+add-t29 : tie.Need-add-t29
+add-t29 c = search needs
 
-shared-slice-read-t30 : tie.Need-shared-slice-read-t30
-shared-slice-read-t30 c = search needs
+shared-slice-read-t31 : tie.Need-shared-slice-read-t31
+shared-slice-read-t31 c = search needs
 
-add-t31 : tie.Need-add-t31
-add-t31 c = search needs
+add-t33 : tie.Need-add-t33
+add-t33 c = search needs
 
-shared-slice-read-t33 : tie.Need-shared-slice-read-t33
-shared-slice-read-t33 c = search needs
+shared-slice-read-t35 : tie.Need-shared-slice-read-t35
+shared-slice-read-t35 c = search needs
 
 returns-9 : tie.Need-returns-9
 unfolding commandOf
@@ -138,11 +138,11 @@ returns-10 c =
     let a = c .before .before .before .before .before .before .before .before .args in
     short (a .file .now) (a .at) 20 2 _ (omega arith) (omega arith) (omega arith) refl
 
-add-t35 : tie.Need-add-t35
-add-t35 c = search needs
+add-t37 : tie.Need-add-t37
+add-t37 c = search needs
 
-shared-slice-read-t37 : tie.Need-shared-slice-read-t37
-shared-slice-read-t37 c = search needs
+shared-slice-read-t39 : tie.Need-shared-slice-read-t39
+shared-slice-read-t39 c = search needs
 
 returns-11 : tie.Need-returns-11
 unfolding commandOf
@@ -189,24 +189,24 @@ command-at-spec =
     returns-4
     add-t14
     shared-slice-read-t16
-    add-t17
-    shared-slice-read-t19
+    add-t18
+    shared-slice-read-t20
     returns-5
     returns-6
-    add-t21
-    shared-slice-read-t23
+    add-t22
+    shared-slice-read-t24
     returns-7
     returns-8
-    add-t25
-    shared-slice-read-t27
-    add-t28
-    shared-slice-read-t30
-    add-t31
-    shared-slice-read-t33
+    add-t26
+    shared-slice-read-t28
+    add-t29
+    shared-slice-read-t31
+    add-t33
+    shared-slice-read-t35
     returns-9
     returns-10
-    add-t35
-    shared-slice-read-t37
+    add-t37
+    shared-slice-read-t39
     returns-11
     returns-12
     returns-13)

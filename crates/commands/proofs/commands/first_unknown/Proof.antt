@@ -40,18 +40,18 @@ loop-holds c =
     let e : c .args .count - 0 ≡ c .args .count = omega arith in
     (omega arith, rw e)
 
-element-copy-out-if1 : tie.Need-element-copy-out-if1 Inv-loop μ-loop
-element-copy-out-if1 c = omega arith
+element-copy-out-t10 : tie.Need-element-copy-out-t10 Inv-loop μ-loop
+element-copy-out-t10 c = omega arith
 
-mul-t10 : tie.Need-mul-t10 Inv-loop μ-loop
-mul-t10 c = omega arith
+mul-t11 : tie.Need-mul-t11 Inv-loop μ-loop
+mul-t11 c = omega arith
 
-element-copy-out-t13 : tie.Need-element-copy-out-t13 Inv-loop μ-loop
-element-copy-out-t13 c = omega arith
+element-copy-out-t14 : tie.Need-element-copy-out-t14 Inv-loop μ-loop
+element-copy-out-t14 c = omega arith
 
 returns : tie.Need-returns Inv-loop μ-loop
 returns c =
-    let l = c .before .before .before .before .loop in
+    let l = c .before .before .before .before .before .loop in
     rw (← l .inv .1) (here _ _ _ _ _ (omega arith) (c .before .if1 .taken))
 
 add-i : tie.Need-add-i Inv-loop μ-loop
@@ -61,7 +61,7 @@ loop-less : tie.Need-loop-less Inv-loop μ-loop
 loop-less c = omega arith
 
 loop-again : tie.Need-loop-again Inv-loop μ-loop
-loop-again c = (omega arith, later _ _ _ _ _ (omega arith) (c .if1 .left) ∙ c .before .before .before .loop .inv .1)
+loop-again c = (omega arith, later _ _ _ _ _ (omega arith) (c .if1 .left) ∙ c .before .before .before .before .loop .inv .1)
 
 returns-2 : tie.Need-returns-2 Inv-loop μ-loop
 returns-2 c = sym (c .before .loop .inv .1) ∙ none-left _ _ _ _ _ (omega arith)
@@ -73,9 +73,9 @@ first-unknown-spec =
     Inv-loop
     μ-loop
     loop-holds
-    element-copy-out-if1
-    mul-t10
-    element-copy-out-t13
+    element-copy-out-t10
+    mul-t11
+    element-copy-out-t14
     returns
     add-i
     loop-less

@@ -170,13 +170,14 @@ returns-2 c =
     let e1 = c .before .before in
     rw (c .not-passed2 .ensures) (reads-over (e1 .before .before .loop .inv) (e1 .if1 .left) (c .before .if3 .taken))
 
-cast-t43 : tie.Need-cast-t43 Inv-loop μ-loop
-cast-t43 c = omega arith
+cast-t46 : tie.Need-cast-t46 Inv-loop μ-loop
+cast-t46 c = omega arith
 
 returns-3 : tie.Need-returns-3 Inv-loop μ-loop
 returns-3 c =
-    let e1 = c .before .before in
-    reads-stated (e1 .before .before .loop .inv) (e1 .if1 .left) (c .before .if3 .left)
+    let e3 = c .before .before in
+    let e1 = e3 .before in
+    reads-stated (e1 .before .before .loop .inv) (e1 .if1 .left) (e3 .if3 .left)
 
 pub pass-commands-spec : {M : Type 1} → statement M
 pass-commands-spec =
@@ -204,5 +205,5 @@ pass-commands-spec =
     loop-again
     not-passed-requires-2
     returns-2
-    cast-t43
+    cast-t46
     returns-3)

@@ -56,7 +56,7 @@ cast-if5 c = search needs
 returns-5 : tie.Need-returns-5
 unfolding asked otherAsked
 returns-5 c =
-    let e4 = c .before .before in
+    let e4 = c .before .before .before in
     rw (e4 .before .before .command2 .given .1, e4 .if4 .left, le-ltb _ _ (c .if5 .taken))
 
 enum-told : tie.Need-enum-told
@@ -76,7 +76,7 @@ returns-7 c =
 returns-8 : tie.Need-returns-8
 unfolding asked otherAsked
 returns-8 c =
-    let e4 = c .before .before in
+    let e4 = c .before .before .before in
     rw (e4 .before .before .command2 .given .1, e4 .if4 .left, lt-ltb _ _ (c .if5 .left))
 
 returns-9 : tie.Need-returns-9

@@ -29,14 +29,14 @@ enum-known-command c = search needs
 enum-told : tie.Need-enum-told
 enum-told c = search needs
 
-add-t7 : tie.Need-add-t7
-add-t7 c = search needs
+add-t8 : tie.Need-add-t8
+add-t8 c = search needs
 
 enum-told-2 : tie.Need-enum-told-2
 enum-told-2 c = search needs
 
-add-t9 : tie.Need-add-t9
-add-t9 c = search needs
+add-t10 : tie.Need-add-t10
+add-t10 c = search needs
 
 enum-known-command-2 : tie.Need-enum-known-command-2
 enum-known-command-2 c = search needs
@@ -73,9 +73,9 @@ state-after-spec =
     (tie.spec
     enum-known-command
     enum-told
-    add-t7
+    add-t8
     enum-told-2
-    add-t9
+    add-t10
     enum-known-command-2
     enum-told-3
     returns

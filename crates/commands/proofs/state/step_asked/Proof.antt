@@ -15,14 +15,14 @@ returns-2 c = rw (c .before .if1 .left, le-ltb _ _ (c .if2 .taken))
 returns-3 : tie.Need-returns-3
 unfolding asked
 returns-3 c =
-    let e2 = c .before in
+    let e2 = c .before .before in
     rw (e2 .before .if1 .left, lt-ltb _ _ (e2 .if2 .left), le-ltb _ _ (c .if3 .taken))
 
 returns-4 : tie.Need-returns-4
 unfolding asked
 returns-4 c =
     let e3 = c .before in
-    let e2 = e3 .before in
+    let e2 = e3 .before .before in
     rw (e2 .before .if1 .left, lt-ltb _ _ (e2 .if2 .left), lt-ltb _ _ (e3 .if3 .left), le-ltb _ _ (c .if4 .taken))
 
 returns-5 : tie.Need-returns-5
@@ -30,7 +30,7 @@ unfolding asked
 returns-5 c =
     let e4 = c .before .before in
     let e3 = e4 .before in
-    let e2 = e3 .before in
+    let e2 = e3 .before .before in
     rw
     (e2 .before .if1 .left, lt-ltb _ _ (e2 .if2 .left), lt-ltb _ _ (e3 .if3 .left), lt-ltb _ _ (e4 .if4 .left), le-ltb _ _ (c .if5 .taken))
 
@@ -40,7 +40,7 @@ returns-6 c =
     let e5 = c .before in
     let e4 = e5 .before .before in
     let e3 = e4 .before in
-    let e2 = e3 .before in
+    let e2 = e3 .before .before in
     rw (
       e2 .before .if1 .left,
       lt-ltb _ _ (e2 .if2 .left),
@@ -56,7 +56,7 @@ returns-7 c =
     let e5 = c .before in
     let e4 = e5 .before .before in
     let e3 = e4 .before in
-    let e2 = e3 .before in
+    let e2 = e3 .before .before in
     rw (
       e2 .before .if1 .left,
       lt-ltb _ _ (e2 .if2 .left),

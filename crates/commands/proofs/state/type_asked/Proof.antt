@@ -26,26 +26,26 @@ returns c = rw (ne-eqb _ 1 (c .before .before .if1 .taken), ne-eqb _ 2 (c .if2 .
 
 returns-2 : tie.Need-returns-2
 unfolding asked
-returns-2 c = rw (opened (c .before .before), le-ltb _ _ (c .if3 .taken))
+returns-2 c = rw (opened (c .before .before .before), le-ltb _ _ (c .if3 .taken))
 
 returns-3 : tie.Need-returns-3
 unfolding asked
-returns-3 c = rw (opened (c .before .before .before), lt-ltb _ _ (c .before .if3 .left), c .if4 .taken)
+returns-3 c = rw (opened (c .before .before .before .before), lt-ltb _ _ (c .before .if3 .left), c .if4 .taken)
 
 returns-4 : tie.Need-returns-4
 unfolding asked
 returns-4 c =
     let e3 = c .before .before in
-    let k = e3 .before .before .before .before .args .states in
-    rw (opened (e3 .before .before), lt-ltb _ _ (e3 .if3 .left), le-leb 1 k (omega arith), lt-leb k 32 (omega arith))
+    let k = e3 .before .before .before .before .before .args .states in
+    rw (opened (e3 .before .before .before), lt-ltb _ _ (e3 .if3 .left), le-leb 1 k (omega arith), lt-leb k 32 (omega arith))
 
 returns-5 : tie.Need-returns-5
 unfolding asked
 returns-5 c =
     let e3 = c .before .before .before .before in
-    let k = e3 .before .before .before .before .args .states in
+    let k = e3 .before .before .before .before .before .args .states in
     rw (
-      opened (e3 .before .before),
+      opened (e3 .before .before .before),
       lt-ltb _ _ (e3 .if3 .left),
       le-leb 1 k (omega arith),
       le-leb k 32 (omega arith),
@@ -56,9 +56,9 @@ returns-6 : tie.Need-returns-6
 unfolding asked
 returns-6 c =
     let e3 = c .before .before .before .before in
-    let k = e3 .before .before .before .before .args .states in
+    let k = e3 .before .before .before .before .before .args .states in
     rw (
-      opened (e3 .before .before),
+      opened (e3 .before .before .before),
       lt-ltb _ _ (e3 .if3 .left),
       le-leb 1 k (omega arith),
       le-leb k 32 (omega arith),

@@ -36,7 +36,7 @@ module _ (from by to : List ℕ) (p j q i : ℕ) (found : Bool) where
 
 abbrev Inv-loop : tie.InvT-loop
 Inv-loop from by to start n p j q end found₀ i₀ found i =
-    (start ≤ i) × (i ≤ end) × ((found || givenIn from by to p j q i (end - i)) ≡ givenIn from by to p j q start n)
+    (start ≤ i) × (i ≤ end) × ((found || givenIn from by to p (j .0) q i (end - i)) ≡ givenIn from by to p (j .0) q start n)
 
 abbrev μ-loop : tie.MeasureT-loop
 μ-loop from by to start n p j q end found₀ i₀ found i = end - i
@@ -53,11 +53,11 @@ loop-holds c =
 element-copy-out-same-step : tie.Need-element-copy-out-same-step Inv-loop μ-loop
 element-copy-out-same-step c = omega arith
 
+element-copy-out-t19 : tie.Need-element-copy-out-t19 Inv-loop μ-loop
+element-copy-out-t19 c = omega arith
+
 element-copy-out-same-step-2 : tie.Need-element-copy-out-same-step-2 Inv-loop μ-loop
 element-copy-out-same-step-2 c = omega arith
-
-element-copy-out-same-step-3 : tie.Need-element-copy-out-same-step-3 Inv-loop μ-loop
-element-copy-out-same-step-3 c = omega arith
 
 same-step-requires : tie.Need-same-step-requires Inv-loop μ-loop
 same-step-requires c κs = search needs
@@ -72,8 +72,9 @@ loop-again : tie.Need-loop-again Inv-loop μ-loop
 loop-again c =
     let k = c .before .before .before .before .before in
     let a = k .before .args in
-    let more = later (a .from .now) (a .by .now) (a .to .now) (a .p) (a .j) (a .q) (k .loop .i) (k .loop .found) (a .start + a .n) (omega arith) in
-    (omega arith, omega arith, rw (c .same-step .ensures) (more ∙ k .loop .inv .2))
+    let l = k .loop in
+    let more = later (a .from .now) (a .by .now) (a .to .now) (a .p) (a .j .0) (a .q) (l .i) (l .found) (a .start + a .n) (omega arith) in
+    (omega arith, omega arith, rw (c .same-step .ensures) (more ∙ l .inv .2))
 
 returns : tie.Need-returns Inv-loop μ-loop
 returns c = sym (none-left _ _ _ _ _ _ _ _ _ (omega arith)) ∙ c .before .loop .inv .2
@@ -87,8 +88,8 @@ has-step-spec =
     add-end
     loop-holds
     element-copy-out-same-step
+    element-copy-out-t19
     element-copy-out-same-step-2
-    element-copy-out-same-step-3
     same-step-requires
     add-i
     loop-less
