@@ -40,8 +40,6 @@ pub record WordTo (S : Schema) (a : ℕ) (w : List ℕ) (p q : ℕ) : Type 0 whe
 
 -- j and k compete in a after w, the smaller first, and w is short enough for a witness
 pub record CompeteEither (S : Schema) (a : ℕ) (w : List ℕ) (j k : ℕ) : Type 0 where
-  pub first-below : j < length (S .blocks)
-  pub second-below : k < length (S .blocks)
   pub different : j ≢ k
   pub rising : j < k → Compete S a w j k
   pub falling : k < j → Compete S a w k j
@@ -200,16 +198,12 @@ module _ {S : Schema} {a : ℕ} {next bears tag : List ℕ} {own types : ℕ} (c
       let lq : secondOf (getD queue at 0) < 32 = omega arith in
       let w = trail-word (r .trail) in
       let x = r .rivals in
-      let lj = x .below in
-      let lk = x .rival .below in
       record {
-        first-below = omega (arith, lj, c .types-is);
-        second-below = omega (arith, lk, c .types-is);
         different = λ e. x .rival .different (sym e);
         rising = rivals-compete (u .0) (u .1) (w .left) (w .right) (w .bear) (rivals-steps lp lq .0 x .0);
         falling =
             rivals-compete (u .0) (u .1) (w .right) (w .left) (w .bear)
-            (ahead-rivals lq lp lk lj (x .rival .one-tag) (x .rival .ahead) (x .ahead));
+            (ahead-rivals lq lp (x .rival .below) (x .below) (x .rival .one-tag) (x .rival .ahead) (x .ahead));
         short = omega (arith, trail-short (r .trail), r .trail .inside);
       }
 

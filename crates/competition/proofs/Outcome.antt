@@ -85,7 +85,7 @@ module _ (v : Schema) (t : Trimming) (within : WithinLimits (meaning v)) (exact 
   module _ (a at j k : ℕ) (queue : List ℕ) (inside : a < v .types)
       (found : CompetingIn (next a) (t .live) (v .tag) (t .reached) (v .types) a queue at j k)
       (smaller : (c : ℕ) → c < a → RestrainedIn (next c) (t .live) (v .tag) (t .reached) (v .types) c) where
-    pub competing : CompeteEither (meaning v) a (wordTo at queue at) j k
+    competing : CompeteEither (meaning v) a (wordTo at queue at) j k
     competing = trail-competes (prepared a inside) (is-useful a .0 (found .useful)) (found .found)
 
     smallest : (c : ℕ) → CompeteIn (meaning v) c → a ≤ c

@@ -49,7 +49,7 @@ pub record TrailToRivals (next bears tag : List ℕ) (own types : ℕ) (queue : 
   pub rivals : AreRivals next bears tag own types (firstOf (getD queue at 0)) (secondOf (getD queue at 0)) j k
 
 abbrev pub FoundMeans : List ℕ → List ℕ → List ℕ → ℕ → ℕ → List ℕ → Found → Type 0
-FoundMeans next bears tag own types queue (At at j k) = TrailToRivals next bears tag own types queue at j k
+FoundMeans next bears tag own types queue (At at j k) = TrailToRivals next bears tag own types queue at (j .0) (k .0)
 FoundMeans next bears tag own types queue Nowhere = (reached : List Bool) × ClosedPairs next bears tag own types reached
 
 -- the type a is reached and bears a tree, by the tables
@@ -66,7 +66,7 @@ abbrev pub RestrainedIn : List ℕ → List ℕ → List ℕ → List Bool → �
 RestrainedIn next live tag reached types a = T (isUseful live reached a) → (r : List Bool) × ClosedPairs next live tag (getD live a 0) types r
 
 abbrev pub SearchedAt : List ℕ → List ℕ → List ℕ → List Bool → ℕ → ℕ → List ℕ → Found → Type 0
-SearchedAt next live tag reached types a queue (At at j k) = CompetingIn next live tag reached types a queue at j k
+SearchedAt next live tag reached types a queue (At at j k) = CompetingIn next live tag reached types a queue at (j .0) (k .0)
 SearchedAt next live tag reached types a queue Nowhere = RestrainedIn next live tag reached types a
 
 -- the table of next states of the type a, where `part s n` are the n steps from the place s on
@@ -76,8 +76,8 @@ nextOf part steps a = nextSteps (part (offset steps a) (getD steps a 0)) (replic
 -- the smallest type in which two compete, by the tables; or none
 abbrev pub CompetingMeans : (ℕ → ℕ → List Step) → List ℕ → List ℕ → List ℕ → List Bool → ℕ → List ℕ → Competing → Type 0
 CompetingMeans part steps live tag reached types queue (In a at j k) =
-    (a < types)
-    × CompetingIn (nextOf part steps a) live tag reached types a queue at j k
-    × ((c : ℕ) → c < a → RestrainedIn (nextOf part steps c) live tag reached types c)
+    (a .0 < types)
+    × CompetingIn (nextOf part steps (a .0)) live tag reached types (a .0) queue at (j .0) (k .0)
+    × ((c : ℕ) → c < a .0 → RestrainedIn (nextOf part steps c) live tag reached types c)
 CompetingMeans part steps live tag reached types queue NoneIn =
     (c : ℕ) → c < types → RestrainedIn (nextOf part steps c) live tag reached types c

@@ -26,7 +26,7 @@ pub record IsRival (next bears tag : List ℕ) (own types s j k : ℕ) : Type 0 
   pub ahead : Ahead next bears own s k
 
 abbrev pub RivalMeans : List ℕ → List ℕ → List ℕ → ℕ → ℕ → ℕ → ℕ → Rival → Type 0
-RivalMeans next bears tag own types s j (One k) = IsRival next bears tag own types s j k
+RivalMeans next bears tag own types s j (One k) = IsRival next bears tag own types s j (k .0)
 RivalMeans next bears tag own types s j NoType = (k : ℕ) → ¬ IsRival next bears tag own types s j k
 
 -- j is ahead of the state p, and k its rival ahead of the state q
@@ -36,5 +36,5 @@ pub record AreRivals (next bears tag : List ℕ) (own types p q j k : ℕ) : Typ
   pub rival : IsRival next bears tag own types q j k
 
 abbrev pub RivalsMean : List ℕ → List ℕ → List ℕ → ℕ → ℕ → ℕ → ℕ → Rivals → Type 0
-RivalsMean next bears tag own types p q (Of j k) = AreRivals next bears tag own types p q j k
+RivalsMean next bears tag own types p q (Of j k) = AreRivals next bears tag own types p q (j .0) (k .0)
 RivalsMean next bears tag own types p q NoTypes = (j k : ℕ) → ¬ AreRivals next bears tag own types p q j k

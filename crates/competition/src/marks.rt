@@ -12,6 +12,7 @@ ghost use Rattle.competition.specs.Marks.{marks, markOf, markRow, markPr
 pub(crate) const NEXT: usize = STATES as usize * TYPES;
 
 // The pair joins the queue, unless it is reached already. An entry's 5 lowest bits are p, the next 5 are q, and `link` stands above them.
+// `link` is the type that led to the pair and the place of the pair it led from, packed in one number: it and the entries stay bare numbers.
 // The test for a full queue is there for the bound. It never holds in a search: there are only 528 pairs, and each joins once.
 fn mark<'a>(
     reached: &'a mut [bool; PAIRS],
@@ -74,7 +75,7 @@ fn mark_product<'a>(
     ensures { λ r. ⌜ marks (now (reached .exit)) (now (queue .exit)) r
         ≡ markProduct left right link 0 32 (marks (now (reached .entry)) (now (queue .entry)) count) ⌝ }
 {
-    if left == 0 {
+    if left == StateSet::NONE.0 {
         return count;
     }
     let mut found = count;
@@ -108,19 +109,19 @@ fn mark_types<'a>(
         (marks (now (reached .entry)) (now (queue .entry)) count) ⌝ }
 {
     let mut found = count;
-    let mut j = 0;
-    while j < types {
-        if StateSet(bears[j]).has(0) {
+    let mut i = 0;
+    while i < types {
+        if StateSet(bears[i]).has(0) {
             found = mark_product(
                 reached,
                 queue,
                 found,
-                next[p * TYPES + j],
-                next[q * TYPES + j],
-                (j + TYPES * at) as u32,
+                next[p * TYPES + i],
+                next[q * TYPES + i],
+                (i + TYPES * at) as u32,
             );
         }
-        j += 1;
+        i += 1;
     }
     found
 }

@@ -2,6 +2,8 @@
 use crate::marks::NEXT;
 use schema::StateSet;
 use schema::TYPES;
+use sdtd::Tag;
+use sdtd::TypeNo;
 ghost use mathlib.Core.Logic.{_↔_};
 ghost use Prim.Native.Nat.{_<_, _≤_};
 ghost use lib.Dec.{T};
@@ -9,13 +11,13 @@ ghost use Rattle.competition.specs.Rivals.{Ahead, RivalMeans, RivalsMean
 
 // A type, or none.
 pub(crate) enum Rival {
-    One(usize),
+    One(TypeNo),
     NoType,
 }
 
 // Two types, or none.
 pub(crate) enum Rivals {
-    Of(usize, usize),
+    Of(TypeNo, TypeNo),
     NoTypes,
 }
 
@@ -26,15 +28,16 @@ fn ahead<'a>(
     bears: &'a [u32; TYPES],
     own: u32,
     state: usize,
-    j: usize,
+    j: TypeNo,
 ) -> bool
-    requires { ⌜ (state < 32) × (j < 64) ⌝ }
-    ensures { λ r. ⌜ T r ↔ Ahead (now (next .entry)) (now (bears .entry)) own state j ⌝ }
+    requires { ⌜ (state < 32) × (j .0 < 64) ⌝ }
+    ensures { λ r. ⌜ T r ↔ Ahead (now (next .entry)) (now (bears .entry)) own state (j .0) ⌝ }
 {
-    if !StateSet(bears[j]).has(0) {
+    let i = j.0 as usize;
+    if !StateSet(bears[i]).has(0) {
         return false;
     }
-    next[state * TYPES + j] & own != 0
+    StateSet(own).meets(StateSet(next[state * TYPES + i]))
 }
 
 // Another type of j's tag that is ahead of the state.
@@ -45,21 +48,23 @@ fn rival_of<'a>(
     own: u32,
     types: usize,
     state: usize,
-    j: usize,
+    j: TypeNo,
 ) -> Rival
-    requires { ⌜ (types ≤ 64) × (state < 32) × (j < 64) ⌝ }
-    ensures { λ r. ⌜ RivalMeans (now (next .entry)) (now (bears .entry)) (now (tag .entry)) own types state j r ⌝ }
+    requires { ⌜ (types ≤ 64) × (state < 32) × (j .0 < 64) ⌝ }
+    ensures { λ r. ⌜ RivalMeans (now (next .entry)) (now (bears .entry)) (now (tag .entry)) own types state (j .0) r ⌝ }
 {
-    let mut k = 0;
-    while k < types {
-        if k != j {
-            if tag[k] == tag[j] {
+    let shared = Tag(tag[j.0 as usize]);
+    let mut i = 0;
+    while i < types {
+        let k = TypeNo(i as u8);
+        if !k.same(j) {
+            if Tag(tag[i]).same(shared) {
                 if ahead(next, bears, own, state, k) {
                     return Rival::One(k);
                 }
             }
         }
-        k += 1;
+        i += 1;
     }
     Rival::NoType
 }
@@ -77,15 +82,16 @@ pub(crate) fn rivals_at<'a>(
     requires { ⌜ (types ≤ 64) × (p < 32) × (q < 32) ⌝ }
     ensures { λ r. ⌜ RivalsMean (now (next .entry)) (now (bears .entry)) (now (tag .entry)) own types p q r ⌝ }
 {
-    let mut j = 0;
-    while j < types {
+    let mut i = 0;
+    while i < types {
+        let j = TypeNo(i as u8);
         if ahead(next, bears, own, p, j) {
             let rival = rival_of(next, bears, tag, own, types, q, j);
             if let Rival::One(k) = rival {
                 return Rivals::Of(j, k);
             }
         }
-        j += 1;
+        i += 1;
     }
     Rivals::NoTypes
 }

@@ -13,6 +13,7 @@ use schema::StateSet;
 use schema::TYPES;
 use schema::trim;
 use schema::within;
+use sdtd::TypeNo;
 ghost use mathlib.Core.Path.{_≡_};
 ghost use Prim.Native.Nat.{_+_, _<_, _≤_};
 ghost use lib.ListN.{replicate};
@@ -35,15 +36,15 @@ pub enum Searched {
 
 // The place in the queue of a pair with rivals, and the rival types; or that there is none.
 pub(crate) enum Found {
-    At(usize, usize, usize),
+    At(usize, TypeNo, TypeNo),
     Nowhere,
 }
 
 // A step joins the table of next states. Inside the limits the remainders change nothing: a state is below 32, a type below 64.
-fn next_step(next: &mut [u32; NEXT], from: u8, by: u8, to: u8)
-    ensures { λ _. ⌜ now (next .exit) ≡ nextStep (record { from = from; by = by; to = to }) (now (next .entry)) ⌝ }
+fn next_step(next: &mut [u32; NEXT], from: u8, by: TypeNo, to: u8)
+    ensures { λ _. ⌜ now (next .exit) ≡ nextStep (record { from = from; by = by .0; to = to }) (now (next .entry)) ⌝ }
 {
-    let at = (from % STATES) as usize * TYPES + by as usize % TYPES;
+    let at = (from % STATES) as usize * TYPES + by.0 as usize % TYPES;
     let grown = StateSet(next[at]).with(to);
     next[at] = grown.0;
 }
@@ -60,11 +61,11 @@ fn next_states<'a>(
     ensures { λ r. ⌜ r
         ≡ nextSteps (stepsOf (now (from .entry)) (now (by .entry)) (now (to .entry)) start n) (replicate 2048 0) ⌝ }
 {
-    let mut next = [0u32; NEXT];
+    let mut next = [StateSet::NONE.0; NEXT];
     let end = start + n;
     let mut i = start;
     while i < end {
-        next_step(&mut next, from[i], by[i], to[i]);
+        next_step(&mut next, from[i], TypeNo(by[i]), to[i]);
         i += 1;
     }
     next
@@ -117,17 +118,18 @@ fn search_at<'a>(
     types: usize,
     live: &'a [u32; TYPES],
     reached: &'a [bool; TYPES],
-    a: usize,
+    a: TypeNo,
     queue: &mut [u32; PAIRS],
 ) -> Found
-    requires { ⌜ (start + n ≤ 1024) × (types ≤ 64) × (a < 64) ⌝ }
+    requires { ⌜ (start + n ≤ 1024) × (types ≤ 64) × (a .0 < 64) ⌝ }
     ensures { λ r. ⌜ SearchedAt (nextSteps (stepsOf (now (from .entry)) (now (by .entry)) (now (to .entry)) start n) (replicate 2048 0))
-        (now (live .entry)) (now (tag .entry)) (now (reached .entry)) types a (now (queue .exit)) r ⌝ }
+        (now (live .entry)) (now (tag .entry)) (now (reached .entry)) types (a .0) (now (queue .exit)) r ⌝ }
 {
-    if !reached[a] {
+    let i = a.0 as usize;
+    if !reached[i] {
         return Found::Nowhere;
     }
-    let own = live[a];
+    let own = live[i];
     if !StateSet(own).has(0) {
         return Found::Nowhere;
     }
@@ -137,7 +139,7 @@ fn search_at<'a>(
 
 // The smallest type in which two compete: the type, the place in the queue of a pair with rivals, and the rivals.
 pub(crate) enum Competing {
-    In(usize, usize, usize, usize),
+    In(TypeNo, usize, TypeNo, TypeNo),
     NoneIn,
 }
 
@@ -158,15 +160,16 @@ fn first_competing<'a>(
         (now (tag .entry)) (now (reached .entry)) types (now (queue .exit)) r ⌝ }
 {
     let mut start = 0;
-    let mut a = 0;
-    while a < types {
-        let n = steps[a] as usize;
+    let mut i = 0;
+    while i < types {
+        let a = TypeNo(i as u8);
+        let n = steps[i] as usize;
         let found = search_at(from, by, to, start, n, tag, types, live, reached, a, queue);
         if let Found::At(at, j, k) = found {
             return Competing::In(a, at, j, k);
         }
         start += n;
-        a += 1;
+        i += 1;
     }
     Competing::NoneIn
 }

@@ -1,5 +1,6 @@
 // The witness of a competition, written to the lent buffer.
 use crate::pairs::PAIRS;
+use sdtd::TypeNo;
 ghost use mathlib.Core.Path.{_≡_};
 ghost use mathlib.Core.List.{_∷_, _++_};
 ghost use Prim.Native.Nat.{_+_, _/_, _%_, _<_, _≤_, min, max};
@@ -33,28 +34,36 @@ fn fill_word(out: &mut [u8], queue: &[u32; PAIRS], at: usize, n: usize)
     let mut i = at;
     while 0 < i {
         left -= 1;
-        out[left] = (queue[i] / 1024 % 64) as u8;
+        let by = TypeNo((queue[i] / 1024 % 64) as u8);
+        out[left] = by.0;
         i = (queue[i] / 65536) as usize;
     }
 }
 
 // The five bytes before the word.
-fn write_head(witness: &mut [u8], a: u8, j: u8, k: u8, n: usize)
+fn write_head(witness: &mut [u8], a: TypeNo, j: TypeNo, k: TypeNo, n: usize)
     requires { ⌜ (5 ≤ length (now witness)) × (n < 65536) ⌝ }
-    ensures { λ _. ⌜ now (witness .exit) ≡ a ∷ j ∷ k ∷ n % 256 ∷ n / 256 ∷ drop 5 (now (witness .entry)) ⌝ }
+    ensures { λ _. ⌜ now (witness .exit) ≡ a .0 ∷ j .0 ∷ k .0 ∷ n % 256 ∷ n / 256 ∷ drop 5 (now (witness .entry)) ⌝ }
 {
-    witness[0] = a;
-    witness[1] = j;
-    witness[2] = k;
+    witness[0] = a.0;
+    witness[1] = j.0;
+    witness[2] = k.0;
     witness[3] = (n % 256) as u8;
     witness[4] = (n / 256 % 256) as u8;
 }
 
 // The whole witness: the word goes to the part of the buffer that starts at byte 5.
-fn write_witness(witness: &mut [u8], a: u8, j: u8, k: u8, queue: &[u32; PAIRS], at: usize)
+fn write_witness(
+    witness: &mut [u8],
+    a: TypeNo,
+    j: TypeNo,
+    k: TypeNo,
+    queue: &[u32; PAIRS],
+    at: usize,
+)
     requires { ⌜ (at < 528) × Linked (now queue) at × (532 ≤ length (now witness)) ⌝ }
     ensures { λ _. ⌜ now (witness .exit)
-        ≡ witnessBytes a j k (wordTo at (now (queue .entry)) at) ++ drop (5 + length (wordTo at (now (queue .entry)) at))
+        ≡ witnessBytes (a .0) (j .0) (k .0) (wordTo at (now (queue .entry)) at) ++ drop (5 + length (wordTo at (now (queue .entry)) at))
         (now (witness .entry)) ⌝ }
 {
     let n = word_length(queue, at);
@@ -65,20 +74,20 @@ fn write_witness(witness: &mut [u8], a: u8, j: u8, k: u8, queue: &[u32; PAIRS], 
 // The witness with the smaller of the two types first.
 pub(crate) fn write_rivals(
     witness: &mut [u8],
-    a: usize,
-    j: usize,
-    k: usize,
+    a: TypeNo,
+    j: TypeNo,
+    k: TypeNo,
     queue: &[u32; PAIRS],
     at: usize,
 )
-    requires { ⌜ (a < 64) × (j < 64) × (k < 64) × (at < 528) × Linked (now queue) at × (532 ≤ length (now witness)) ⌝ }
+    requires { ⌜ (at < 528) × Linked (now queue) at × (532 ≤ length (now witness)) ⌝ }
     ensures { λ _. ⌜ now (witness .exit)
-        ≡ witnessBytes a (min j k) (max j k) (wordTo at (now (queue .entry)) at) ++ drop
+        ≡ witnessBytes (a .0) (min (j .0) (k .0)) (max (j .0) (k .0)) (wordTo at (now (queue .entry)) at) ++ drop
         (5 + length (wordTo at (now (queue .entry)) at)) (now (witness .entry)) ⌝ }
 {
-    if j < k {
-        write_witness(witness, a as u8, j as u8, k as u8, queue, at);
+    if j.before(k) {
+        write_witness(witness, a, j, k, queue, at);
     } else {
-        write_witness(witness, a as u8, k as u8, j as u8, queue, at);
+        write_witness(witness, a, k, j, queue, at);
     }
 }

@@ -1,4 +1,4 @@
--- `schema::marks::mark` meets its contract.
+-- `competition::marks::mark` meets its contract.
 use mathlib.Core.Path.{_≡_}
 use mathlib.Core.Bool.{true, false}
 use Prim.Native.Nat.{ℕ, _+_, _≤_, _<_}

@@ -1,4 +1,4 @@
--- `schema::marks::mark_product` meets its contract. The loop's invariant: marking the rows from p on gives what all the rows give.
+-- `competition::marks::mark_product` meets its contract. The loop's invariant: marking the rows from p on gives what all the rows give.
 use mathlib.Core.Path.{_≡_, refl, _∙_}
 use mathlib.Core.Logic.{⊎-elim}
 use mathlib.Core.Bool.{cond}

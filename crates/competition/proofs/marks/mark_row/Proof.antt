@@ -1,4 +1,4 @@
--- `schema::marks::mark_row` meets its contract. The loop's invariant: marking the row from q on gives what marking the whole row gives.
+-- `competition::marks::mark_row` meets its contract. The loop's invariant: marking the row from q on gives what marking the whole row gives.
 use mathlib.Core.Path.{_≡_, refl, _∙_}
 use mathlib.Core.Logic.{⊎-elim}
 use mathlib.Core.Bool.{cond}

@@ -1,4 +1,4 @@
--- `schema::marks::mark_types` meets its contract. The loop's invariant: marking by the types from j on gives what all the types give.
+-- `competition::marks::mark_types` meets its contract. The loop's invariant: marking by the types from i on gives what all the types give.
 use mathlib.Core.Path.{_≡_, _∙_}
 use mathlib.Core.Logic.{⊎-elim}
 use mathlib.Core.Bool.{cond}
@@ -30,13 +30,13 @@ unfolding markTypes
 done next bears p q at n j m e = rw e
 
 abbrev Inv-loop : tie.InvT-loop
-Inv-loop reached₀ queue₀ count next bears types at p q found₀ j₀ reached queue found j =
-    (j ≤ types)
-    × (markTypes next bears p q at j (types - j) (marks reached queue found)
+Inv-loop reached₀ queue₀ count next bears types at p q found₀ i₀ reached queue found i =
+    (i ≤ types)
+    × (markTypes next bears p q at i (types - i) (marks reached queue found)
     ≡ markTypes next bears p q at 0 types (marks reached₀ queue₀ count))
 
 abbrev μ-loop : tie.MeasureT-loop
-μ-loop reached₀ queue₀ count next bears types at p q found₀ j₀ reached queue found j = types - j
+μ-loop reached₀ queue₀ count next bears types at p q found₀ i₀ reached queue found i = types - i
 
 loop-holds : tie.Need-loop-holds Inv-loop μ-loop
 loop-holds c = (omega arith, rw sub-zero)
@@ -86,8 +86,8 @@ cast-mark-product c = omega arith
 mark-product-requires : tie.Need-mark-product-requires Inv-loop μ-loop
 mark-product-requires c κs = search needs
 
-add-j : tie.Need-add-j Inv-loop μ-loop
-add-j c = omega arith
+add-i : tie.Need-add-i Inv-loop μ-loop
+add-i c = omega arith
 
 loop-less : tie.Need-loop-less Inv-loop μ-loop
 loop-less c = omega arith
@@ -128,7 +128,7 @@ mark-types-spec =
     add-mark-product-3
     cast-mark-product
     mark-product-requires
-    add-j
+    add-i
     loop-less
     loop-again
     returns)

@@ -1,4 +1,4 @@
--- `schema::marks::search_step` meets its contract.
+-- `competition::marks::search_step` meets its contract.
 use borrow.Author.Needs.{needs}
 use Rattle.competition.specs.Marks.{markStep}
 use Rattle.competition.proofs.marks.search_step.Statement.{statement}

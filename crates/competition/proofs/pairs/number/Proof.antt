@@ -1,4 +1,4 @@
--- `schema::pairs::number` meets its contract: each arm has the larger state's row and the smaller state.
+-- `competition::pairs::number` meets its contract: each arm has the larger state's row and the smaller state.
 use mathlib.Core.Path.{_≡_, _∙_}
 use Prim.Native.Nat.{ℕ, _+_, _*_, _/_, _≤_, _<_, min, max}
 use native.Mathlib.Nat.{mul-le-mul}

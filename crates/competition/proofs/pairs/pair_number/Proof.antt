@@ -1,4 +1,4 @@
--- `schema::pairs::pair_number` meets its contract.
+-- `competition::pairs::pair_number` meets its contract.
 use native.Mathlib.Omega.{arith}
 use borrow.Author.Needs.{needs}
 use borrow.Author.Tests.{lt-ltb, le-ltb}

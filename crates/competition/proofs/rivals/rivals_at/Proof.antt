@@ -1,4 +1,4 @@
--- `schema::rivals::rivals_at` meets its contract. The loop's invariant: no type before j has a rival. The measure is what is left of the
+-- `competition::rivals::rivals_at` meets its contract. The loop's invariant: no type before i has a rival. The measure is what is left of the
 -- types. Assumes nothing.
 use mathlib.Core.Logic.{⊎-elim}
 use Prim.Native.Nat.{ℕ, _-_, _≤_, _<_}
@@ -9,14 +9,17 @@ use Rattle.competition.proofs.rivals.rivals_at.Statement.{statement}
 use Rattle.competition.proofs.rivals.rivals_at.Tie as tie
 
 abbrev Inv-loop : tie.InvT-loop
-Inv-loop next bears tag own types p q j₀ j =
-    (j ≤ types) × ((i : ℕ) → i < j → (k : ℕ) → ¬ AreRivals next bears tag own types p q i k)
+Inv-loop next bears tag own types p q i₀ i =
+    (i ≤ types) × ((j : ℕ) → j < i → (k : ℕ) → ¬ AreRivals next bears tag own types p q j k)
 
 abbrev μ-loop : tie.MeasureT-loop
-μ-loop next bears tag own types p q j₀ j = types - j
+μ-loop next bears tag own types p q i₀ i = types - i
 
 loop-holds : tie.Need-loop-holds Inv-loop μ-loop
 loop-holds c = (omega arith, λ i l. absurd (omega arith))
+
+cast-t13 : tie.Need-cast-t13 Inv-loop μ-loop
+cast-t13 c = omega arith
 
 ahead-requires : tie.Need-ahead-requires Inv-loop μ-loop
 ahead-requires c κs = omega arith
@@ -39,19 +42,19 @@ returns c =
 enum-told : tie.Need-enum-told Inv-loop μ-loop
 enum-told c = c .match .keys2
 
-add-j : tie.Need-add-j Inv-loop μ-loop
-add-j c = omega arith
+add-i : tie.Need-add-i Inv-loop μ-loop
+add-i c = omega arith
 
 loop-less : tie.Need-loop-less Inv-loop μ-loop
 loop-less c = omega arith
 
--- j has no rival: `rival_of` found none, or j is not ahead
+-- i has no rival: `rival_of` found none, or i is not ahead
 loop-again : tie.Need-loop-again Inv-loop μ-loop
 loop-again c =
     let l = c .before .before .before .loop in
     let a = c .before .before .before .before .args in (
       omega arith,
-      below-more (λ i. (k : ℕ) → ¬ AreRivals (a .next .now) (a .bears .now) (a .tag .now) (a .own) (a .types) (a .p) (a .q) i k) (l .j)
+      below-more (λ i. (k : ℕ) → ¬ AreRivals (a .next .now) (a .bears .now) (a .tag .now) (a .own) (a .types) (a .p) (a .q) i k) (l .i)
           (l .inv .1)
           (⊎-elim (λ w k r. (rw (w .3 .given .1) at (w .1 .ensures)) k (r .rival))
           (λ w k r. rw (w .left) at (c .before .ahead .ensures .1 (r .ahead)))
@@ -68,12 +71,13 @@ rivals-at-spec =
     Inv-loop
     μ-loop
     loop-holds
+    cast-t13
     ahead-requires
     rival-of-requires
     enum-known-rival
     returns
     enum-told
-    add-j
+    add-i
     loop-less
     loop-again
     returns-2)

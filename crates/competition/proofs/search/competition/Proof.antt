@@ -8,7 +8,7 @@ use borrow.Author.Needs.{needs}
 use borrow.Author.Tests.{not-false}
 use lib.Dec.{T, T-not}
 use Rattle.schema.proofs.LimitLaws.{within-room, passed}
-use Rattle.competition.proofs.Outcome.{none-compete, competing, found-written, written-competes}
+use Rattle.competition.proofs.Outcome.{none-compete, found-written, written-competes}
 use Rattle.competition.proofs.search.competition.Statement.{statement}
 use Rattle.competition.proofs.search.competition.Tie as tie
 
@@ -44,18 +44,8 @@ enum-known-found c = search needs
 
 write-rivals-requires : tie.Need-write-rivals-requires
 write-rivals-requires c κs =
-    let start = c .before .before .before .before .before .before .before .before .before .before .before .before .before .before .before .before .before .before in
-    let w = passed (start .before .within .result) (start .if2 .left) (start .before .within .ensures) in
     let f = rw (c .before .before .before .found .given .1) at (c .before .before .before .before .before .first-competing .ensures) in
-    let k = competing _ _ w (c .before .before .before .before .before .before .before .before .before .before .before .before .before .before .before .before .before .trim .ensures .inside w) _ _ _ _ _ (f .0) (f .1) (f .2) in
-    let room = within-room _ w in (
-      omega (arith, f .0),
-      omega (arith, k .first-below, w .types-most),
-      omega (arith, k .second-below, w .types-most),
-      f .1 .found .trail .inside,
-      f .1 .found .trail .linked,
-      omega arith,
-    )
+    (f .1 .found .trail .inside, f .1 .found .trail .linked, omega arith)
 
 same-length : tie.Need-same-length
 same-length c = search needs

@@ -1,5 +1,5 @@
--- `schema::search::first_competing` meets its contract. The loop's invariant: the steps of the type a begin at `start`, and in no type
--- before a do two compete. The measure is what is left of the types.
+-- `competition::search::first_competing` meets its contract. The loop's invariant: the steps of the type i begin at `start`, and in no type
+-- before i do two compete. The measure is what is left of the types.
 use mathlib.Core.Path.{_≡_, refl}
 use mathlib.Core.List.{List, [], _∷_}
 use Prim.Native.Nat.{ℕ, zero, suc, _+_, _-_, _≤_, _<_}
@@ -21,24 +21,27 @@ offset-step (n ∷ ns) zero = omega arith
 offset-step (n ∷ ns) (suc a) = omega (arith, offset-step ns a)
 
 abbrev Inv-loop : tie.InvT-loop
-Inv-loop from by to steps tag types live reached queue₀ start₀ a₀ queue start a =
-    (a ≤ types)
-    × (start ≡ offset steps a)
-    × ((c : ℕ) → c < a → RestrainedIn (nextOf (stepsOf from by to) steps c) live tag reached types c)
+Inv-loop from by to steps tag types live reached queue₀ start₀ i₀ queue start i =
+    (i ≤ types)
+    × (start ≡ offset steps i)
+    × ((c : ℕ) → c < i → RestrainedIn (nextOf (stepsOf from by to) steps c) live tag reached types c)
 
 abbrev μ-loop : tie.MeasureT-loop
-μ-loop from by to steps tag types live reached queue₀ start₀ a₀ queue start a = types - a
+μ-loop from by to steps tag types live reached queue₀ start₀ i₀ queue start i = types - i
 
--- the steps of the type a stand inside the table
+-- the steps of the type i stand inside the table
 inside : (c : tie.In-loop Inv-loop μ-loop)
-    → c .before .loop .start + getD (c .before .before .args .steps .now) (c .before .loop .a) 0 ≤ 1024
+    → c .before .loop .start + getD (c .before .before .args .steps .now) (c .before .loop .i) 0 ≤ 1024
 inside c =
     let l = c .before .loop in
     let g = c .before .before .args in
-    omega (arith, offset-step (g .steps .now) (l .a), offset-up (g .steps .now) (suc (l .a)) (g .types) (omega arith))
+    omega (arith, offset-step (g .steps .now) (l .i), offset-up (g .steps .now) (suc (l .i)) (g .types) (omega arith))
 
 loop-holds : tie.Need-loop-holds Inv-loop μ-loop
 loop-holds c = (omega arith, omega arith, λ i l. absurd (omega arith))
+
+cast-t19 : tie.Need-cast-t19 Inv-loop μ-loop
+cast-t19 c = omega arith
 
 mul-n : tie.Need-mul-n Inv-loop μ-loop
 mul-n c = omega arith
@@ -67,8 +70,8 @@ enum-told c = c .match .keys2
 add-start : tie.Need-add-start Inv-loop μ-loop
 add-start c = omega (arith, inside (c .before .before .before .before .before))
 
-add-a : tie.Need-add-a Inv-loop μ-loop
-add-a c = omega arith
+add-i : tie.Need-add-i Inv-loop μ-loop
+add-i c = omega arith
 
 loop-less : tie.Need-loop-less Inv-loop μ-loop
 loop-less c = omega arith
@@ -80,9 +83,9 @@ loop-again c =
     let a = s .before .before .before .before .before .args in
     let part = stepsOf (a .from .now) (a .by .now) (a .to .now) in (
       omega arith,
-      rw add-one (omega (arith, offset-step (a .steps .now) (l .a))),
+      rw add-one (omega (arith, offset-step (a .steps .now) (l .i))),
       below-more
-          (λ i. RestrainedIn (nextOf part (a .steps .now) i) (a .live .now) (a .tag .now) (a .reached .now) (a .types) i) (l .a)
+          (λ i. RestrainedIn (nextOf part (a .steps .now) i) (a .live .now) (a .tag .now) (a .reached .now) (a .types) i) (l .i)
           (l .inv .2)
           (rw (← l .inv .1) (rw (c .enum-told .given .1) at (s .search-at .ensures))),
     )
@@ -97,6 +100,7 @@ first-competing-spec =
     Inv-loop
     μ-loop
     loop-holds
+    cast-t19
     mul-n
     element-copy-out-n
     cast-n
@@ -105,7 +109,7 @@ first-competing-spec =
     returns
     enum-told
     add-start
-    add-a
+    add-i
     loop-less
     loop-again
     returns-2)

@@ -1,4 +1,4 @@
--- `schema::search::next_states` meets its contract. The loop's invariant: the steps from i on give what all the steps give.
+-- `competition::search::next_states` meets its contract. The loop's invariant: the steps from i on give what all the steps give.
 use mathlib.Core.Path.{_≡_, _∙_}
 use mathlib.Core.List.{List}
 use Prim.Native.Nat.{ℕ, suc, _+_, _-_, _≤_, _<_}
@@ -40,11 +40,11 @@ loop-holds c = (omega arith, rw add-sub-cancel-left)
 element-copy-out-next-step : tie.Need-element-copy-out-next-step Inv-loop μ-loop
 element-copy-out-next-step c = omega arith
 
+element-copy-out-t18 : tie.Need-element-copy-out-t18 Inv-loop μ-loop
+element-copy-out-t18 c = omega arith
+
 element-copy-out-next-step-2 : tie.Need-element-copy-out-next-step-2 Inv-loop μ-loop
 element-copy-out-next-step-2 c = omega arith
-
-element-copy-out-next-step-3 : tie.Need-element-copy-out-next-step-3 Inv-loop μ-loop
-element-copy-out-next-step-3 c = omega arith
 
 next-step-requires : tie.Need-next-step-requires Inv-loop μ-loop
 next-step-requires c κs = search needs
@@ -72,8 +72,8 @@ next-states-spec =
     add-end
     loop-holds
     element-copy-out-next-step
+    element-copy-out-t18
     element-copy-out-next-step-2
-    element-copy-out-next-step-3
     next-step-requires
     add-i
     loop-less

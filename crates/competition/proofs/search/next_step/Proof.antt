@@ -1,4 +1,4 @@
--- `schema::search::next_step` meets its contract.
+-- `competition::search::next_step` meets its contract.
 use borrow.Author.Needs.{needs}
 use Rattle.competition.specs.Marks.{nextStep}
 use Rattle.competition.proofs.search.next_step.Statement.{statement}
@@ -9,6 +9,9 @@ cast-at c = search needs
 
 mul-at : tie.Need-mul-at
 mul-at c = search needs
+
+cast-at-2 : tie.Need-cast-at-2
+cast-at-2 c = search needs
 
 add-at : tie.Need-add-at
 add-at c = search needs
@@ -38,6 +41,7 @@ next-step-spec =
     (tie.spec
     cast-at
     mul-at
+    cast-at-2
     add-at
     mul-t8
     element-copy-out-t14

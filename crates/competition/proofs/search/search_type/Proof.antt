@@ -1,4 +1,4 @@
--- `schema::search::search_type` meets its contract. The loop's invariant: the pairs of the entries before the place `at` are done.
+-- `competition::search::search_type` meets its contract. The loop's invariant: the pairs of the entries before the place `at` are done.
 -- The measure is what is left of the 528 places.
 use Prim.Native.Nat.{_-_}
 use native.Mathlib.Numerals.{add-one}

@@ -1,4 +1,4 @@
--- `schema::witness::fill_word` meets its contract. The loop's invariant: `left` is the length of the word to i, and that word before the
+-- `competition::witness::fill_word` meets its contract. The loop's invariant: `left` is the length of the word to i, and that word before the
 -- part of the buffer from `left` on is the claim. The measure is i. Assumes nothing.
 use mathlib.Core.Path.{_≡_, refl, sym, _∙_}
 use mathlib.Core.List.{List, _∷_, _++_, append-assoc}
@@ -51,14 +51,14 @@ loop-holds c = (omega arith, c .pre .2, refl, c .pre .3, refl)
 sub-left : tie.Need-sub-left Inv-loop μ-loop
 sub-left c = omega (arith, back-from c)
 
-mul-out : tie.Need-mul-out Inv-loop μ-loop
-mul-out c = omega arith
+mul-t9 : tie.Need-mul-t9 Inv-loop μ-loop
+mul-t9 c = omega arith
 
-element-copy-out-out : tie.Need-element-copy-out-out Inv-loop μ-loop
-element-copy-out-out c = omega arith
+element-copy-out-t12 : tie.Need-element-copy-out-t12 Inv-loop μ-loop
+element-copy-out-t12 c = omega arith
 
-cast-out : tie.Need-cast-out Inv-loop μ-loop
-cast-out c = omega arith
+cast-t15 : tie.Need-cast-t15 Inv-loop μ-loop
+cast-t15 c = omega arith
 
 slice-write-out : tie.Need-slice-write-out Inv-loop μ-loop
 slice-write-out c = omega (arith, back-from (c .before))
@@ -106,9 +106,9 @@ fill-word-spec =
     μ-loop
     loop-holds
     sub-left
-    mul-out
-    element-copy-out-out
-    cast-out
+    mul-t9
+    element-copy-out-t12
+    cast-t15
     slice-write-out
     mul-i
     element-copy-out-i

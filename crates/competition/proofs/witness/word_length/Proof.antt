@@ -1,5 +1,5 @@
--- `schema::witness::word_length` meets its contract. The loop's invariant: i is at most `at`, and what is counted so far and the length of
--- the word to i are together the length of the word to `at`. The measure is i. Assumes nothing.
+-- `competition::witness::word_length` meets its contract. The loop's invariant: i is at most `at`, and what is counted so far and the length
+-- of the word to i are together the length of the word to `at`. The measure is i. Assumes nothing.
 use mathlib.Core.Path.{_≡_}
 use Prim.Native.Nat.{_+_, _≤_}
 use native.Mathlib.Omega.{arith}

@@ -1,4 +1,4 @@
--- `schema::witness::write_head` meets its contract: a run of five stores. Assumes nothing.
+-- `competition::witness::write_head` meets its contract: a run of five stores. Assumes nothing.
 use mathlib.Core.Path.{_∙_}
 use mathlib.Core.List.{[], _∷_}
 use Prim.Native.Nat.{_/_, _%_}
@@ -37,7 +37,7 @@ same-length c = search needs
 returns : tie.Need-returns
 returns c =
     let a = c .args in
-    sets-eq (a .a ∷ a .j ∷ a .k ∷ a .n % 256 ∷ a .n / 256 % 256 ∷ []) (a .witness .now) 0 (c .pre .0)
+    sets-eq (a .a .0 ∷ a .j .0 ∷ a .k .0 ∷ a .n % 256 ∷ a .n / 256 % 256 ∷ []) (a .witness .now) 0 (c .pre .0)
     ∙ rw (mod-eq-of-lt {n = a .n / 256} {m = 256} (omega arith))
 
 pub write-head-spec : {M : Type 1} → statement M

@@ -1,4 +1,4 @@
--- `schema::witness::write_witness` meets its contract, from what its three callees ensure. Assumes nothing.
+-- `competition::witness::write_witness` meets its contract, from what its three callees ensure. Assumes nothing.
 use mathlib.Core.Path.{_≡_, ap}
 use mathlib.Core.List.{List, _∷_, _++_, append-nil}
 use Prim.Native.Nat.{ℕ, _+_, _-_, _/_, _%_}
@@ -46,8 +46,8 @@ returns c =
     let h = f .before .before .before .before in
     let n = h .before .before in
     let a = n .before .before .args in
-    written (a .witness .now) (h .write-head .last .0) (f .fill-word .last .0) (wordTo (a .at) (a .queue .now) (a .at)) (a .a) (a .j) (a .k)
-    (n .word-length .result) (n .word-length .ensures .0) (h .write-head .ensures) (f .fill-word .ensures)
+    written (a .witness .now) (h .write-head .last .0) (f .fill-word .last .0) (wordTo (a .at) (a .queue .now) (a .at))
+    (a .a .0) (a .j .0) (a .k .0) (n .word-length .result) (n .word-length .ensures .0) (h .write-head .ensures) (f .fill-word .ensures)
 
 pub write-witness-spec : {M : Type 1} → statement M
 write-witness-spec =
