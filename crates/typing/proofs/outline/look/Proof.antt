@@ -27,24 +27,23 @@ enum-told-3 c = search needs
 
 returns : tie.Need-returns
 returns c =
-    let m = c .before .before .before in
+    let m = c .before .before in
     let w = m .before .before in
     let a = w .before .before .args in
     looked-open (a .events .now) (a .c) (w .walk-to .ensures) _ (m .event .given .1) (c .deeper .ensures)
 
 returns-2 : tie.Need-returns-2
 returns-2 c =
-    let m = c .before .before in
+    let m = c .before in
     let w = m .before .before in
     let a = w .before .before .args in
     looked-close (a .events .now) (a .c) (w .walk-to .ensures) (m .enum-told .given .1) (c .shallower .ensures)
 
 returns-3 : tie.Need-returns-3
 returns-3 c =
-    let m = c .before in
-    let w = m .before .before in
+    let w = c .before .before in
     let a = w .before .before .args in
-    looked-finish (a .events .now) (a .c) (w .walk-to .ensures) (m .enum-told2 .given .1)
+    looked-finish (a .events .now) (a .c) (w .walk-to .ensures) (c .enum-told2 .given .1)
 
 returns-4 : tie.Need-returns-4
 returns-4 c =
