@@ -5,6 +5,8 @@ use crate::value::STEPS;
 use crate::value::Schema;
 use crate::value::TAGS;
 use crate::value::TYPES;
+use sdtd::Tag;
+use sdtd::TypeNo;
 ghost use mathlib.Core.Path.{_≡_};
 ghost use mathlib.Core.Logic.{_↔_};
 ghost use Prim.Native.Nat.{_+_, _≤_};
@@ -20,13 +22,13 @@ fn count(n: u16) -> usize
     n as usize
 }
 
-fn step_within(from: u8, by: u8, to: u8, states: u8, types: u8) -> bool
-    ensures { λ r. ⌜ T r ↔ StepWithin states types (record { from = from; by = by; to = to }) ⌝ }
+fn step_within(from: u8, by: TypeNo, to: u8, states: u8, types: u8) -> bool
+    ensures { λ r. ⌜ T r ↔ StepWithin states types (record { from = from; by = by .0; to = to }) ⌝ }
 {
     if states <= from {
         return false;
     }
-    if types <= by {
+    if types <= by.0 {
         return false;
     }
     to < states
@@ -48,7 +50,7 @@ fn steps_within<'a>(
     let end = start + n;
     let mut i = start;
     while i < end {
-        if !step_within(from[i], by[i], to[i], states, types) {
+        if !step_within(from[i], TypeNo(by[i]), to[i], states, types) {
             return false;
         }
         i += 1;
@@ -58,7 +60,7 @@ fn steps_within<'a>(
 
 // Is a type's block inside the limits, its n steps from start on included?
 fn block_within<'a>(
-    tag: u8,
+    tag: Tag,
     states: u8,
     accepting: u32,
     from: &'a [u8; STEPS],
@@ -71,9 +73,9 @@ fn block_within<'a>(
 ) -> bool
     requires { ⌜ start + n ≤ 1024 ⌝ }
     ensures { λ r. ⌜ T r
-        ↔ BlockFits tag states accepting (stepsOf (now (from .entry)) (now (by .entry)) (now (to .entry)) start n) tags types ⌝ }
+        ↔ BlockFits (tag .0) states accepting (stepsOf (now (from .entry)) (now (by .entry)) (now (to .entry)) start n) tags types ⌝ }
 {
-    if tags <= tag {
+    if tags <= tag.0 {
         return false;
     }
     if states == 0 {
@@ -113,7 +115,7 @@ fn blocks_within<'a>(
             return false;
         }
         if !block_within(
-            tag[a],
+            Tag(tag[a]),
             states[a],
             accepting[a],
             from,
@@ -138,7 +140,7 @@ pub fn within(schema: Schema) -> bool
 {
     let tags = schema.tags;
     let types = schema.types;
-    let root = schema.root.0;
+    let root = schema.root;
     if tags == 0 {
         return false;
     }
@@ -148,7 +150,7 @@ pub fn within(schema: Schema) -> bool
     if TYPES < types as usize {
         return false;
     }
-    if types <= root {
+    if types <= root.0 {
         return false;
     }
     blocks_within(

@@ -2,6 +2,7 @@
 use crate::state_set::StateSet;
 use crate::value::STEPS;
 use crate::value::TYPES;
+use sdtd::TypeNo;
 ghost use mathlib.Core.Path.{_≡_};
 ghost use mathlib.Core.Logic.{_↔_};
 ghost use Prim.Native.Nat.{_+_, _≤_};
@@ -13,16 +14,16 @@ ghost use Rattle.schema.specs.Spread.{reachStep, reachSteps, reachAll};
 // Inside the limits the remainder changes nothing: a type is below 64.
 fn reach_step(
     from: u8,
-    by: u8,
+    by: TypeNo,
     to: u8,
     live: &[u32; TYPES],
     forward: u32,
     own: u32,
     reached: [bool; TYPES],
 ) -> [bool; TYPES]
-    ensures { λ r. ⌜ r ≡ reachStep (now (live .entry)) forward own (record { from = from; by = by; to = to }) reached ⌝ }
+    ensures { λ r. ⌜ r ≡ reachStep (now (live .entry)) forward own (record { from = from; by = by .0; to = to }) reached ⌝ }
 {
-    let b = by as usize % TYPES;
+    let b = by.0 as usize % TYPES;
     if !StateSet(forward).has(from) {
         return reached;
     }
@@ -58,7 +59,7 @@ fn reach_steps<'a>(
     let mut next = reached;
     let mut i = start;
     while i < end {
-        let grown = reach_step(from[i], by[i], to[i], live, forward, own, next);
+        let grown = reach_step(from[i], TypeNo(by[i]), to[i], live, forward, own, next);
         next = grown;
         i += 1;
     }

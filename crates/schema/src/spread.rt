@@ -2,6 +2,7 @@
 use crate::state_set::StateSet;
 use crate::value::STEPS;
 use crate::value::TYPES;
+use sdtd::TypeNo;
 ghost use mathlib.Core.Path.{_≡_};
 ghost use mathlib.Core.Logic.{_↔_};
 ghost use Prim.Native.Nat.{_+_, _≤_};
@@ -11,10 +12,10 @@ ghost use Rattle.schema.specs.Spread.{spreadStep, spreadSet, spreadAll};
 
 // A step by a tree-bearing type with its state `when` in the set adds its state `add`.
 // Inside the limits the remainder changes nothing: a type is below 64.
-fn spread_step(add: u8, by: u8, when: u8, bears: &[u32; TYPES], set: u32) -> u32
-    ensures { λ r. ⌜ r ≡ spreadStep (now (bears .entry)) (record { from = add; by = by; to = when }) set ⌝ }
+fn spread_step(add: u8, by: TypeNo, when: u8, bears: &[u32; TYPES], set: u32) -> u32
+    ensures { λ r. ⌜ r ≡ spreadStep (now (bears .entry)) (record { from = add; by = by .0; to = when }) set ⌝ }
 {
-    let b = by as usize % TYPES;
+    let b = by.0 as usize % TYPES;
     if !StateSet(bears[b]).has(0) {
         return set;
     }
@@ -43,7 +44,7 @@ fn spread_set<'a>(
     let mut grown = set;
     let mut i = start;
     while i < end {
-        grown = spread_step(add[i], by[i], when[i], bears, grown);
+        grown = spread_step(add[i], TypeNo(by[i]), when[i], bears, grown);
         i += 1;
     }
     grown

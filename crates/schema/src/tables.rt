@@ -8,6 +8,7 @@ use crate::state_set::StateSet;
 use crate::value::STEPS;
 use crate::value::Schema;
 use crate::value::TYPES;
+use sdtd::TypeNo;
 ghost use mathlib.Core.Path.{_≡_};
 ghost use mathlib.Core.Bool.{true, false};
 ghost use Prim.Native.Nat.{_≤_, _<_};
@@ -28,8 +29,7 @@ fn first_sets(sets: [u32; TYPES], types: usize) -> [u32; TYPES]
     requires { ⌜ types ≤ 64 ⌝ }
     ensures { λ r. ⌜ r ≡ firstSets types sets ⌝ }
 {
-    let none = StateSet::NONE;
-    let mut kept = [none.0; TYPES];
+    let mut kept = [StateSet::NONE.0; TYPES];
     let mut a = 0;
     while a < types {
         kept[a] = sets[a];
@@ -77,8 +77,7 @@ fn forward_states<'a>(
         (λ t. spreadAll (now (steps .entry)) (stepsOf (now (to .entry)) (now (by .entry)) (now (from .entry))) (now (live .entry)) 0 0 types t)
         startStates r ⌝ }
 {
-    let start = StateSet::START;
-    let mut forward = [start.0; TYPES];
+    let mut forward = [StateSet::START.0; TYPES];
     loop {
         let next = spread_all(to, by, from, steps, types, live, forward);
         if same_sets(next, forward) {
@@ -97,15 +96,16 @@ fn reached_types<'a>(
     types: usize,
     live: &'a [u32; TYPES],
     forward: &'a [u32; TYPES],
-    root: usize,
+    root: TypeNo,
 ) -> [bool; TYPES]
-    requires { ⌜ (types ≤ 64) × (offset (now steps) types ≤ 1024) × (root < 64) ⌝ }
+    requires { ⌜ (types ≤ 64) × (offset (now steps) types ≤ 1024) × (root .0 < 64) ⌝ }
     ensures { λ r. ⌜ Settled
         (λ t. reachAll (now (steps .entry)) (stepsOf (now (from .entry)) (now (by .entry)) (now (to .entry))) (now (live .entry)) (now (forward .entry)) 0 0 types t)
-        (set (replicate 64 false) root true) r ⌝ }
+        (set (replicate 64 false) (root .0) true) r ⌝ }
 {
+    let first = root.0 as usize;
     let mut reached = [false; TYPES];
-    reached[root] = true;
+    reached[first] = true;
     loop {
         let next = reach_all(from, by, to, steps, types, live, forward, reached);
         if same_flags(next, reached) {
@@ -141,7 +141,7 @@ pub fn live(schema: Schema) -> LiveStates
     if !within(schema) {
         return LiveStates {
             inside: false,
-            live: [0u32; TYPES],
+            live: [StateSet::NONE.0; TYPES],
         };
     }
     let types = schema.types as usize;
@@ -163,13 +163,13 @@ pub fn trim(schema: Schema) -> Trimming
 {
     if !within(schema) {
         return Trimming {
-            live: [0u32; TYPES],
+            live: [StateSet::NONE.0; TYPES],
             bears: [false; TYPES],
             reached: [false; TYPES],
         };
     }
     let types = schema.types as usize;
-    let root = schema.root.0 as usize;
+    let root = schema.root;
     let accepting = schema.accepting;
     let live = live_states(
         &schema.from,

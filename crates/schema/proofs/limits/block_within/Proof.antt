@@ -21,7 +21,7 @@ below-requires c κs = search needs
 
 returns-4 : tie.Need-returns-4
 returns-4 c =
-    let start = c .before .before .before .before .before .args in
+    let start = c .before .before .before .before .before .before .args in
     let below = states-below (start .states) (start .accepting) (omega arith) (omega arith) in
     (λ f. absurd f, λ w. absurd (T-not (c .before .below .result) (rw (c .if4 .taken) tt) (c .before .below .ensures .1 (below .0 (w .accepting-below)))))
 
@@ -30,7 +30,7 @@ steps-within-requires c κs = search needs
 
 returns-5 : tie.Need-returns-5
 returns-5 c =
-    let start = c .before .before .before .before .before .before .args in
+    let start = c .before .before .before .before .before .before .before .args in
     let below = states-below (start .states) (start .accepting) (omega arith) (omega arith) in (
       λ t. record {
         tag-below = omega arith;

@@ -45,17 +45,17 @@ returns c = (
       omega (arith, blocks-full _ _ _ _ _ _ _ _ _ _ (c .before .count .ensures) (c .before .before .before .loop-test .taken) left),
 )
 
+element-copy-out-t20 : tie.Need-element-copy-out-t20 Inv-loop μ-loop
+element-copy-out-t20 c = search needs
+
 element-copy-out-block-within : tie.Need-element-copy-out-block-within Inv-loop μ-loop
 element-copy-out-block-within c = search needs
-
-element-copy-out-block-within-2 : tie.Need-element-copy-out-block-within-2 Inv-loop μ-loop
-element-copy-out-block-within-2 c = search needs
 
 mul-block-within : tie.Need-mul-block-within Inv-loop μ-loop
 mul-block-within c = search needs
 
-element-copy-out-block-within-3 : tie.Need-element-copy-out-block-within-3 Inv-loop μ-loop
-element-copy-out-block-within-3 c = search needs
+element-copy-out-block-within-2 : tie.Need-element-copy-out-block-within-2 Inv-loop μ-loop
+element-copy-out-block-within-2 c = search needs
 
 block-within-requires : tie.Need-block-within-requires Inv-loop μ-loop
 block-within-requires c κs = search needs
@@ -113,10 +113,10 @@ blocks-within-spec =
     count-requires
     sub-if1
     returns
+    element-copy-out-t20
     element-copy-out-block-within
-    element-copy-out-block-within-2
     mul-block-within
-    element-copy-out-block-within-3
+    element-copy-out-block-within-2
     block-within-requires
     returns-2
     add-start

@@ -29,11 +29,11 @@ loop-holds c =
 element-copy-out-step-within : tie.Need-element-copy-out-step-within Inv-loop μ-loop
 element-copy-out-step-within c = search needs
 
+element-copy-out-t16 : tie.Need-element-copy-out-t16 Inv-loop μ-loop
+element-copy-out-t16 c = search needs
+
 element-copy-out-step-within-2 : tie.Need-element-copy-out-step-within-2 Inv-loop μ-loop
 element-copy-out-step-within-2 c = search needs
-
-element-copy-out-step-within-3 : tie.Need-element-copy-out-step-within-3 Inv-loop μ-loop
-element-copy-out-step-within-3 c = search needs
 
 step-within-requires : tie.Need-step-within-requires Inv-loop μ-loop
 step-within-requires c κs = search needs
@@ -76,8 +76,8 @@ steps-within-spec =
     add-end
     loop-holds
     element-copy-out-step-within
+    element-copy-out-t16
     element-copy-out-step-within-2
-    element-copy-out-step-within-3
     step-within-requires
     returns
     add-i

@@ -16,26 +16,26 @@ sets c a =
     f .fits
 
 returns : tie.Need-returns
-returns c = (λ f. absurd f, λ w. let k = within-means _ (sets (c .before)) .0 w in omega arith)
+returns c = (λ f. absurd f, λ w. let k = within-means _ (sets (c .before .before)) .0 w in omega arith)
 
 returns-2 : tie.Need-returns-2
-returns-2 c = (λ f. absurd f, λ w. let k = within-means _ (sets (c .before .before)) .0 w in omega arith)
+returns-2 c = (λ f. absurd f, λ w. let k = within-means _ (sets (c .before .before .before)) .0 w in omega arith)
 
 cast-if3 : tie.Need-cast-if3
 cast-if3 c = search needs
 
 returns-3 : tie.Need-returns-3
-returns-3 c = (λ f. absurd f, λ w. let k = within-means _ (sets (c .before .before .before)) .0 w in omega arith)
+returns-3 c = (λ f. absurd f, λ w. let k = within-means _ (sets (c .before .before .before .before)) .0 w in omega arith)
 
 returns-4 : tie.Need-returns-4
-returns-4 c = (λ f. absurd f, λ w. let k = within-means _ (sets (c .before .before .before .before)) .0 w in omega arith)
+returns-4 c = (λ f. absurd f, λ w. let k = within-means _ (sets (c .before .before .before .before .before .before)) .0 w in omega arith)
 
 blocks-within-requires : tie.Need-blocks-within-requires
 blocks-within-requires c κs = search needs
 
 returns-5 : tie.Need-returns-5
 returns-5 c =
-    let start = c .before .before .before .before .before .before .before .before .before .before .before .before .before in
+    let start = c .before .before .before .before .before .before .before .before .before .before .before .before .before .before .before in
     let is = within-means _ (sets start) in (
       λ t. is .1 (record {
         tags-least = omega arith;

@@ -6,6 +6,9 @@ use borrow.Author.Needs.{needs}
 use Rattle.schema.proofs.reach.reach_step.Statement.{statement}
 use Rattle.schema.proofs.reach.reach_step.Tie as tie
 
+cast-b : tie.Need-cast-b
+cast-b c = search needs
+
 has-requires : tie.Need-has-requires
 has-requires c κs = search needs
 
@@ -54,6 +57,7 @@ pub reach-step-spec : {M : Type 1} → statement M
 reach-step-spec =
     tie.close
     (tie.spec
+    cast-b
     has-requires
     returns
     mul-t10

@@ -43,11 +43,11 @@ loop-holds c =
 element-copy-out-reach-step : tie.Need-element-copy-out-reach-step Inv-loop μ-loop
 element-copy-out-reach-step c = search needs
 
+element-copy-out-t20 : tie.Need-element-copy-out-t20 Inv-loop μ-loop
+element-copy-out-t20 c = search needs
+
 element-copy-out-reach-step-2 : tie.Need-element-copy-out-reach-step-2 Inv-loop μ-loop
 element-copy-out-reach-step-2 c = search needs
-
-element-copy-out-reach-step-3 : tie.Need-element-copy-out-reach-step-3 Inv-loop μ-loop
-element-copy-out-reach-step-3 c = search needs
 
 reach-step-requires : tie.Need-reach-step-requires Inv-loop μ-loop
 reach-step-requires c κs = search needs
@@ -75,8 +75,8 @@ reach-steps-spec =
     add-end
     loop-holds
     element-copy-out-reach-step
+    element-copy-out-t20
     element-copy-out-reach-step-2
-    element-copy-out-reach-step-3
     reach-step-requires
     add-i
     loop-less

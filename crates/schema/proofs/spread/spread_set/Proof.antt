@@ -39,11 +39,11 @@ loop-holds c =
 element-copy-out-spread-step : tie.Need-element-copy-out-spread-step Inv-loop μ-loop
 element-copy-out-spread-step c = search needs
 
+element-copy-out-t17 : tie.Need-element-copy-out-t17 Inv-loop μ-loop
+element-copy-out-t17 c = search needs
+
 element-copy-out-spread-step-2 : tie.Need-element-copy-out-spread-step-2 Inv-loop μ-loop
 element-copy-out-spread-step-2 c = search needs
-
-element-copy-out-spread-step-3 : tie.Need-element-copy-out-spread-step-3 Inv-loop μ-loop
-element-copy-out-spread-step-3 c = search needs
 
 spread-step-requires : tie.Need-spread-step-requires Inv-loop μ-loop
 spread-step-requires c κs = search needs
@@ -71,8 +71,8 @@ spread-set-spec =
     add-end
     loop-holds
     element-copy-out-spread-step
+    element-copy-out-t17
     element-copy-out-spread-step-2
-    element-copy-out-spread-step-3
     spread-step-requires
     add-i
     loop-less

@@ -6,6 +6,9 @@ use borrow.Author.Needs.{needs}
 use Rattle.schema.proofs.spread.spread_step.Statement.{statement}
 use Rattle.schema.proofs.spread.spread_step.Tie as tie
 
+cast-b : tie.Need-cast-b
+cast-b c = search needs
+
 mul-t8 : tie.Need-mul-t8
 mul-t8 c = search needs
 
@@ -43,6 +46,7 @@ pub spread-step-spec : {M : Type 1} → statement M
 spread-step-spec =
     tie.close
     (tie.spec
+    cast-b
     mul-t8
     element-copy-out-t12
     has-requires

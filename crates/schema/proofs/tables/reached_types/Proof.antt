@@ -11,11 +11,14 @@ use Rattle.schema.proofs.tables.reached_types.Statement.{statement}
 use Rattle.schema.proofs.tables.reached_types.Tie as tie
 
 abbrev Inv-loop : tie.InvT-loop
-Inv-loop from by to steps types live forward root reached₀ reached =
+Inv-loop from by to steps types live forward first reached₀ reached =
     Turn (λ t. length t ≡ 64) (λ t. reachAll steps (stepsOf from by to) live forward 0 0 types t) reached₀ reached
 
 abbrev μ-loop : tie.MeasureT-loop
-μ-loop from by to steps types live forward root reached₀ reached = 64 - count reached
+μ-loop from by to steps types live forward first reached₀ reached = 64 - count reached
+
+cast-first : tie.Need-cast-first Inv-loop μ-loop
+cast-first c = search needs
 
 array-write-reached : tie.Need-array-write-reached Inv-loop μ-loop
 array-write-reached c = search needs
@@ -51,6 +54,7 @@ reached-types-spec =
     (tie.spec
     Inv-loop
     μ-loop
+    cast-first
     array-write-reached
     loop-holds
     reach-all-requires

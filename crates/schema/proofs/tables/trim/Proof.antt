@@ -27,24 +27,21 @@ returns c = record { inside = λ w. absurd (T-not (c .before .within .result) (r
 cast-types : tie.Need-cast-types
 cast-types c = search needs
 
-cast-root : tie.Need-cast-root
-cast-root c = search needs
-
 live-states-requires : tie.Need-live-states-requires
 live-states-requires c κs =
-    let start = c .before .before .before .before .before .before in
+    let start = c .before .before .before .before .before .before .before in
     let room = within-room _ (passed (start .before .within .result) (start .if1 .left) (start .before .within .ensures)) in
     (room .types, room .steps)
 
 forward-states-requires : tie.Need-forward-states-requires
 forward-states-requires c κs =
-    let start = c .before .before .before .before .before .before .before .before .before .before .before .before .before in
+    let start = c .before .before .before .before .before .before .before .before .before .before .before .before .before .before in
     let room = within-room _ (passed (start .before .within .result) (start .if1 .left) (start .before .within .ensures)) in
     (room .types, room .steps)
 
 reached-types-requires : tie.Need-reached-types-requires
 reached-types-requires c κs =
-    let start = c .before .before .before .before .before .before .before .before .before .before .before .before .before .before .before .before .before .before .before .before .before in
+    let start = c .before .before .before .before .before .before .before .before .before .before .before .before .before .before .before .before .before .before .before .before .before .before in
     let room = within-room _ (passed (start .before .within .result) (start .if1 .left) (start .before .within .ensures)) in
     (room .types, room .steps, room .root)
 
@@ -53,7 +50,7 @@ bearing-types-requires c κs = search needs
 
 returns-2 : tie.Need-returns-2
 returns-2 c =
-    let start = c .before .before .before .before .before .before .before .before .before .before .before .before .before .before .before .before .before .before .before .before .before .before .before in
+    let start = c .before .before .before .before .before .before .before .before .before .before .before .before .before .before .before .before .before .before .before .before .before .before .before .before in
     record {
       inside = λ w.
           rw (c .bearing-types .ensures)
@@ -71,7 +68,6 @@ trim-spec =
     within-requires
     returns
     cast-types
-    cast-root
     live-states-requires
     forward-states-requires
     reached-types-requires
