@@ -7,3 +7,4 @@ pub mod SpreadLaws
 pub mod ReachLaws
 pub mod FirstTables
 pub mod TablesExact
+pub mod TablesTrim

@@ -7,7 +7,7 @@ use lib.Dec.{T}
 use lib.ListN.{getD, replicate}
 use Rattle.sdtd.specs.Limits.{mostTypes}
 use Rattle.sdtd.specs.Schema.{Schema, WithinLimits}
-use Rattle.sdtd.specs.Trim.{Bears, Live, Reached}
+use Rattle.sdtd.specs.Trim.{Bears, Live, Reached, trimBy}
 use Rattle.schema.specs.States.{member}
 use Rattle.schema.specs.declared.tables.Trimming.{Trimming}
 use Rattle.schema.specs.declared.tables.LiveStates.{LiveStates}
@@ -17,6 +17,18 @@ pub record Exact (S : Schema) (t : Trimming) : Type 0 where
   pub live : (a q : ℕ) → T (member q (getD (t .live) a 0)) ↔ Live S a q
   pub bears : (a : ℕ) → T (getD (t .bears) a false) ↔ Bears S a
   pub reached : (a : ℕ) → T (getD (t .reached) a false) ↔ Reached S a
+
+-- The schema trimmed by the tables: a type is kept that is in `reached` and `bears`, and of it each step by a type in `bears` between states
+-- in `live`.
+abbrev pub trimmedBy : Trimming → Schema → Schema
+trimmedBy t S =
+    trimBy
+    (record {
+      reached = λ a. getD (t .reached) a false;
+      bears = λ a. getD (t .bears) a false;
+      live = λ a q. member q (getD (t .live) a 0);
+    })
+    S
 
 -- tables of nothing
 abbrev pub nothing : Trimming

@@ -1,19 +1,22 @@
 -- The demands are met.
-use mathlib.Core.Path.{_≡_, refl, sym}
+use mathlib.Core.Path.{_≡_, refl, sym, subst}
 use mathlib.Core.Logic.{inl, inr, ⊎-elim}
 use mathlib.Core.List.{List, [], _++_}
 use Prim.Native.Nat.{ℕ}
 use native.Mathlib.Omega.{arith}
 use lib.ListN.{length, drop}
 use Rattle.schema.specs.Value.{meaning}
+use Rattle.sdtd.specs.Schema.{WithinLimits}
 use Rattle.sdtd.specs.Schema.{Schema as Meaning}
 use Rattle.sdtd.specs.Document.{Ambiguous}
 use Rattle.sdtd.proofs.Ambiguity.{competition-is-ambiguity}
 use Rattle.sdtd.proofs.Unique.{same-types}
 use Rattle.sdtd.proofs.Trimming.{trimmed-same, trimmed-valid}
 use Rattle.sdtd.proofs.ReachedTypes.{trimmed-exists}
+use Rattle.schema.proofs.TablesTrim.{tables-trim}
 use Rattle.competition.specs.Search.{Written}
 use Rattle.commands.specs.File.{Stated, Commands, stopped, states, commands, schemaBy, unknown, StatesSchema}
+use Rattle.commands.proofs.StatedLimits.{stated-within}
 use Rattle.schema_file.specs.Answer.{AnswerBy, OfStated, FileMeans}
 use Rattle.schema_file.specs.declared.file.FileAnswer.{FileAnswer}
 use Rattle.schema_file.specs.declared.file.FileAnswer.the-variants.{Refused}
@@ -106,6 +109,10 @@ refused-ambiguous {file} {was} {is} {f} m q =
     ⊎-elim (λ o. let z : _≡_ {A = ℕ} 9 1 = cc in absurd (omega arith))
     (λ o. nine-ambiguous file was is (commands file) refl (f .answer) q (o .1) (m .buffer .0 q)) (m .answer)
 
+-- a schema that a file states is inside the limits
+states-within : {file : List ℕ} {S : Meaning} → StatesSchema file S → WithinLimits S
+states-within {file} x = subst WithinLimits (x .schema) (stated-within file (x .stated) (x .passes) (x .known))
+
 pub not-testable : NotTestable
 not-testable file was is f m =
     record {
@@ -113,6 +120,7 @@ not-testable file was is f m =
       had-to-be = refused-ambiguous m;
       keeps-type = λ a e d₁ d₂ v₁ v₂. same-types (accepted-file m a .schema .no-competition) v₁ v₂ e;
       trimmed = λ S x. trimmed-exists S;
+      by-tables = λ S x t tables. tables-trim (tables .inside (states-within x));
       same-documents = λ S S′ x t d. let s = trimmed-valid t d in (λ v. s .0 v .valid, λ v. s .1 v .valid);
       same-typings = λ S S′ x t. trimmed-same t;
     }

@@ -1,7 +1,7 @@
 -- The demands, and what could not be tested, as statements about the promises that the calls are proved to keep: `FileMeans` is the promise
--- of `schema_file::read`, `CallMeans` that of `Reading::open`, `close` and `finish`, `EventsMean` that of `reading::read_events`, and `fresh`
--- that of `Reading::fresh`. What the words mean (valid, begins, ambiguous, competition) is in `crates/sdtd/specs/`. `proofs/DemandsMet.antt`
--- proves them.
+-- of `schema_file::read`, `CallMeans` that of `Reading::open`, `close` and `finish`, `EventsMean` that of `reading::read_events`, `fresh` that
+-- of `Reading::fresh`, and `TrimMeans` that of `schema::trim`. What the words mean (valid, begins, ambiguous, competition, trimmed) is in
+-- `crates/sdtd/specs/`. `proofs/DemandsMet.antt` proves them.
 use mathlib.Core.Path.{_≡_}
 use mathlib.Core.Logic.{_↔_}
 use mathlib.Core.List.{List}
@@ -14,7 +14,9 @@ use Rattle.sdtd.specs.Document.{Event, Valid, SomeValid, openings, typesOf, Beg
 use Rattle.sdtd.specs.Trim.{Trimmed}
 use Rattle.sdtd.specs.Calls.{Exchange, ListMeets, WholeMeets}
 use Rattle.schema.specs.Value.{meaning}
+use Rattle.schema.specs.Trimming.{TrimMeans, trimmedBy}
 use Rattle.schema.specs.declared.value.Schema.{Schema}
+use Rattle.schema.specs.declared.tables.Trimming.{Trimming}
 use Rattle.commands.specs.File.{commands, StatesSchema}
 use Rattle.schema_file.specs.Answer.{AnswerIs, BufferBy, FileMeans, Demand3File}
 use Rattle.schema_file.specs.declared.file.FileAnswer.{FileAnswer}
@@ -105,9 +107,10 @@ pub record NotTestableOf (file : List ℕ) (f : SchemaFile) : Type 0 where
   pub keeps-type : f .answer ≡ Accepted
       → (e d₁ d₂ : List Event) (v₁ : Valid (meaning (f .schema)) d₁) (v₂ : Valid (meaning (f .schema)) d₂) → BeginningOf e d₁ → BeginningOf e d₂
       → take (openings e) (typesOf v₁) ≡ take (openings e) (typesOf v₂)
-  -- "That trimming unused types loses no document": a schema that a file states, accepted or not, can be trimmed, and every trimmed one has
-  -- the same documents and typings
+  -- "That trimming unused types loses no document": a schema that a file states, accepted or not, can be trimmed, and the tables that
+  -- `schema::trim` promises trim it; every trimmed schema, that of the tables included, has the same documents and typings
   pub trimmed : (S : Meaning) → StatesSchema file S → (S′ : Meaning) × Trimmed S S′
+  pub by-tables : (S : Meaning) → StatesSchema file S → (t : Trimming) → TrimMeans S t → Trimmed S (trimmedBy t S)
   pub same-documents : (S S′ : Meaning) → StatesSchema file S → Trimmed S S′ → (d : List Event) → Valid S d ↔ Valid S′ d
   pub same-typings : (S S′ : Meaning) → StatesSchema file S → Trimmed S S′
       → (tree typed : Tree) → IsTyping S tree typed ↔ IsTyping S′ tree typed
