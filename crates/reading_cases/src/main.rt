@@ -36,18 +36,18 @@ const FINISH: u8 = 2;
 const INPUT: i32 = 0;
 
 // The call that the byte names.
-fn call(schema: Schema, reading: Reading, which: u8, tag: u8) -> Next {
+fn call(schema: Schema, reading: Reading, which: u8, tag: Tag) -> Next {
     if which == OPENING {
-        return reading.open(schema, Tag(tag));
+        return reading.open(schema, tag);
     }
     if which == CLOSING {
-        return reading.close(schema, Tag(tag));
+        return reading.close(schema, tag);
     }
     reading.finish(schema)
 }
 
 // A call, with its answer and what it changed printed.
-fn run_call(held: Held, which: u8, tag: u8) -> Held {
+fn run_call(held: Held, which: u8, tag: Tag) -> Held {
     let schema = held.schema;
     let before = held.reading;
     let next = call(schema, before, which, tag);
@@ -79,7 +79,7 @@ fn run_item(held: Held) -> Held {
     io::read_full(INPUT, &mut item);
     let which = item[0];
     if which <= FINISH {
-        return run_call(held, which, item[1]);
+        return run_call(held, which, Tag(item[1]));
     }
     run_make_up(held, which, item[1])
 }

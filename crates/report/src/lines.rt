@@ -50,12 +50,12 @@ pub(crate) fn put_refusal(
 }
 
 // `type A gives J or K`.
-fn put_rivals(out: &mut [u8], at: usize, a: u8, j: u8, k: u8) -> usize
-    ensures { λ r. ⌜ Laid (now (out .entry)) at (rivals a j k) (now (out .exit)) r ⌝ }
+fn put_rivals(out: &mut [u8], at: usize, a: TypeNo, j: TypeNo, k: TypeNo) -> usize
+    ensures { λ r. ⌜ Laid (now (out .entry)) at (rivals (a .0) (j .0) (k .0)) (now (out .exit)) r ⌝ }
 {
-    let first = put_numbered(out, at, b"type ", wide(a));
-    let second = put_numbered(out, first, b" gives ", wide(j));
-    put_numbered(out, second, b" or ", wide(k))
+    let first = put_numbered(out, at, b"type ", wide(a.0));
+    let second = put_numbered(out, first, b" gives ", wide(j.0));
+    put_numbered(out, second, b" or ", wide(k.0))
 }
 
 // `type A gives J or K after n`, from the bytes of a witness.
@@ -63,7 +63,13 @@ pub(crate) fn put_witness(out: &mut [u8], at: usize, witness: &[u8]) -> usize
     requires { ⌜ 5 ≤ length (now witness) ⌝ }
     ensures { λ r. ⌜ Laid (now (out .entry)) at (witnessLine (now (witness .entry))) (now (out .exit)) r ⌝ }
 {
-    let first = put_rivals(out, at, witness[0], witness[1], witness[2]);
+    let first = put_rivals(
+        out,
+        at,
+        TypeNo(witness[0]),
+        TypeNo(witness[1]),
+        TypeNo(witness[2]),
+    );
     let last = put_numbered(out, first, b" after ", two(witness[3], witness[4]));
     put(out, last, END)
 }

@@ -10,6 +10,7 @@ use schema::StateSet;
 use schema::TYPES;
 use schema::trim;
 use schema::within;
+use sdtd::TypeNo;
 
 // What a witness buffer holds before the search.
 const BLANK: u8 = 0xEE;
@@ -62,11 +63,11 @@ fn show_states(set: StateSet) {
 }
 
 // The live states of the type a.
-fn show_live(a: usize, set: StateSet) {
-    if 0 < a {
+fn show_live(a: TypeNo, set: StateSet) {
+    if 0 < a.0 {
         text(b",");
     }
-    show_one(a);
+    show_one(a.0 as usize);
     text(b":");
     show_states(set);
 }
@@ -76,7 +77,7 @@ fn show_live_states(live: [u32; TYPES], types: usize) {
     let mut a = 0;
     while a < TYPES {
         if a < types {
-            show_live(a, StateSet(live[a]));
+            show_live(TypeNo(a as u8), StateSet(live[a]));
         }
         a += 1;
     }

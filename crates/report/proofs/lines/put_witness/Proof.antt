@@ -7,14 +7,14 @@ use Rattle.report.proofs.DecimalLaws.{laid-numbered}
 use Rattle.report.proofs.lines.put_witness.Statement.{statement}
 use Rattle.report.proofs.lines.put_witness.Tie as tie
 
-shared-slice-read-put-rivals : tie.Need-shared-slice-read-put-rivals
-shared-slice-read-put-rivals c = search needs
+shared-slice-read-two : tie.Need-shared-slice-read-two
+shared-slice-read-two c = search needs
 
-shared-slice-read-put-rivals-2 : tie.Need-shared-slice-read-put-rivals-2
-shared-slice-read-put-rivals-2 c = search needs
+shared-slice-read-two-2 : tie.Need-shared-slice-read-two-2
+shared-slice-read-two-2 c = search needs
 
-shared-slice-read-put-rivals-3 : tie.Need-shared-slice-read-put-rivals-3
-shared-slice-read-put-rivals-3 c = search needs
+shared-slice-read-t16 : tie.Need-shared-slice-read-t16
+shared-slice-read-t16 c = search needs
 
 put-rivals-requires : tie.Need-put-rivals-requires
 put-rivals-requires c κs = search needs
@@ -22,11 +22,11 @@ put-rivals-requires c κs = search needs
 slice-aggregate-put-numbered : tie.Need-slice-aggregate-put-numbered
 slice-aggregate-put-numbered c = search needs
 
-shared-slice-read-two : tie.Need-shared-slice-read-two
-shared-slice-read-two c = search needs
+shared-slice-read-two-3 : tie.Need-shared-slice-read-two-3
+shared-slice-read-two-3 c = search needs
 
-shared-slice-read-two-2 : tie.Need-shared-slice-read-two-2
-shared-slice-read-two-2 c = search needs
+shared-slice-read-two-4 : tie.Need-shared-slice-read-two-4
+shared-slice-read-two-4 c = search needs
 
 two-requires : tie.Need-two-requires
 two-requires c κs = search needs
@@ -52,13 +52,13 @@ pub put-witness-spec : {M : Type 1} → statement M
 put-witness-spec =
     tie.close
     (tie.spec
-    shared-slice-read-put-rivals
-    shared-slice-read-put-rivals-2
-    shared-slice-read-put-rivals-3
-    put-rivals-requires
-    slice-aggregate-put-numbered
     shared-slice-read-two
     shared-slice-read-two-2
+    shared-slice-read-t16
+    put-rivals-requires
+    slice-aggregate-put-numbered
+    shared-slice-read-two-3
+    shared-slice-read-two-4
     two-requires
     put-numbered-requires
     put-requires

@@ -13,11 +13,14 @@ abbrev μ-loop : tie.MeasureT-loop
 loop-holds : tie.Need-loop-holds Inv-loop μ-loop
 loop-holds c = search needs
 
-mul-t7 : tie.Need-mul-t7 Inv-loop μ-loop
-mul-t7 c = search needs
+cast-t7 : tie.Need-cast-t7 Inv-loop μ-loop
+cast-t7 c = search needs
 
-array-read-t10 : tie.Need-array-read-t10 Inv-loop μ-loop
-array-read-t10 c = search needs
+mul-t9 : tie.Need-mul-t9 Inv-loop μ-loop
+mul-t9 c = search needs
+
+array-read-t12 : tie.Need-array-read-t12 Inv-loop μ-loop
+array-read-t12 c = search needs
 
 show-live-requires : tie.Need-show-live-requires Inv-loop μ-loop
 show-live-requires c κs = search needs
@@ -41,8 +44,9 @@ show-live-states-spec =
     Inv-loop
     μ-loop
     loop-holds
-    mul-t7
-    array-read-t10
+    cast-t7
+    mul-t9
+    array-read-t12
     show-live-requires
     add-a
     loop-less
