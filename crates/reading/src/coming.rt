@@ -60,11 +60,18 @@ pub(crate) fn label_type<'a>(
     }
 }
 
-// A step by j to q, beside what came so far: a smaller type replaces it, a larger one changes nothing, the same type adds the state.
+// A step by j to q, beside what came so far: the same type adds the state, a smaller type replaces it, a larger one changes nothing.
 fn join(best: Coming, j: TypeNo, q: u8) -> Coming
     ensures { λ r. ⌜ r ≡ joined best (j .0) q ⌝ }
 {
     let of = best.of;
+    if j.same(of) {
+        let more = StateSet(best.kept).with(q);
+        return Coming {
+            of: j,
+            kept: more.0,
+        };
+    }
     if j.before(of) {
         let only = StateSet::NONE.with(q);
         return Coming {
@@ -72,14 +79,7 @@ fn join(best: Coming, j: TypeNo, q: u8) -> Coming
             kept: only.0,
         };
     }
-    if of.before(j) {
-        return best;
-    }
-    let more = StateSet(best.kept).with(q);
-    Coming {
-        of: j,
-        kept: more.0,
-    }
+    best
 }
 
 // What comes next under the tag g from the states of the set, by the n labelled steps from start on.

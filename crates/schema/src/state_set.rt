@@ -29,10 +29,7 @@ impl StateSet {
     pub fn with(self, state: u8) -> StateSet
         ensures { λ r. ⌜ r .0 ≡ insert state (self .0) ⌝ }
     {
-        if STATES <= state {
-            return self;
-        }
-        StateSet(self.0 | 1 << (state as u32))
+        StateSet(self.0 | ((state < STATES) as u32) << ((state % STATES) as u32))
     }
 
     // Have the two sets a state in common?
