@@ -13,7 +13,8 @@ use Rattle.sdtd.specs.declared.Tag.{Tag}
 use Rattle.sdtd.specs.declared.TypeNo.{TypeNo}
 use Rattle.schema.specs.States.{member}
 use Rattle.schema.specs.Value.{upFrom, offset, blockAt, meaning}
-use Rattle.commands.specs.Command.{typeNo, commandOf, commandAt, isCommand, size}
+use Rattle.sdtd.specs.Numbered.{typeNo}
+use Rattle.commands.specs.Command.{commandOf, commandAt, isCommand, size}
 use Rattle.commands.specs.File.{tagged, inside, rooted, ended, Placed, Stated, nothingStated, current, stepCount, hasStep}
 use Rattle.commands.specs.File.{inOrder, inRange, withinCounts, notGiven, failed, after, stopped, states, commandsFrom}
 use Rattle.commands.specs.File.{schemaBy, unknown}

@@ -17,7 +17,7 @@ use Rattle.sdtd.proofs.Bearing.{word-bears}
 use Rattle.sdtd.proofs.Rivals.{compete-rivals}
 use Rattle.schema.specs.States.{member, insert}
 use Rattle.schema.proofs.Bits.{member-none, insert-below, member-insert, mem-members}
-use Rattle.commands.specs.Command.{tagNo, typeNo}
+use Rattle.sdtd.specs.Numbered.{tagNo, typeNo}
 use Rattle.commands.specs.File.{tagged, inside, ended, Placed, Draft, Stated, hasStep, after, failed, states, commands}
 use Rattle.commands.specs.File.{blockBy, schemaBy, unknownIn, unknownBy, unknown, mostBytes}
 use Rattle.commands.specs.declared.command.Command.{Command}

@@ -4,17 +4,9 @@ use mathlib.Core.List.{List}
 use Prim.Native.Nat.{ℕ, _+_}
 use lib.Dec.{eqb, leb}
 use lib.ListN.{length, getD}
-use Rattle.sdtd.specs.declared.Tag.{Tag}
-use Rattle.sdtd.specs.declared.TypeNo.{TypeNo}
+use Rattle.sdtd.specs.Numbered.{tagNo, typeNo}
 use Rattle.commands.specs.declared.command.Command.{Command}
 use Rattle.commands.specs.declared.command.Command.the-variants.{Tags, TypeBlock, Final, Step, Root, Done, NoCommand}
-
--- the tag and the type with a number
-abbrev pub tagNo : ℕ → Tag
-tagNo g = record { 0 = g }
-
-abbrev pub typeNo : ℕ → TypeNo
-typeNo j = record { 0 = j }
 
 -- the operand number k of the command at the place i
 abbrev operand : List ℕ → ℕ → ℕ → ℕ

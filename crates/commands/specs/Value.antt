@@ -4,9 +4,9 @@ use mathlib.Core.List.{List}
 use Prim.Native.Nat.{ℕ, _≤_}
 use lib.ListN.{getD, replicate}
 use Rattle.sdtd.specs.Limits.{mostTypes, mostSteps}
+use Rattle.sdtd.specs.Numbered.{typeNo}
 use Rattle.schema.specs.Value.{offset, meaning}
 use Rattle.schema.specs.declared.value.Schema.{Schema}
-use Rattle.commands.specs.Command.{typeNo}
 use Rattle.commands.specs.File.{Stated, schemaBy}
 
 -- the schema value beside a refusal: no tag, no type

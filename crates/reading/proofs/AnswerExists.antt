@@ -4,6 +4,7 @@ use mathlib.Core.List.{List, [], _∷_}
 use Prim.Native.Nat.{ℕ, pred, _<_}
 use native.Mathlib.Nat.{le-refl, le-trans}
 use native.Mathlib.Omega.{arith}
+use Rattle.sdtd.specs.Numbered.{typeNo}
 use Rattle.sdtd.specs.Limits.{mostStates, mostLevels}
 use Rattle.sdtd.specs.Schema.{Schema, tagOf}
 use Rattle.sdtd.specs.Document.{Event, opening, closing, finish}
@@ -33,7 +34,7 @@ opening-taken : (S : Schema) (r : Reading) (g : ℕ) → Within S r → (j : ℕ
 opening-taken S r g w o =
     let s = smallest-of (λ j. decided (open-decided S r g j .1)) (o .0) (o .1) in
     let k = set-below (λ q. leads-decided S r (s .number) q .1) 32 (le-refl 32) in (
-      gives (Typed (record { 0 = s .number })) (opened r (s .number) (k .set)),
+      gives (Typed (typeNo (s .number))) (opened r (s .number) (k .set)),
       record {
         type = s .number;
         can-open = s .holds;

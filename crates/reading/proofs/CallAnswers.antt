@@ -6,6 +6,7 @@ use mathlib.Core.List.{List, [], _∷_, _++_, append-nil}
 use Prim.Native.Nat.{ℕ, pred, _<_}
 use native.Mathlib.Omega.{arith}
 use lib.ListN.{length, drop}
+use Rattle.sdtd.specs.Numbered.{typeNo}
 use Rattle.sdtd.specs.Limits.{mostLevels}
 use Rattle.sdtd.specs.Schema.{Schema, blockOf, tagOf, Word}
 use Rattle.sdtd.specs.Document.{Event, opening, closing, finish, Begins}
@@ -60,7 +61,7 @@ module _ {S : Schema} (free : ¬ Competition S) {e : List Event} {r : Reading} (
       let j = t .type in
       let c : Candidate S o w j = s .can-open g j .0 (t .can-open) .1 in
       subst (Answered S e (opening g) []) (sym (t .next))
-      (subst (λ (h : ℕ). Answered S e (opening h) [] (gives (Typed (record { 0 = j })) (opened r j (t .kept)))) (t .can-open .tag)
+      (subst (λ (h : ℕ). Answered S e (opening h) [] (gives (Typed (typeNo j)) (opened r j (t .kept)))) (t .can-open .tag)
       (record {
         right = record { type = j; answer = refl; given = opening-given free p c };
         next =

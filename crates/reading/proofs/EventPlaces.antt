@@ -11,7 +11,8 @@ use lib.ListN.{length, getD, drop, drop-of-length-le}
 use lib.Seq.{drop-cons}
 use Rattle.sdtd.specs.Document.{opening, closing, finish}
 use Rattle.reading.specs.EventFile.{Events, ends, stray, event, eventsOf}
-use Rattle.reading.specs.Events.{tagged, size, eventFrom, eventAt}
+use Rattle.sdtd.specs.Numbered.{tagNo}
+use Rattle.reading.specs.Events.{size, eventFrom, eventAt}
 use Rattle.reading.specs.declared.events.FileEvent.{FileEvent}
 use Rattle.reading.specs.declared.events.FileEvent.the-variants.{Open, Close, Finish, NoEvent}
 
@@ -33,8 +34,8 @@ module _ (file : List ℕ) (at : ℕ) (inside : at < length file) where
       ≡ cond t (event (opening g) (eventsOf (drop (at + 2) file)))
       (cond u (event (closing g) (eventsOf (drop (at + 2) file))) (cond f (event finish later) stray))
       → Stands file at
-      (cond t (cond both (Open (tagged g)) NoEvent)
-      (cond u (cond both (Close (tagged g)) NoEvent) (cond f (cond one Finish NoEvent) NoEvent)))
+      (cond t (cond both (Open (tagNo g)) NoEvent)
+      (cond u (cond both (Close (tagNo g)) NoEvent) (cond f (cond one Finish NoEvent) NoEvent)))
   two g later t u f false both p q o e = absurd (false≢true p)
   two g later t u f true false p q o e = absurd (false≢true q)
   two g later true u f true true p q o e = e
@@ -46,8 +47,8 @@ module _ (file : List ℕ) (at : ℕ) (inside : at < length file) where
   last : (g : ℕ) (t u f one both : Bool) → one ≡ true → both ≡ false → (t ≡ true → f ≡ false) → (u ≡ true → f ≡ false)
       → eventsOf (drop at file) ≡ cond f (event finish ends) stray → eventsOf (drop (at + 1) file) ≡ ends
       → Stands file at
-      (cond t (cond both (Open (tagged g)) NoEvent)
-      (cond u (cond both (Close (tagged g)) NoEvent) (cond f (cond one Finish NoEvent) NoEvent)))
+      (cond t (cond both (Open (tagNo g)) NoEvent)
+      (cond u (cond both (Close (tagNo g)) NoEvent) (cond f (cond one Finish NoEvent) NoEvent)))
   last g t u f false both p q m n e o = absurd (false≢true p)
   last g t u f true true p q m n e o = absurd (true≢false q)
   last g true u f true false p q m n e o = stray-here (e ∙ ap (λ (b : Bool). cond b (event finish ends) stray) (m refl))

@@ -7,6 +7,7 @@ use Prim.Native.Nat.{ℕ, zero, suc, _+_, _%_, _≤_, _<_}
 use lib.Dec.{T, eqb, ltb}
 use lib.ListN.{length, getD}
 use Rattle.sdtd.specs.Limits.{mostLevels}
+use Rattle.sdtd.specs.Numbered.{typeNo}
 use Rattle.sdtd.specs.Schema.{Schema as Meaning}
 use Rattle.sdtd.specs.Trim.{Live}
 use Rattle.schema.specs.States.{member, insert}
@@ -36,7 +37,7 @@ pub record Labelled (tag live : List ℕ) (own : ℕ) (by to : List ℕ) (s e : 
 
 -- the type of, or noType, and the states that it leads to
 abbrev pub found : ℕ → ℕ → Coming
-found of kept = record { of = record { 0 = of }; kept = kept }
+found of kept = record { of = typeNo of; kept = kept }
 
 -- a step by j to q: a smaller type replaces the one so far, the same type adds the state
 unfoldable pub join : Coming → ℕ → ℕ → Coming

@@ -6,18 +6,15 @@ use lib.Dec.{eqb, leb}
 use lib.ListN.{length, getD}
 use Rattle.sdtd.specs.Document.{Event, opening, closing, finish}
 use Rattle.sdtd.specs.declared.Tag.{Tag}
+use Rattle.sdtd.specs.Numbered.{tagNo}
 use Rattle.reading.specs.declared.events.FileEvent.{FileEvent}
 use Rattle.reading.specs.declared.events.FileEvent.the-variants.{Open, Close, Finish, NoEvent}
 
--- the tag with the number g
-abbrev pub tagged : ℕ → Tag
-tagged g = record { 0 = g }
-
 -- the operand of the event at the place i
 abbrev operand : List ℕ → ℕ → Tag
-operand file i = tagged (getD file (i + 1) 0)
+operand file i = tagNo (getD file (i + 1) 0)
 
--- how many bytes an event has
+-- how many bytes an event has; none where there is no event
 abbrev pub size : FileEvent → ℕ
 size (Open g) = 2
 size (Close g) = 2
@@ -46,6 +43,6 @@ placeAfter file i = i + size (eventAt file i)
 
 -- document 01's event as a case of the code's
 abbrev pub fileEvent : Event → FileEvent
-fileEvent (opening g) = Open (tagged g)
-fileEvent (closing g) = Close (tagged g)
+fileEvent (opening g) = Open (tagNo g)
+fileEvent (closing g) = Close (tagNo g)
 fileEvent finish = Finish

@@ -7,6 +7,7 @@ use Prim.Native.Nat.{ℕ, zero, suc, pred, _^_, _<_, _≤_}
 use lib.Dec.{T}
 use lib.ListN.{set}
 use Rattle.sdtd.specs.Limits.{mostStates, mostLevels}
+use Rattle.sdtd.specs.Numbered.{typeNo}
 use Rattle.sdtd.specs.Schema.{Schema, blockOf, tagOf}
 use Rattle.sdtd.specs.Tree.{IsRoot}
 use Rattle.sdtd.specs.Document.{Event, opening, closing, finish}
@@ -27,7 +28,7 @@ gives a r = record { answer = a; reading = r }
 -- a finish's.
 abbrev pub answerIn : Answer → EventAnswer
 answerIn (refused n) = Refused n
-answerIn (typed j) = Typed (record { 0 = j })
+answerIn (typed j) = Typed (typeNo j)
 answerIn taken = Taken
 
 -- document 01's answer, and the reading that follows

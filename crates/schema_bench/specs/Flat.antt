@@ -2,6 +2,7 @@
 use mathlib.Core.Path.{_≡_}
 use mathlib.Core.List.{List}
 use Prim.Native.Nat.{ℕ}
+use Rattle.sdtd.specs.Numbered.{typeNo}
 use Rattle.sdtd.specs.Schema.{Schema as Meaning}
 use Rattle.competition.specs.Search.{numberFor, SearchMeans}
 use Rattle.schema.specs.declared.value.Schema.{Schema}
@@ -16,7 +17,7 @@ valueOf f =
     record {
       tags = f .tags;
       types = f .types;
-      root = record { 0 = f .root };
+      root = typeNo (f .root);
       tag = f .tag;
       states = f .states;
       accepting = f .accepting;

@@ -4,6 +4,7 @@ use mathlib.Core.List.{List, [], _∷_, map}
 use Prim.Native.Nat.{ℕ, zero, suc, _+_, _≤_}
 use native.Mathlib.Omega.{arith}
 use lib.ListN.{length, take, length-take, length-map}
+use Rattle.sdtd.specs.Numbered.{typeNo}
 use Rattle.sdtd.specs.Schema.{Schema, tagOf}
 use Rattle.sdtd.specs.Document.{Event, opening, closing, finish}
 use Rattle.sdtd.specs.declared.TypeNo.{TypeNo}
@@ -51,8 +52,8 @@ module _ (S : Schema) (r : Reading) (n : Next) where
       → ((l : ℕ) → Tags S us (outline l es)) → Tags S (j .0 ∷ us) (outline level (event x es))
   typed-line (opening g) es level {j} us m e later =
       let t : OpeningTaken S r g n = called-taken (opening g) (typed-none e) m in
-      let p : n .answer ≡ Typed (record { 0 = t .type }) = ap (λ (m : Next). m .answer) (t .next) in
-      let q : Typed (record { 0 = t .type }) ≡ Typed j = sym p ∙ e in
+      let p : n .answer ≡ Typed (typeNo (t .type)) = ap (λ (m : Next). m .answer) (t .next) in
+      let q : Typed (typeNo (t .type)) ≡ Typed j = sym p ∙ e in
       let same : t .type ≡ j .0 = cc in
       let tag : g ≡ tagOf S (j .0) = sym (t .can-open .tag) ∙ ap (tagOf S) same in
       ap₂ (λ (h : ℕ) (hs : List ℕ). h ∷ hs) tag (later (suc level))

@@ -13,7 +13,8 @@ use Rattle.sdtd.specs.Reading.{depth}
 use Rattle.sdtd.specs.declared.Tag.{Tag}
 use Rattle.sdtd.proofs.Depth.{depth-opening, depth-closing, depth-finish}
 use Rattle.reading.specs.EventFile.{Events, ends, stray, event, eventsOf, sizeOf}
-use Rattle.reading.specs.Events.{tagged, size, eventAt, placeAfter}
+use Rattle.sdtd.specs.Numbered.{tagNo}
+use Rattle.reading.specs.Events.{size, eventAt, placeAfter}
 use Rattle.reading.specs.declared.events.FileEvent.{FileEvent}
 use Rattle.reading.specs.declared.events.FileEvent.the-variants.{Open, Close, Finish, NoEvent}
 use Rattle.reading.proofs.EventLaws.{Ends, event-ends, matched-ends}
@@ -160,7 +161,7 @@ deeper-inside level h = omega arith
 -- the lines are those of what is found, and of what is found after it
 abbrev Lines : List ℕ → Found → List Line → Type 0
 Lines file f [] = f ≡ NoOpening
-Lines file f (l ∷ ls) = (next : Cursor) × (f ≡ Opening (tagged (l .tag)) next) × (next .level ≡ l .level) × FoundInTurn file next ls
+Lines file f (l ∷ ls) = (next : Cursor) × (f ≡ Opening (tagNo (l .tag)) next) × (next .level ≡ l .level) × FoundInTurn file next ls
 
 lines-turn : (file : List ℕ) (c : Cursor) (ls : List Line) → Lines file (found file c) ls → FoundInTurn file c ls
 lines-turn file c [] k = k
@@ -178,7 +179,7 @@ lines-from file h (event (opening g) es) level at l q =
     lines-from file h es (suc level) past (omega arith) (k .0) in
     let d : deeper level ≡ suc level = deeper-inside level (omega (arith, k .1)) in (
       next,
-      ap (λ (n : ℕ). Opening (tagged g) (cursor past n)) d,
+      ap (λ (n : ℕ). Opening (tagNo g) (cursor past n)) d,
       refl,
       lines-turn file next (outline (suc level) es)
           (subst (λ (u : Events). Lines file (firstOpening (suc level) past u) (outline (suc level) es)) (sym (k .0)) rest),

@@ -7,7 +7,7 @@ use lib.ListN.{length, drop}
 use Rattle.sdtd.specs.Document.{Event, opening, closing, finish}
 use Rattle.sdtd.specs.Reading.{depth}
 use Rattle.reading.specs.EventFile.{Events, ends, stray, event, eventsOf, sizeOf}
-use Rattle.reading.specs.Events.{tagged}
+use Rattle.sdtd.specs.Numbered.{tagNo}
 use Rattle.typing.specs.declared.outline.Cursor.{Cursor}
 use Rattle.typing.specs.declared.outline.Found.{Found}
 use Rattle.typing.specs.declared.outline.Found.the-variants.{Opening, NoOpening}
@@ -26,7 +26,7 @@ shallower level = level - 1
 abbrev pub firstOpening : ℕ → ℕ → Events → Found
 firstOpening level at ends = NoOpening
 firstOpening level at stray = NoOpening
-firstOpening level at (event (opening g) es) = Opening (tagged g) (record { at = at + sizeOf (opening g); level = deeper level })
+firstOpening level at (event (opening g) es) = Opening (tagNo g) (record { at = at + sizeOf (opening g); level = deeper level })
 firstOpening level at (event (closing g) es) = firstOpening (shallower level) (at + sizeOf (closing g)) es
 firstOpening level at (event finish es) = firstOpening level (at + sizeOf finish) es
 
@@ -60,7 +60,7 @@ byDepth e (event finish es) = byDepth (e ++ (finish ∷ [])) es
 abbrev pub FoundInTurn : List ℕ → Cursor → List Line → Type 0
 FoundInTurn file c [] = found file c ≡ NoOpening
 FoundInTurn file c (l ∷ ls) =
-    (next : Cursor) × (found file c ≡ Opening (tagged (l .tag)) next) × (next .level ≡ l .level) × FoundInTurn file next ls
+    (next : Cursor) × (found file c ≡ Opening (tagNo (l .tag)) next) × (next .level ≡ l .level) × FoundInTurn file next ls
 
 -- a cursor at a file's start
 abbrev pub start : Cursor
