@@ -8,7 +8,7 @@ use lib.ListN.{length}
 use Rattle.sdtd.specs.Limits.{mostTags, mostTypes, mostStates, mostSteps}
 use Rattle.sdtd.specs.Schema.{Block, Schema}
 use Rattle.sdtd.specs.Schema.{Step as StepOf}
-use Rattle.schema.specs.States.{member, insert, members}
+use Rattle.schema.specs.States.{member, insert, members, noStates}
 use Rattle.commands.specs.Command.{commandAt, isCommand, size}
 use Rattle.commands.specs.declared.command.Command.{Command}
 use Rattle.commands.specs.declared.command.Command.the-variants.{Tags, TypeBlock, Final, Step, Root, Done, NoCommand}
@@ -53,7 +53,7 @@ nothingStated = record { phase = fresh; tags = 0; blocks = []; root = 0 }
 
 -- the block that the file is in
 abbrev pub current : List Draft → Draft
-current [] = record { tag = 0; states = 0; accepting = 0; steps = [] }
+current [] = record { tag = 0; states = 0; accepting = noStates; steps = [] }
 current (d ∷ ds) = d
 
 -- the number of steps so far
@@ -124,7 +124,7 @@ withStep s (d ∷ ds) = record { tag = d .tag; states = d .states; accepting = d
 unfoldable pub after : Stated → ℕ → Command → Stated
 after g i (Tags n) = record { phase = tagged; tags = n; blocks = g .blocks; root = g .root }
 after g i (TypeBlock t s) =
-    record { phase = inside; tags = g .tags; blocks = record { tag = t .0; states = s; accepting = 0; steps = [] } ∷ g .blocks; root = g .root }
+    record { phase = inside; tags = g .tags; blocks = record { tag = t .0; states = s; accepting = noStates; steps = [] } ∷ g .blocks; root = g .root }
 after g i (Final q) = record { phase = inside; tags = g .tags; blocks = withFinal q (g .blocks); root = g .root }
 after g i (Step p j q) =
     record {

@@ -5,11 +5,11 @@ use mathlib.Core.List.{List, [], _∷_}
 use Prim.Native.Nat.{ℕ, zero, suc, _+_, _-_, _%_, _≤_, _<_}
 use lib.Dec.{eqb, leb, ltb}
 use lib.ListN.{length, getD, set}
-use Rattle.schema.specs.States.{member, insert}
+use Rattle.schema.specs.States.{member, insert, noStates}
 use Rattle.schema.specs.Value.{stepAt}
 use Rattle.schema.specs.declared.value.Schema.{Schema}
-use Rattle.commands.specs.File.{inside, sameStep, Placed, Draft, Stated, stepCount, unknown, stopped, states, commands}
-use Rattle.commands.specs.Value.{EmptyFrom, StatedValue}
+use Rattle.commands.specs.File.{sameStep, Stated, unknown, stopped, states, commands}
+use Rattle.commands.specs.Value.{StatedValue}
 use Rattle.commands.specs.declared.command.Command.{Command}
 use Rattle.commands.specs.declared.command.Command.the-variants.{Tags, TypeBlock, Final, Step, Root, Done, NoCommand}
 use Rattle.commands.specs.declared.state.State.{State}
@@ -90,7 +90,7 @@ withType t a g k =
     record {
       tag = set (t .tag) a g;
       states = set (t .states) a k;
-      accepting = set (t .accepting) a 0;
+      accepting = set (t .accepting) a noStates;
       counts = set (t .counts) a 0;
       from = t .from;
       by = t .by;

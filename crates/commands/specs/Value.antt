@@ -5,6 +5,7 @@ use Prim.Native.Nat.{ℕ, _≤_}
 use lib.ListN.{getD, replicate}
 use Rattle.sdtd.specs.Limits.{mostTypes, mostSteps}
 use Rattle.sdtd.specs.Numbered.{typeNo}
+use Rattle.schema.specs.States.{noStates}
 use Rattle.schema.specs.Value.{offset, meaning}
 use Rattle.schema.specs.declared.value.Schema.{Schema}
 use Rattle.commands.specs.File.{Stated, schemaBy}
@@ -18,7 +19,7 @@ noSchema =
       root = typeNo 0;
       tag = replicate mostTypes 0;
       states = replicate mostTypes 0;
-      accepting = replicate mostTypes 0;
+      accepting = replicate mostTypes noStates;
       steps = replicate mostTypes 0;
       from = replicate mostSteps 0;
       by = replicate mostSteps 0;

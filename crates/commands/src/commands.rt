@@ -72,17 +72,10 @@ fn obey<'a>(
         (now (from .entry)) (now (by .entry)) (now (to .entry)) (now (places .entry)))
         at command ⌝ }
 {
-    let last = (state.types % TYPES + LAST_TYPE) % TYPES;
+    let next = TypeNo((state.types % TYPES) as u8);
+    let last = TypeNo(((state.types % TYPES + LAST_TYPE) % TYPES) as u8);
     match command {
-        Command::TypeBlock(g, k) => add_type(
-            tag,
-            states,
-            accepting,
-            counts,
-            state.types % TYPES,
-            g,
-            k,
-        ),
+        Command::TypeBlock(g, k) => add_type(tag, states, accepting, counts, next, g, k),
         Command::Final(q) => add_final(accepting, last, q),
         Command::Step(p, j, q) => add_step(
             counts,

@@ -9,7 +9,7 @@ ghost use mathlib.Core.Path.{_≡_};
 ghost use Prim.Native.Nat.{_+_, _%_, _≤_, _<_};
 ghost use lib.ListN.{getD, set};
 ghost use Rattle.sdtd.specs.Limits.{mostTypes, mostSteps};
-ghost use Rattle.schema.specs.States.{insert};
+ghost use Rattle.schema.specs.States.{insert, noStates};
 ghost use Rattle.commands.specs.File.{sameStep};
 ghost use Rattle.commands.specs.Tables.{givenIn, givenLast, givenAlready};
 
@@ -87,59 +87,62 @@ pub(crate) fn given_already<'a>(
     }
 }
 
-// One type more, at the place a of the tables.
+// One type more, the type a.
 pub(crate) fn add_type<'a>(
     tag: &'a mut [u8; TYPES],
     states: &'a mut [u8; TYPES],
     accepting: &'a mut [u32; TYPES],
     counts: &'a mut [u16; TYPES],
-    a: usize,
+    a: TypeNo,
     g: Tag,
     k: u8,
 )
-    requires { ⌜ a < mostTypes ⌝ }
-    ensures { λ _. ⌜ (now (tag .exit) ≡ set (now (tag .entry)) a (g .0))
-        × (now (states .exit) ≡ set (now (states .entry)) a k)
-        × (now (accepting .exit) ≡ set (now (accepting .entry)) a 0)
-        × (now (counts .exit) ≡ set (now (counts .entry)) a 0) ⌝ }
+    requires { ⌜ a .0 < mostTypes ⌝ }
+    ensures { λ _. ⌜ (now (tag .exit) ≡ set (now (tag .entry)) (a .0) (g .0))
+        × (now (states .exit) ≡ set (now (states .entry)) (a .0) k)
+        × (now (accepting .exit) ≡ set (now (accepting .entry)) (a .0) noStates)
+        × (now (counts .exit) ≡ set (now (counts .entry)) (a .0) 0) ⌝ }
 {
-    tag[a] = g.0;
-    states[a] = k;
-    accepting[a] = StateSet::NONE.0;
-    counts[a] = 0;
+    let i = a.0 as usize;
+    tag[i] = g.0;
+    states[i] = k;
+    accepting[i] = StateSet::NONE.0;
+    counts[i] = 0;
 }
 
-// One accepting state more.
-pub(crate) fn add_final(accepting: &mut [u32; TYPES], a: usize, q: u8)
-    requires { ⌜ a < mostTypes ⌝ }
-    ensures { λ _. ⌜ now (accepting .exit) ≡ set (now (accepting .entry)) a (insert q (getD (now (accepting .entry)) a 0)) ⌝ }
+// One accepting state more, of the type a.
+pub(crate) fn add_final(accepting: &mut [u32; TYPES], a: TypeNo, q: u8)
+    requires { ⌜ a .0 < mostTypes ⌝ }
+    ensures { λ _. ⌜ now (accepting .exit) ≡ set (now (accepting .entry)) (a .0) (insert q (getD (now (accepting .entry)) (a .0) 0)) ⌝ }
 {
-    let grown = StateSet(accepting[a]).with(q);
-    accepting[a] = grown.0;
+    let i = a.0 as usize;
+    let grown = StateSet(accepting[i]).with(q);
+    accepting[i] = grown.0;
 }
 
-// One step more, at the place n of the tables.
+// One step more, of the type a, at the place n of the tables.
 pub(crate) fn add_step<'a>(
     counts: &'a mut [u16; TYPES],
     from: &'a mut [u8; STEPS],
     by: &'a mut [u8; STEPS],
     to: &'a mut [u8; STEPS],
     places: &'a mut [usize; STEPS],
-    a: usize,
+    a: TypeNo,
     n: usize,
     p: u8,
     j: TypeNo,
     q: u8,
     at: usize,
 )
-    requires { ⌜ (a < mostTypes) × (n < mostSteps) ⌝ }
-    ensures { λ _. ⌜ (now (counts .exit) ≡ set (now (counts .entry)) a (getD (now (counts .entry)) a 0 % mostSteps + 1))
+    requires { ⌜ (a .0 < mostTypes) × (n < mostSteps) ⌝ }
+    ensures { λ _. ⌜ (now (counts .exit) ≡ set (now (counts .entry)) (a .0) (getD (now (counts .entry)) (a .0) 0 % mostSteps + 1))
         × (now (from .exit) ≡ set (now (from .entry)) n p)
         × (now (by .exit) ≡ set (now (by .entry)) n (j .0))
         × (now (to .exit) ≡ set (now (to .entry)) n q)
         × (now (places .exit) ≡ set (now (places .entry)) n at) ⌝ }
 {
-    counts[a] = counts[a] % MOST_COUNT + 1;
+    let i = a.0 as usize;
+    counts[i] = counts[i] % MOST_COUNT + 1;
     from[n] = p;
     by[n] = j.0;
     to[n] = q;

@@ -8,7 +8,7 @@ use lib.Dec.{T}
 use lib.ListN.{getD, replicate}
 use Rattle.sdtd.specs.Schema.{Step}
 use Rattle.sdtd.specs.Competition.{pairNumber}
-use Rattle.schema.specs.States.{member}
+use Rattle.schema.specs.States.{member, noStates}
 use Rattle.competition.specs.Marks.{firstOf, secondOf, byOf, parentOf, Linked, nextSteps}
 use Rattle.schema.specs.Value.{offset}
 use Rattle.competition.specs.Rivals.{AreRivals}
@@ -71,7 +71,7 @@ SearchedAt next live tag reached types a queue Nowhere = RestrainedIn next live 
 
 -- the table of next states of the type a, where `part s n` are the n steps from the place s on
 abbrev pub nextOf : (ℕ → ℕ → List Step) → List ℕ → ℕ → List ℕ
-nextOf part steps a = nextSteps (part (offset steps a) (getD steps a 0)) (replicate 2048 0)
+nextOf part steps a = nextSteps (part (offset steps a) (getD steps a 0)) (replicate 2048 noStates)
 
 -- the smallest type in which two compete, by the tables; or none
 abbrev pub CompetingMeans : (ℕ → ℕ → List Step) → List ℕ → List ℕ → List ℕ → List Bool → ℕ → List ℕ → Competing → Type 0

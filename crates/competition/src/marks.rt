@@ -12,7 +12,7 @@ ghost use Rattle.competition.specs.Marks.{marks, markOf, markRow, markPr
 pub(crate) const NEXT: usize = STATES as usize * TYPES;
 
 // The pair joins the queue, unless it is reached already. An entry's 5 lowest bits are p, the next 5 are q, and `link` stands above them.
-// `link` is the type that led to the pair and the place of the pair it led from, packed in one number: it and the entries stay bare numbers.
+// `link` is the type that led to the pair and the place of the pair it led from, packed in one number; it and the entries are bare numbers.
 // The test for a full queue is there for the bound. It never holds in a search: there are only 528 pairs, and each joins once.
 fn mark<'a>(
     reached: &'a mut [bool; PAIRS],

@@ -17,6 +17,7 @@ use sdtd::TypeNo;
 ghost use mathlib.Core.Path.{_≡_};
 ghost use Prim.Native.Nat.{_+_, _<_, _≤_};
 ghost use lib.ListN.{replicate};
+ghost use Rattle.schema.specs.States.{noStates};
 ghost use Rattle.schema.specs.Value.{stepsOf, offset, meaning};
 ghost use Rattle.competition.specs.Marks.{nextStep, nextSteps};
 ghost use Rattle.competition.specs.Queue.{FoundMeans, SearchedAt, CompetingMeans};
@@ -59,7 +60,7 @@ fn next_states<'a>(
 ) -> [u32; NEXT]
     requires { ⌜ start + n ≤ 1024 ⌝ }
     ensures { λ r. ⌜ r
-        ≡ nextSteps (stepsOf (now (from .entry)) (now (by .entry)) (now (to .entry)) start n) (replicate 2048 0) ⌝ }
+        ≡ nextSteps (stepsOf (now (from .entry)) (now (by .entry)) (now (to .entry)) start n) (replicate 2048 noStates) ⌝ }
 {
     let mut next = [StateSet::NONE.0; NEXT];
     let end = start + n;
@@ -122,7 +123,7 @@ fn search_at<'a>(
     queue: &mut [u32; PAIRS],
 ) -> Found
     requires { ⌜ (start + n ≤ 1024) × (types ≤ 64) × (a .0 < 64) ⌝ }
-    ensures { λ r. ⌜ SearchedAt (nextSteps (stepsOf (now (from .entry)) (now (by .entry)) (now (to .entry)) start n) (replicate 2048 0))
+    ensures { λ r. ⌜ SearchedAt (nextSteps (stepsOf (now (from .entry)) (now (by .entry)) (now (to .entry)) start n) (replicate 2048 noStates))
         (now (live .entry)) (now (tag .entry)) (now (reached .entry)) types (a .0) (now (queue .exit)) r ⌝ }
 {
     let i = a.0 as usize;

@@ -2,6 +2,7 @@
 use crate::pattern;
 use libc::STDOUT_FILENO;
 use schema_file::FileAnswer;
+use sdtd::TypeNo;
 
 pub(crate) fn text(words: &[u8]) {
     io::write_all(STDOUT_FILENO, words);
@@ -23,9 +24,9 @@ pub(crate) fn show_file(answer: FileAnswer) {
     }
 }
 
-fn show_type(j: u8) {
+fn show_type(j: TypeNo) {
     text(b" ");
-    number(j as u64);
+    number(j.0 as u64);
 }
 
 // The first place from `start` on where the buffer is not the pattern; its length if there is none.
@@ -44,7 +45,7 @@ fn first_change(out: &[u8], start: usize) -> usize {
 pub(crate) fn show_types(out: &[u8], count: usize) {
     let mut i: usize = 0;
     while i < count && i < out.len() {
-        show_type(out[i]);
+        show_type(TypeNo(out[i]));
         i += 1;
     }
     let at = first_change(out, i);

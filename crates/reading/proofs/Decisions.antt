@@ -14,9 +14,9 @@ use Rattle.sdtd.proofs.Tests.{means-iff, Decision, decision, itself, eq-means, 
 use Rattle.sdtd.proofs.Tests.{and-means, if-means, below-decided, Found, any-means}
 use Rattle.sdtd.proofs.Within.{limits-means}
 use Rattle.sdtd.proofs.LiveStates.{live-table}
-use Rattle.schema.specs.States.{member}
+use Rattle.schema.specs.States.{member, noStates}
 use Rattle.reading.specs.declared.value.Reading.{Reading}
-use Rattle.reading.specs.Levels.{noStates, innerType, innerSet, LevelWithin, LevelsWithin, Within}
+use Rattle.reading.specs.Levels.{innerType, innerSet, LevelWithin, LevelsWithin, Within}
 use Rattle.reading.specs.Questions.{LeadsTo, CanOpen, Ends, RootOver}
 use Rattle.reading.proofs.StateSets.{member-under}
 

@@ -1,5 +1,5 @@
 -- Inside an element: what the pass over its type's steps finds is what a call asks for.
-use mathlib.Core.Path.{_≡_, refl, ap}
+use mathlib.Core.Path.{_≡_, ap}
 use mathlib.Core.Logic.{_↔_}
 use mathlib.Core.List.{List, List·Memᴰ}
 use Prim.Native.Nat.{ℕ, suc, pred, _+_, _≤_, _<_}
@@ -10,14 +10,15 @@ use Rattle.sdtd.specs.Limits.{mostSteps}
 use Rattle.sdtd.specs.Schema.{Step, blockOf, tagOf}
 use Rattle.sdtd.specs.Schema.{Schema as Meaning}
 use Rattle.sdtd.specs.Trim.{Bears, Live}
-use Rattle.schema.specs.Value.{offset, meaning, stepAt}
+use Rattle.schema.specs.States.{noStates}
+use Rattle.schema.specs.Value.{offset, meaning}
 use Rattle.schema.specs.declared.value.Schema.{Schema}
 use Rattle.schema.proofs.Values.{AtPlace, steps-mem, offset-step, offset-up, types-count}
 use Rattle.schema.proofs.LimitLaws.{within-room}
 use Rattle.schema.proofs.FirstTables.{Fits, own-step, own-steps}
 use Rattle.reading.specs.declared.value.Reading.{Reading}
 use Rattle.reading.specs.declared.coming.Coming.{Coming}
-use Rattle.reading.specs.Levels.{noStates, Within, innerType, innerSet}
+use Rattle.reading.specs.Levels.{Within, innerType, innerSet}
 use Rattle.reading.specs.Questions.{LeadsTo, CanOpen}
 use Rattle.reading.specs.Coming.{noTag, noType, found, labelOf, comingFrom, LabelsOf, LiveTable}
 use Rattle.reading.proofs.ComingMeans.{ComingMeans}

@@ -21,10 +21,10 @@ use Rattle.sdtd.proofs.Position.{Position}
 use Rattle.sdtd.proofs.Elements.{Elements, outside, element}
 use Rattle.sdtd.proofs.Within.{bears-within, live-within}
 use Rattle.sdtd.proofs.Model.{fresh-position}
-use Rattle.schema.specs.States.{member}
+use Rattle.schema.specs.States.{member, onlyStart}
 use Rattle.schema.proofs.Bits.{member-start}
 use Rattle.reading.specs.declared.value.Reading.{Reading}
-use Rattle.reading.specs.Levels.{onlyStart, fresh, LevelWithin, Within}
+use Rattle.reading.specs.Levels.{fresh, LevelWithin, Within}
 use Rattle.reading.specs.Questions.{setsAfter, opened, closed}
 
 -- the set has the live states that the children w of a type a lead to

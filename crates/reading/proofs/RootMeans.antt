@@ -8,7 +8,7 @@ use lib.Dec.{T, eqb, eqb→eq, eqb-refl}
 use lib.ListN.{getD}
 use Rattle.sdtd.specs.Schema.{tagOf}
 use Rattle.sdtd.specs.Trim.{Bears}
-use Rattle.schema.specs.States.{member}
+use Rattle.schema.specs.States.{member, noStates}
 use Rattle.schema.specs.Value.{meaning}
 use Rattle.schema.specs.declared.value.Schema.{Schema}
 use Rattle.schema.proofs.LimitLaws.{Room, within-room}
@@ -16,7 +16,7 @@ use Rattle.schema.proofs.SpreadLaws.{cond-either, and-parts, and-both}
 use Rattle.schema.proofs.FirstTables.{root-is}
 use Rattle.reading.specs.declared.value.Reading.{Reading}
 use Rattle.reading.specs.declared.coming.Coming.{Coming}
-use Rattle.reading.specs.Levels.{noStates, Within}
+use Rattle.reading.specs.Levels.{Within}
 use Rattle.reading.specs.Questions.{CanOpen}
 use Rattle.reading.specs.Coming.{noType, found, LiveTable}
 use Rattle.reading.proofs.ComingMeans.{ComingMeans}

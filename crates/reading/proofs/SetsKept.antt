@@ -9,10 +9,10 @@ use lib.ListN.{length, getD, set}
 use lib.Seq.{getD-set-same, getD-set-other, set-out}
 use Rattle.sdtd.specs.Schema.{Schema}
 use Rattle.sdtd.specs.Document.{Event, opening, closing, finish}
+use Rattle.schema.specs.States.{onlyStart}
 use Rattle.reading.specs.declared.value.Reading.{Reading}
 use Rattle.reading.specs.declared.calls.EventAnswer.the-variants.{Refused}
 use Rattle.reading.specs.declared.calls.Next.{Next}
-use Rattle.reading.specs.Levels.{onlyStart}
 use Rattle.reading.specs.Questions.{gives, setsAfter, OpeningTaken, CallMeans}
 
 abbrev pub Below : List ℕ → Type 0

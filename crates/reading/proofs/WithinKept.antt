@@ -14,12 +14,12 @@ use Rattle.sdtd.specs.Document.{Event, opening, closing, finish}
 use Rattle.sdtd.specs.Trim.{Live}
 use Rattle.sdtd.proofs.Questions.{block-in}
 use Rattle.sdtd.proofs.Within.{bears-within, live-within}
-use Rattle.schema.specs.States.{member}
+use Rattle.schema.specs.States.{member, onlyStart}
 use Rattle.schema.proofs.Bits.{member-start}
 use Rattle.reading.specs.declared.value.Reading.{Reading}
 use Rattle.reading.specs.declared.calls.EventAnswer.the-variants.{Refused}
 use Rattle.reading.specs.declared.calls.Next.{Next}
-use Rattle.reading.specs.Levels.{onlyStart, innerType, LevelWithin, Within}
+use Rattle.reading.specs.Levels.{innerType, LevelWithin, Within}
 use Rattle.reading.specs.Questions.{gives, setsAfter, opened, closed, ended, OpeningTaken, CallMeans}
 use Rattle.reading.proofs.Keeping.{Sized, opened-sized, closed-sized}
 

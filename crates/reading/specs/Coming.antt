@@ -10,12 +10,11 @@ use Rattle.sdtd.specs.Limits.{mostLevels}
 use Rattle.sdtd.specs.Numbered.{typeNo}
 use Rattle.sdtd.specs.Schema.{Schema as Meaning}
 use Rattle.sdtd.specs.Trim.{Live}
-use Rattle.schema.specs.States.{member, insert}
+use Rattle.schema.specs.States.{member, insert, noStates}
 use Rattle.schema.specs.Value.{offset}
 use Rattle.schema.specs.declared.value.Schema.{Schema}
 use Rattle.reading.specs.declared.value.Reading.{Reading}
 use Rattle.reading.specs.declared.coming.Coming.{Coming}
-use Rattle.reading.specs.Levels.{noStates}
 
 -- no tag, no type
 abbrev pub noTag : ℕ

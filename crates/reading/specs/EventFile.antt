@@ -32,7 +32,7 @@ eventsOf (b ∷ (g ∷ rest)) =
     (cond (eqb b 0x22) (event (closing g) (eventsOf rest))
     (cond (eqb b 0x2f) (event finish (eventsOf (g ∷ rest))) stray))
 
--- how many bytes an event has
+-- how many bytes document 01's event has: those of its case
 abbrev pub sizeOf : Event → ℕ
 sizeOf x = size (fileEvent x)
 

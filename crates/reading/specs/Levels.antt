@@ -5,15 +5,8 @@ use lib.Dec.{T}
 use lib.ListN.{length, getD, replicate}
 use Rattle.sdtd.specs.Limits.{mostLevels}
 use Rattle.sdtd.specs.Schema.{Schema, blockOf, WithinLimits}
-use Rattle.schema.specs.States.{member}
+use Rattle.schema.specs.States.{member, noStates}
 use Rattle.reading.specs.declared.value.Reading.{Reading}
-
--- "the set of no states and the set of only state 0 are named values"
-abbrev pub noStates : ℕ
-noStates = 0
-
-abbrev pub onlyStart : ℕ
-onlyStart = 1
 
 -- "A fresh reading has taken no event."
 abbrev pub fresh : Reading

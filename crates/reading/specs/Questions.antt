@@ -13,12 +13,12 @@ use Rattle.sdtd.specs.Tree.{IsRoot}
 use Rattle.sdtd.specs.Document.{Event, opening, closing, finish}
 use Rattle.sdtd.specs.Trim.{Bears, Live}
 use Rattle.sdtd.specs.Answer.{Question, Ordered, Answer, refused, typed, taken}
-use Rattle.schema.specs.States.{member}
+use Rattle.schema.specs.States.{member, onlyStart}
 use Rattle.reading.specs.declared.value.Reading.{Reading}
 use Rattle.reading.specs.declared.calls.EventAnswer.{EventAnswer}
 use Rattle.reading.specs.declared.calls.EventAnswer.the-variants.{Typed, Taken, Refused}
 use Rattle.reading.specs.declared.calls.Next.{Next}
-use Rattle.reading.specs.Levels.{onlyStart, innerType, innerSet, Within}
+use Rattle.reading.specs.Levels.{innerType, innerSet, Within}
 
 -- the answer and the reading that follows
 abbrev pub gives : EventAnswer → Reading → Next

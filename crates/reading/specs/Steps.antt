@@ -6,14 +6,14 @@ use Prim.Native.Nat.{ℕ, _+_, _≤_, _<_}
 use lib.Dec.{eqb, leb}
 use lib.ListN.{length, getD}
 use Rattle.sdtd.specs.Limits.{mostLevels, mostSteps, mostTypes}
-use Rattle.schema.specs.States.{meet}
+use Rattle.schema.specs.States.{meet, noStates}
 use Rattle.reading.specs.declared.value.Reading.{Reading}
 use Rattle.reading.specs.declared.calls.EventAnswer.the-variants.{Typed, Taken, Refused}
 use Rattle.reading.specs.declared.calls.Next.{Next}
 use Rattle.reading.specs.declared.coming.Coming.{Coming}
 use Rattle.reading.specs.declared.steps.Standing.{Standing}
 use Rattle.reading.specs.declared.steps.Stepped.{Stepped}
-use Rattle.reading.specs.Levels.{noStates, innerType, innerSet}
+use Rattle.reading.specs.Levels.{innerType, innerSet}
 use Rattle.reading.specs.Questions.{gives, opened, closed, ended}
 use Rattle.reading.specs.Coming.{noType, found, comingFrom}
 

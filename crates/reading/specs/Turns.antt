@@ -40,7 +40,7 @@ stateOf w types sets out =
 abbrev pub stop : State → ℕ → Reading → State
 stop s n r = record { going = false; number = n; at = s .at; count = s .count; reading = r; out = s .out }
 
--- the walk goes on to the place `past` the event and to the reading r
+-- the walk goes on from the place `past`, past the event, with the reading r
 abbrev pub goOn : State → ℕ → Reading → State
 goOn s past r = record { going = true; number = s .number; at = past; count = s .count; reading = r; out = s .out }
 

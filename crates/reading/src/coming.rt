@@ -7,7 +7,8 @@ use sdtd::TypeNo;
 ghost use mathlib.Core.Path.{_≡_};
 ghost use Prim.Native.Nat.{_+_, _≤_};
 ghost use lib.ListN.{length};
-ghost use Rattle.reading.specs.Coming.{Labelled, labelOf, comingFrom, found};
+ghost use Rattle.schema.specs.States.{noStates};
+ghost use Rattle.reading.specs.Coming.{noType, Labelled, labelOf, comingFrom, found};
 ghost use Rattle.reading.specs.Coming.{join as joined};
 
 // No step is taken under this tag: tags are below 32.
@@ -95,7 +96,7 @@ pub(crate) fn coming_from<'a>(
     g: Tag,
 ) -> Coming
     requires { ⌜ (start + n ≤ 1024) × (length (now label) ≡ 1024) ⌝ }
-    ensures { λ r. ⌜ r ≡ comingFrom (now (from .entry)) (now (by .entry)) (now (to .entry)) (now (label .entry)) states (g .0) start n (found 64 0) ⌝ }
+    ensures { λ r. ⌜ r ≡ comingFrom (now (from .entry)) (now (by .entry)) (now (to .entry)) (now (label .entry)) states (g .0) start n (found noType noStates) ⌝ }
 {
     let mut next = Coming {
         of: NO_TYPE,

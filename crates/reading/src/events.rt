@@ -3,6 +3,11 @@ use sdtd::Tag;
 ghost use mathlib.Core.Path.{_≡_};
 ghost use Rattle.reading.specs.Events.{eventAt, placeAfter};
 
+// How many bytes an event has: with a tag, and without.
+const WITH_TAG: usize = 2;
+
+const ALONE: usize = 1;
+
 // An event with its tag, or that there is none.
 pub enum FileEvent {
     Open(Tag),
@@ -23,7 +28,7 @@ pub(crate) fn event_at(events: &[u8], at: usize) -> FileEvent
     if b == 0x2f {
         return FileEvent::Finish;
     }
-    if left < 2 {
+    if left < WITH_TAG {
         return FileEvent::NoEvent;
     }
     let tag = Tag(events[at + 1]);
@@ -41,9 +46,9 @@ pub(crate) fn place_after(events: &[u8], at: usize) -> usize
     ensures { λ r. ⌜ r ≡ placeAfter (now (events .entry)) at ⌝ }
 {
     match event_at(events, at) {
-        FileEvent::Open(_) => at + 2,
-        FileEvent::Close(_) => at + 2,
-        FileEvent::Finish => at + 1,
+        FileEvent::Open(_) => at + WITH_TAG,
+        FileEvent::Close(_) => at + WITH_TAG,
+        FileEvent::Finish => at + ALONE,
         FileEvent::NoEvent => at,
     }
 }

@@ -54,12 +54,11 @@ fn descend<'a>(
         × (r .standing .depth ≡ at .depth + 1) × (r .standing .rooted ≡ true) × (r .standing .finished ≡ at .finished) ⌝ }
 {
     let depth = at.depth as usize;
-    let start = StateSet::START;
     types[depth] = j.0;
     if 0 < depth {
         sets[depth - 1] = kept;
     }
-    sets[depth] = start.0;
+    sets[depth] = StateSet::START.0;
     Stepped {
         answer: EventAnswer::Typed(j),
         standing: Standing {

@@ -33,7 +33,7 @@ pub(crate) fn blank() -> Reading {
         rooted: false,
         finished: false,
         types: [0; LEVELS],
-        sets: [0; LEVELS],
+        sets: [StateSet::NONE.0; LEVELS],
     }
 }
 

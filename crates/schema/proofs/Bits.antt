@@ -265,10 +265,10 @@ pub record Meets (x y : ℕ) : Type 0 where
   pub left : T (member state x)
   pub right : T (member state y)
 
-meets : (k x y : ℕ) → x < 2 ^ k → bitAnd x y ≢ 0 → Meets x y
-meets zero x y b d = absurd (d (ap (λ (n : ℕ). bitAnd n y) (lt-one b)))
-meets (suc k) x y b d = elim (ℕ-discrete (min (x % 2) (y % 2)) 0) [
-  | yes e ↦ next (meets k (x / 2) (y / 2) (half-below k x b) (λ z. d (omega (arith, and-step x y))))
+common-state : (k x y : ℕ) → x < 2 ^ k → bitAnd x y ≢ 0 → Meets x y
+common-state zero x y b d = absurd (d (ap (λ (n : ℕ). bitAnd n y) (lt-one b)))
+common-state (suc k) x y b d = elim (ℕ-discrete (min (x % 2) (y % 2)) 0) [
+  | yes e ↦ next (common-state k (x / 2) (y / 2) (half-below k x b) (λ z. d (omega (arith, and-step x y))))
   | no e ↦ record { state = 0; left = inside 0 x (omega (arith, digit-first x)); right = inside 0 y (omega (arith, digit-first y)) }
 ]
   where
@@ -285,9 +285,9 @@ and-pos (suc q) x y ex ey =
     omega (arith, and-step x y, and-pos q (x / 2) (y / 2) (sym (digit-next q x) ∙ ex) (sym (digit-next q y) ∙ ey))
 
 -- the machine's `&` of two sets is not 0 exactly when they meet
-and-meets : (x y : ℕ) → x < 2 ^ 32 → y < 2 ^ 32 → (bitAnd x y ≢ 0) ↔ Meets x y
-and-meets x y bx by = (
-  meets 32 x y bx,
+and-common : (x y : ℕ) → x < 2 ^ 32 → y < 2 ^ 32 → (bitAnd x y ≢ 0) ↔ Meets x y
+and-common x y bx by = (
+  common-state 32 x y bx,
   λ m e. omega (arith, and-pos (m .state) x y (is-one (m .state) x (m .left)) (is-one (m .state) y (m .right))),
 )
 
@@ -311,11 +311,11 @@ pub meet-means : (x y : ℕ) → x < 2 ^ 32 → T (meet x y) ↔ Meets x y
 meet-means x y b = (meet-finds 32 x y, λ m. meet-has 32 (m .state) x y (member-below (m .state) x b (m .left)) (m .left) (m .right))
 
 -- the machine tests by `&` whether two sets meet
-pub and-meet : (x y : ℕ) → x < 2 ^ 32 → y < 2 ^ 32 → not (eqb (bitAnd x y) 0) ≡ meet x y
-and-meet x y bx by =
+pub and-is-meet : (x y : ℕ) → x < 2 ^ 32 → y < 2 ^ 32 → not (eqb (bitAnd x y) 0) ≡ meet x y
+and-is-meet x y bx by =
     same-test (not (eqb (bitAnd x y) 0)) (meet x y)
-    (λ t. meet-means x y bx .1 (and-meets x y bx by .0 (λ e. T-not (eqb (bitAnd x y) 0) t (rw (eq-eqb (bitAnd x y) 0 e) tt))))
-    (λ t. not-T (eqb (bitAnd x y) 0) (λ z. and-meets x y bx by .1 (meet-means x y bx .0 t) (eqb→eq (bitAnd x y) 0 z)))
+    (λ t. meet-means x y bx .1 (and-common x y bx by .0 (λ e. T-not (eqb (bitAnd x y) 0) t (rw (eq-eqb (bitAnd x y) 0 e) tt))))
+    (λ t. not-T (eqb (bitAnd x y) 0) (λ z. and-common x y bx by .1 (meet-means x y bx .0 t) (eqb→eq (bitAnd x y) 0 z)))
   where
     same-test : (a b : Bool) → (T a → T b) → (T b → T a) → a ≡ b
     same-test true true f g = refl

@@ -1,13 +1,13 @@
 -- A schema trimmed by exact tables is trimmed.
 use Rattle.sdtd.specs.Schema.{Schema}
 use Rattle.sdtd.specs.Trim.{Trimmed}
-use Rattle.sdtd.proofs.Trimmer.{trim-by}
-use Rattle.schema.specs.Trimming.{Exact, trimmedBy}
+use Rattle.sdtd.proofs.Trimmer.{tests-trim}
+use Rattle.schema.specs.Trimming.{Exact, trimmedByTables}
 use Rattle.schema.specs.declared.tables.Trimming.{Trimming}
 
-pub tables-trim : {S : Schema} {t : Trimming} → Exact S t → Trimmed S (trimmedBy t S)
+pub tables-trim : {S : Schema} {t : Trimming} → Exact S t → Trimmed S (trimmedByTables t S)
 tables-trim e =
-    trim-by (record {
+    tests-trim (record {
       reached = λ a. record { says = e .reached a .0; passes = e .reached a .1 };
       bears = λ a. record { says = e .bears a .0; passes = e .bears a .1 };
       live = λ a q. record { says = e .live a q .0; passes = e .live a q .1 };

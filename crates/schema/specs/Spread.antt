@@ -5,7 +5,7 @@ use mathlib.Core.List.{List, [], _∷_, _++_, map}
 use Prim.Native.Nat.{ℕ, zero, suc, _+_, _-_, _%_}
 use lib.ListN.{getD, set, take, replicate}
 use Rattle.sdtd.specs.Schema.{Step}
-use Rattle.schema.specs.States.{member, insert}
+use Rattle.schema.specs.States.{member, insert, noStates, onlyStart}
 
 -- a step by a tree-bearing type with its state `to` in the set adds its state `from`
 unfoldable pub spreadStep : List ℕ → Step → ℕ → ℕ
@@ -50,11 +50,11 @@ pub record Settled {A : Type 0} (round : List A → List A) (first last : List A
 
 -- the first n entries, and nothing in the others
 unfoldable pub firstSets : ℕ → List ℕ → List ℕ
-firstSets n sets = take n sets ++ replicate (64 - n) 0
+firstSets n sets = take n sets ++ replicate (64 - n) noStates
 
 -- only state 0, for each type
 abbrev pub startStates : List ℕ
-startStates = replicate 64 1
+startStates = replicate 64 onlyStart
 
 -- which types have a live start state
 abbrev pub bearing : List ℕ → List Bool

@@ -22,6 +22,13 @@ meetBelow (suc n) x y = (member n x && member n y) || meetBelow n x y
 abbrev pub meet : ℕ → ℕ → Bool
 meet x y = meetBelow mostStates x y
 
+-- "the set of no states and the set of only state 0 are named values"
+abbrev pub noStates : ℕ
+noStates = 0
+
+abbrev pub onlyStart : ℕ
+onlyStart = 1
+
 -- the states of the set below n, rising
 unfoldable pub membersBelow : ℕ → ℕ → List ℕ
 membersBelow zero x = []

@@ -7,8 +7,8 @@ use lib.Dec.{T}
 use lib.ListN.{getD, replicate}
 use Rattle.sdtd.specs.Limits.{mostTypes}
 use Rattle.sdtd.specs.Schema.{Schema, WithinLimits}
-use Rattle.sdtd.specs.Trim.{Bears, Live, Reached, trimBy}
-use Rattle.schema.specs.States.{member}
+use Rattle.sdtd.specs.Trim.{Bears, Live, Reached, trimmedByTests}
+use Rattle.schema.specs.States.{member, noStates}
 use Rattle.schema.specs.declared.tables.Trimming.{Trimming}
 use Rattle.schema.specs.declared.tables.LiveStates.{LiveStates}
 
@@ -20,9 +20,9 @@ pub record Exact (S : Schema) (t : Trimming) : Type 0 where
 
 -- The schema trimmed by the tables: a type is kept that is in `reached` and `bears`, and of it each step by a type in `bears` between states
 -- in `live`.
-abbrev pub trimmedBy : Trimming → Schema → Schema
-trimmedBy t S =
-    trimBy
+abbrev pub trimmedByTables : Trimming → Schema → Schema
+trimmedByTables t S =
+    trimmedByTests
     (record {
       reached = λ a. getD (t .reached) a false;
       bears = λ a. getD (t .bears) a false;
@@ -32,7 +32,7 @@ trimmedBy t S =
 
 -- tables of nothing
 abbrev pub nothing : Trimming
-nothing = record { live = replicate mostTypes 0; bears = replicate mostTypes false; reached = replicate mostTypes false }
+nothing = record { live = replicate mostTypes noStates; bears = replicate mostTypes false; reached = replicate mostTypes false }
 
 -- exactly the definitions inside the limits, and nothing outside them
 pub record TrimMeans (S : Schema) (t : Trimming) : Type 0 where
@@ -43,4 +43,4 @@ pub record TrimMeans (S : Schema) (t : Trimming) : Type 0 where
 pub record LiveMeans (S : Schema) (r : LiveStates) : Type 0 where
   pub inside : T (r .inside) ↔ WithinLimits S
   pub live : WithinLimits S → (a q : ℕ) → T (member q (getD (r .live) a 0)) ↔ Live S a q
-  pub outside : ¬ WithinLimits S → r .live ≡ replicate mostTypes 0
+  pub outside : ¬ WithinLimits S → r .live ≡ replicate mostTypes noStates

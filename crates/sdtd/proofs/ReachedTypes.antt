@@ -5,11 +5,11 @@ use mathlib.Core.List.{List, _∷_, map, List·Memᴰ, List·Memᴰ·head, List�
 use Prim.Native.Nat.{ℕ}
 use Rattle.sdtd.specs.Schema.{Step, Schema, blockOf}
 use Rattle.sdtd.specs.Tree.{IsRoot}
-use Rattle.sdtd.specs.Trim.{Bears, Live, Reached, Useful, Trimmed, Tests, trimBy}
+use Rattle.sdtd.specs.Trim.{Bears, Live, Reached, Useful, Trimmed, TypeTests, trimmedByTests}
 use Rattle.sdtd.proofs.Fixpoint.{Forward, ReachedClosed, reached-closed, reached-exact}
 use Rattle.sdtd.proofs.Tests.{Means, means-iff, Decision, decision, eq-means, and-means, or-means, Found, any-means}
 use Rattle.sdtd.proofs.Tests.{memb, memb-means}
-use Rattle.sdtd.proofs.Trimmer.{trim-by}
+use Rattle.sdtd.proofs.Trimmer.{tests-trim}
 use Rattle.sdtd.proofs.Saturate.{grown-sound, Saturated, saturate}
 use Rattle.sdtd.proofs.Occurring.{gather, gathered}
 use Rattle.sdtd.proofs.Decide.{inTable}
@@ -80,5 +80,5 @@ pub trimmed-exists : (S : Schema) → (S′ : Schema) × Trimmed S S′
 trimmed-exists S =
     let r = reached-table S in
     let l = live-table S in
-    let t : Tests = record { reached = λ a. memb a (r .0); bears = λ a. inTable (l .0) a 0; live = inTable (l .0) } in
-    (trimBy t S, trim-by (record { reached = r .1; bears = l .1 .bears; live = l .1 .live }))
+    let t : TypeTests = record { reached = λ a. memb a (r .0); bears = λ a. inTable (l .0) a 0; live = inTable (l .0) } in
+    (trimmedByTests t S, tests-trim (record { reached = r .1; bears = l .1 .bears; live = l .1 .live }))

@@ -9,26 +9,26 @@ use lib.Dec.{T}
 use lib.ListN.{length, getD}
 use Rattle.sdtd.specs.Schema.{Step, Block, Schema, noBlock, blockOf}
 use Rattle.sdtd.specs.Trim.{Bears, Live, Reached, Useful, KeptStep, Trimmed}
-use Rattle.sdtd.specs.Trim.{Tests, keepsType, keepsStep, keep, trimAt, trimFrom, trimBy}
+use Rattle.sdtd.specs.Trim.{TypeTests, keepsType, keepsStep, keptSteps, trimAt, trimFrom, trimmedByTests}
 use Rattle.sdtd.proofs.Tests.{Means, and-means}
 
 module _ (f : Step → Bool) where
-  kept : (xs : List Step) (y : Step) → List·Memᴰ y (keep f xs) → List·Memᴰ y xs × T (f y)
+  kept : (xs : List Step) (y : Step) → List·Memᴰ y (keptSteps f xs) → List·Memᴰ y xs × T (f y)
   kept [] y m = absurd (List·Memᴰ·not-nil m)
   kept (x ∷ xs) y m = by-test (f x) refl m (kept xs y)
     where
-      by-test : (b : Bool) → f x ≡ b → List·Memᴰ y (cond b (x ∷ keep f xs) (keep f xs))
-          → (List·Memᴰ y (keep f xs) → List·Memᴰ y xs × T (f y)) → List·Memᴰ y (x ∷ xs) × T (f y)
+      by-test : (b : Bool) → f x ≡ b → List·Memᴰ y (cond b (x ∷ keptSteps f xs) (keptSteps f xs))
+          → (List·Memᴰ y (keptSteps f xs) → List·Memᴰ y xs × T (f y)) → List·Memᴰ y (x ∷ xs) × T (f y)
       by-test true e k h =
           ⊎-elim (λ p. (List·Memᴰ·head p, subst (λ z. T (f z)) (sym p) (subst T (sym e) tt))) (λ l. (List·Memᴰ·tail (h l .0), h l .1))
           (List·Memᴰ·cases-cons k)
       by-test false e k h = (List·Memᴰ·tail (h k .0), h k .1)
 
-  keeps : (xs : List Step) (y : Step) → List·Memᴰ y xs → T (f y) → List·Memᴰ y (keep f xs)
+  keeps : (xs : List Step) (y : Step) → List·Memᴰ y xs → T (f y) → List·Memᴰ y (keptSteps f xs)
   keeps (x ∷ xs) y m t = by-test (f x) refl (List·Memᴰ·cases-cons m) (λ k. keeps xs y k t)
     where
-      by-test : (b : Bool) → f x ≡ b → (y ≡ x) ⊎ List·Memᴰ y xs → (List·Memᴰ y xs → List·Memᴰ y (keep f xs))
-          → List·Memᴰ y (cond b (x ∷ keep f xs) (keep f xs))
+      by-test : (b : Bool) → f x ≡ b → (y ≡ x) ⊎ List·Memᴰ y xs → (List·Memᴰ y xs → List·Memᴰ y (keptSteps f xs))
+          → List·Memᴰ y (cond b (x ∷ keptSteps f xs) (keptSteps f xs))
       by-test true e k h = ⊎-elim (λ p. List·Memᴰ·head p) (λ l. List·Memᴰ·tail (h l)) k
       by-test false e k h = ⊎-elim (λ p. absurd (subst T e (subst (λ z. T (f z)) p t))) h k
   keeps [] y m t = absurd (List·Memᴰ·not-nil m)
@@ -38,7 +38,7 @@ kept-if : {b : Bool} {A : Type 0} {xs : List ℕ} {q : ℕ} → Means b A → Li
 kept-if {b = true} m = (λ k. (k, m .says tt), λ p. p .0)
 kept-if {b = false} m = (λ k. absurd (List·Memᴰ·not-nil k), λ p. absurd (m .passes (p .1)))
 
-module _ (t : Tests) where
+module _ (t : TypeTests) where
   -- what stands for the block of a number that is no type stays
   trim-none : (a : ℕ) → noBlock ≡ trimAt t a noBlock
   unfolding trimAt
@@ -59,17 +59,17 @@ module _ (t : Tests) where
   trim-length n [] = refl
   trim-length n (b ∷ bs) = ap suc (trim-length (suc n) bs)
 
-  trim-block : (S : Schema) (a : ℕ) → blockOf (trimBy t S) a ≡ trimAt t a (blockOf S a)
-  unfolding trimBy
+  trim-block : (S : Schema) (a : ℕ) → blockOf (trimmedByTests t S) a ≡ trimAt t a (blockOf S a)
+  unfolding trimmedByTests
   trim-block S a = trim-at 0 (S .blocks) a ∙ ap (λ (k : ℕ). trimAt t k (blockOf S a)) (zero-add a)
 
 -- the tests are right of the schema
-pub record RightTests (S : Schema) (t : Tests) : Type 0 where
+pub record RightTests (S : Schema) (t : TypeTests) : Type 0 where
   pub reached : (a : ℕ) → Means (t .reached a) (Reached S a)
   pub bears : (a : ℕ) → Means (t .bears a) (Bears S a)
   pub live : (a q : ℕ) → Means (t .live a q) (Live S a q)
 
-module _ {S : Schema} {t : Tests} (right : RightTests S t) where
+module _ {S : Schema} {t : TypeTests} (right : RightTests S t) where
   -- the tests of a block and of a step pass exactly if trimming keeps it
   type-means : (a : ℕ) → Means (keepsType t a) (Useful S a)
   unfolding keepsType
@@ -79,9 +79,9 @@ module _ {S : Schema} {t : Tests} (right : RightTests S t) where
   unfolding keepsStep
   step-means a s = and-means (and-means (and-means (type-means a) (right .bears (s .by))) (right .live a (s .from))) (right .live a (s .to))
 
-  pub trim-by : Trimmed S (trimBy t S)
-  unfolding trimBy trimAt
-  trim-by =
+  pub tests-trim : Trimmed S (trimmedByTests t S)
+  unfolding trimmedByTests trimAt
+  tests-trim =
       record {
         tags = refl;
         types = trim-length t 0 (S .blocks);

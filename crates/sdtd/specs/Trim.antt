@@ -1,4 +1,4 @@
--- Document 01, "Trimming". "Useless types stay in the file and keep their numbers": nothing here renumbers.
+-- Document 01, "Trimming". "Useless types stay in the file and keptSteps their numbers": nothing here renumbers.
 use mathlib.Core.Path.{_≡_}
 use mathlib.Core.Logic.{_↔_}
 use mathlib.Core.Bool.{Bool, cond, _&&_}
@@ -66,39 +66,39 @@ pub record Trimmed (S S′ : Schema) : Type 0 where
   pub steps : (a : ℕ) (s : Step) → List·Memᴰ s (blockOf S′ a .steps) ↔ KeptStep S a s
 
 -- Tests of a schema's types and states: is the type reached, does it bear a tree, is the state of the type live?
-pub record Tests : Type 0 where
+pub record TypeTests : Type 0 where
   pub reached : ℕ → Bool
   pub bears : ℕ → Bool
   pub live : ℕ → ℕ → Bool
 
 -- is the block of the type a kept?
-unfoldable pub keepsType : Tests → ℕ → Bool
+unfoldable pub keepsType : TypeTests → ℕ → Bool
 keepsType t a = t .reached a && t .bears a
 
 -- is the step of the type a kept?
-unfoldable pub keepsStep : Tests → ℕ → Step → Bool
+unfoldable pub keepsStep : TypeTests → ℕ → Step → Bool
 keepsStep t a s = keepsType t a && t .bears (s .by) && t .live a (s .from) && t .live a (s .to)
 
 -- the steps that pass, in order
-abbrev pub keep : (Step → Bool) → List Step → List Step
-keep passes [] = []
-keep passes (s ∷ ss) = cond (passes s) (s ∷ keep passes ss) (keep passes ss)
+abbrev pub keptSteps : (Step → Bool) → List Step → List Step
+keptSteps passes [] = []
+keptSteps passes (s ∷ ss) = cond (passes s) (s ∷ keptSteps passes ss) (keptSteps passes ss)
 
 -- the block of the type a, trimmed
-unfoldable pub trimAt : Tests → ℕ → Block → Block
+unfoldable pub trimAt : TypeTests → ℕ → Block → Block
 trimAt t a b =
     record {
       tag = b .tag;
       states = b .states;
       accepting = cond (keepsType t a) (b .accepting) [];
-      steps = keep (keepsStep t a) (b .steps);
+      steps = keptSteps (keepsStep t a) (b .steps);
     }
 
 -- the blocks of the types from a on, trimmed
-unfoldable pub trimFrom : Tests → ℕ → List Block → List Block
+unfoldable pub trimFrom : TypeTests → ℕ → List Block → List Block
 trimFrom t a [] = []
 trimFrom t a (b ∷ bs) = trimAt t a b ∷ trimFrom t (suc a) bs
 
--- The schema trimmed by tests. Where they are right, it is `Trimmed` (`trim-by` in `proofs/Trimmer.antt`).
-unfoldable pub trimBy : Tests → Schema → Schema
-trimBy t S = record { tags = S .tags; blocks = trimFrom t 0 (S .blocks); root = S .root }
+-- The schema trimmed by tests.
+unfoldable pub trimmedByTests : TypeTests → Schema → Schema
+trimmedByTests t S = record { tags = S .tags; blocks = trimFrom t 0 (S .blocks); root = S .root }

@@ -14,7 +14,7 @@ use Rattle.sdtd.specs.Document.{Event, Valid, SomeValid, openings, typesOf, Beg
 use Rattle.sdtd.specs.Trim.{Trimmed}
 use Rattle.sdtd.specs.Calls.{Exchange, ListMeets, WholeMeets}
 use Rattle.schema.specs.Value.{meaning}
-use Rattle.schema.specs.Trimming.{TrimMeans, trimmedBy}
+use Rattle.schema.specs.Trimming.{TrimMeans, trimmedByTables}
 use Rattle.schema.specs.declared.value.Schema.{Schema}
 use Rattle.schema.specs.declared.tables.Trimming.{Trimming}
 use Rattle.commands.specs.File.{commands, StatesSchema}
@@ -110,7 +110,7 @@ pub record NotTestableOf (file : List ℕ) (f : SchemaFile) : Type 0 where
   -- "That trimming unused types loses no document": a schema that a file states, accepted or not, can be trimmed, and the tables that
   -- `schema::trim` promises trim it; every trimmed schema, that of the tables included, has the same documents and typings
   pub trimmed : (S : Meaning) → StatesSchema file S → (S′ : Meaning) × Trimmed S S′
-  pub by-tables : (S : Meaning) → StatesSchema file S → (t : Trimming) → TrimMeans S t → Trimmed S (trimmedBy t S)
+  pub by-tables : (S : Meaning) → StatesSchema file S → (t : Trimming) → TrimMeans S t → Trimmed S (trimmedByTables t S)
   pub same-documents : (S S′ : Meaning) → StatesSchema file S → Trimmed S S′ → (d : List Event) → Valid S d ↔ Valid S′ d
   pub same-typings : (S S′ : Meaning) → StatesSchema file S → Trimmed S S′
       → (tree typed : Tree) → IsTyping S tree typed ↔ IsTyping S′ tree typed

@@ -38,6 +38,7 @@ use denote.Triple.Clauses.{ensured, lasts}
 use denote.Triple.Walked.{says, Stays, gave-ref, stay-none, walkOf, goes-none, goes-gave-ref, Walks, ends-at, walked, walk-meets}
 use denote.Exit.{yes}
 use Rattle.sdtd.specs.Document.{opening}
+use Rattle.sdtd.specs.Numbered.{tagNo}
 use Rattle.sdtd.specs.declared.Tag.{Tag}
 use Rattle.sdtd.proofs.Tag as G
 use Rattle.sdtd.proofs.Tag.Laws as G′
@@ -119,7 +120,7 @@ module _ {M : Type 1} (𝓤 : URA M) (H : Heap 𝓤) (A : Atoms 𝓤) (W : Given
 
   -- the tag, and that its machine value is its own
   abbrev tag : Tag
-  tag = record { 0 = g }
+  tag = tagNo g
 
   tag-is : Is G.the-row tag (LL.vals G.the-type G′.the-laws tag)
   tag-is = LL.owes G.the-type G′.the-laws tag ((refl, g-fits), tt)

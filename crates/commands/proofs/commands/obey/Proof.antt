@@ -24,8 +24,14 @@ others s t i (Root a) k = refl
 others s t i Done k = refl
 others s t i NoCommand k = refl
 
-add-last : tie.Need-add-last
-add-last c = search needs
+cast-t21 : tie.Need-cast-t21
+cast-t21 c = search needs
+
+add-t22 : tie.Need-add-t22
+add-t22 c = search needs
+
+cast-t21-2 : tie.Need-cast-t21-2
+cast-t21-2 c = search needs
 
 enum-known-command : tie.Need-enum-known-command
 enum-known-command c = search needs
@@ -49,7 +55,7 @@ returns : tie.Need-returns
 unfolding tablesAfter
 returns c =
     let e = c .add-type .ensures in
-    rw (c .before .before .before .before .before .before .before .command .given .1, e .0, e .1, e .2, e .3)
+    rw (c .before .before .before .before .before .before .command .given .1, e .0, e .1, e .2, e .3)
 
 returns-2 : tie.Need-returns-2
 unfolding tablesAfter
@@ -68,7 +74,9 @@ pub obey-spec : {M : Type 1} → statement M
 obey-spec =
     tie.close
     (tie.spec
-    add-last
+    cast-t21
+    add-t22
+    cast-t21-2
     enum-known-command
     add-type-requires
     enum-known-command-2

@@ -1,14 +1,16 @@
 -- `commands::tables::add_final` meets its contract.
-
 use borrow.Author.Needs.{needs}
 use Rattle.commands.proofs.tables.add_final.Statement.{statement}
 use Rattle.commands.proofs.tables.add_final.Tie as tie
 
-mul-t5 : tie.Need-mul-t5
-mul-t5 c = search needs
+cast-i : tie.Need-cast-i
+cast-i c = search needs
 
-element-copy-out-t8 : tie.Need-element-copy-out-t8
-element-copy-out-t8 c = search needs
+mul-t6 : tie.Need-mul-t6
+mul-t6 c = search needs
+
+element-copy-out-t9 : tie.Need-element-copy-out-t9
+element-copy-out-t9 c = search needs
 
 with-requires : tie.Need-with-requires
 with-requires c κs = search needs
@@ -26,8 +28,9 @@ pub add-final-spec : {M : Type 1} → statement M
 add-final-spec =
     tie.close
     (tie.spec
-    mul-t5
-    element-copy-out-t8
+    cast-i
+    mul-t6
+    element-copy-out-t9
     with-requires
     mul-accepting
     element-write-accepting

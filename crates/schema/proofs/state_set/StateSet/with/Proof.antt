@@ -1,4 +1,4 @@
--- `StateSet::with` meets its contract: no state of 32 or more is inserted, and `| 1 << s` inserts any other.
+-- `StateSet::with` meets its contract: the test of the state, shifted, is no state for one of 32 or more, and the state's own digit for any other.
 use mathlib.Core.Path.{_≡_, sym, ap, _∙_}
 use Prim.Native.Nat.{ℕ, _*_, _%_, _^_}
 use native.Mathlib.Nat.{mod-eq-of-lt, one-mul, zero-mul}
