@@ -3,6 +3,7 @@ use libc::STDOUT_FILENO;
 use reading::EventAnswer;
 use reading::LEVELS;
 use reading::Reading;
+use schema::StateSet;
 
 pub(crate) fn text(words: &[u8]) {
     io::write_all(STDOUT_FILENO, words);

@@ -14,8 +14,8 @@ abbrev μ-loop : tie.MeasureT-loop
 loop-holds : tie.Need-loop-holds Inv-loop μ-loop
 loop-holds c = search needs
 
-shared-slice-read-show-type : tie.Need-shared-slice-read-show-type Inv-loop μ-loop
-shared-slice-read-show-type c = search needs
+shared-slice-read-t12 : tie.Need-shared-slice-read-t12 Inv-loop μ-loop
+shared-slice-read-t12 c = search needs
 
 show-type-requires : tie.Need-show-type-requires Inv-loop μ-loop
 show-type-requires c κs = search needs
@@ -54,4 +54,4 @@ returns-2 : tie.Need-returns-2 Inv-loop μ-loop
 returns-2 c = search needs
 
 pub show-types-spec : {M : Type 1} → statement M
-show-types-spec = tie.close (tie.spec Inv-loop μ-loop loop-holds shared-slice-read-show-type show-type-requires add-i loop-less loop-again first-change-requires slice-aggregate-text text-requires number-requires slice-aggregate-text-2 text-requires-2 returns returns-2)
+show-types-spec = tie.close (tie.spec Inv-loop μ-loop loop-holds shared-slice-read-t12 show-type-requires add-i loop-less loop-again first-change-requires slice-aggregate-text text-requires number-requires slice-aggregate-text-2 text-requires-2 returns returns-2)
