@@ -1,21 +1,21 @@
 -- What the search of one type after another means for the schema.
-use mathlib.Core.Path.{_≡_, refl, sym, ap, subst, _∙_}
-use mathlib.Core.Logic.{_↔_, _≢_}
-use mathlib.Core.Bool.{Bool, false, _&&_}
-use mathlib.Core.List.{List, [], _∷_, _++_}
+use mathlib.Core.Path.{_≡_, refl, sym}
+use mathlib.Core.Logic.{_↔_}
+use mathlib.Core.Bool.{false}
+use mathlib.Core.List.{List, _++_}
 use Prim.Native.Nat.{ℕ, _+_, _≤_, _<_, min, max}
 use native.Mathlib.Decide.{decLt}
 use native.Mathlib.Omega.{arith}
 use lib.Dec.{T}
-use lib.ListN.{length, getD, drop, replicate}
-use Rattle.sdtd.specs.Schema.{Schema as Meaning, blockOf, tagOf, WithinLimits}
-use Rattle.sdtd.specs.Trim.{Live, Useful}
+use lib.ListN.{length, getD, drop}
+use Rattle.sdtd.specs.Schema.{Schema as Meaning, tagOf, WithinLimits}
+use Rattle.sdtd.specs.Trim.{Useful}
 use Rattle.sdtd.specs.Competition.{Compete, CompeteIn, Competition, witnessBytes, Witness}
 use Rattle.sdtd.proofs.Fixpoint.{bears-live}
 use Rattle.schema.specs.States.{member}
-use Rattle.schema.specs.Value.{stepsOf, offset, blockAt, meaning}
+use Rattle.schema.specs.Value.{stepsOf, blockAt, meaning}
 use Rattle.schema.specs.Trimming.{Exact}
-use Rattle.competition.specs.Marks.{wordTo, nextSteps}
+use Rattle.competition.specs.Marks.{wordTo}
 use Rattle.competition.specs.Queue.{isUseful, CompetingIn, RestrainedIn, nextOf}
 use Rattle.competition.specs.Search.{Written}
 use Rattle.schema.specs.declared.value.Schema.{Schema}

@@ -1,5 +1,5 @@
 -- Each call keeps a reading inside the limits.
-use mathlib.Core.Path.{_≡_, refl, sym, subst, _∙_}
+use mathlib.Core.Path.{_≡_, sym, subst, _∙_}
 use mathlib.Core.Logic.{_⊎_, inl, inr}
 use mathlib.Core.List.{List}
 use Prim.Native.Nat.{ℕ, zero, suc, pred, _<_}
@@ -14,13 +14,13 @@ use Rattle.sdtd.specs.Document.{Event, opening, closing, finish}
 use Rattle.sdtd.specs.Trim.{Live}
 use Rattle.sdtd.proofs.Questions.{block-in}
 use Rattle.sdtd.proofs.Within.{bears-within, live-within}
-use Rattle.schema.specs.States.{member, onlyStart}
+use Rattle.schema.specs.States.{onlyStart}
 use Rattle.schema.proofs.Bits.{member-start}
 use Rattle.reading.specs.declared.value.Reading.{Reading}
 use Rattle.reading.specs.declared.calls.EventAnswer.the-variants.{Refused}
 use Rattle.reading.specs.declared.calls.Next.{Next}
 use Rattle.reading.specs.Levels.{innerType, LevelWithin, Within}
-use Rattle.reading.specs.Questions.{gives, setsAfter, opened, closed, ended, OpeningTaken, CallMeans}
+use Rattle.reading.specs.Questions.{gives, setsAfter, closed, ended, OpeningTaken, CallMeans}
 use Rattle.reading.proofs.Keeping.{Sized, opened-sized, closed-sized}
 
 -- a reading inside the limits, whose two lists have 64 levels

@@ -3,9 +3,9 @@ use sdtd::Tag;
 ghost use mathlib.Core.Path.{_≡_};
 ghost use Rattle.reading.specs.Events.{eventAt, placeAfter};
 
-// How many bytes an event has: with a tag, and without.
+// the bytes of an event with a tag
 const WITH_TAG: usize = 2;
-
+// the bytes of a finish
 const ALONE: usize = 1;
 
 // An event with its tag, or that there is none.

@@ -8,7 +8,7 @@ use native.Mathlib.Nat.{add-zero, suc-add, add-suc, zero-add}
 use lib.Dec.{T}
 use lib.ListN.{length, getD}
 use Rattle.sdtd.specs.Schema.{Step, Block, Schema, noBlock, blockOf}
-use Rattle.sdtd.specs.Trim.{Bears, Live, Reached, Useful, KeptStep, Trimmed}
+use Rattle.sdtd.specs.Trim.{Bears, Live, Reached, Useful, Trimmed}
 use Rattle.sdtd.specs.Trim.{TypeTests, keepsType, keepsStep, keptSteps, trimAt, trimFrom, trimmedByTests}
 use Rattle.sdtd.proofs.Tests.{Means, and-means}
 

@@ -1,4 +1,4 @@
--- Document 01, "Trimming". "Useless types stay in the file and keptSteps their numbers": nothing here renumbers.
+-- Document 01, "Trimming". "Useless types stay in the file and keep their numbers": nothing here renumbers.
 use mathlib.Core.Path.{_≡_}
 use mathlib.Core.Logic.{_↔_}
 use mathlib.Core.Bool.{Bool, cond, _&&_}

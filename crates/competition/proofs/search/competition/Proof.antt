@@ -1,12 +1,10 @@
 -- `competition::search::competition` meets its contract: by the tables of the trimming, what the search finds is the smallest type in which two
 -- compete, with a word after which they do; or there is none.
-use mathlib.Core.Path.{_≡_, refl, sym, subst}
-use mathlib.Core.Logic.{_↔_, inl, inr}
-use mathlib.Core.Bool.{Bool, false, not}
+use mathlib.Core.Path.{refl}
+use mathlib.Core.Logic.{inl, inr}
 use native.Mathlib.Omega.{arith}
 use borrow.Author.Needs.{needs}
-use borrow.Author.Tests.{not-false}
-use lib.Dec.{T, T-not}
+use lib.Dec.{T-not}
 use Rattle.schema.proofs.LimitLaws.{within-room, passed}
 use Rattle.competition.proofs.Outcome.{none-compete, found-written, written-competes}
 use Rattle.competition.proofs.search.competition.Statement.{statement}

@@ -91,10 +91,7 @@ module _ {M : Type 1} (𝓤 : URA M) (H : Heap 𝓤) (A : Atoms 𝓤) (W : Given
   abbrev at : Vals walk-to.signature (κ, tt)
   at = (v ∷ [], (vint w64 n ∷ [], tt))
 
-  -- the machine values of an event, and of an event with the place past it
-  abbrev eventVal : FileEvent → Val
-  eventVal = EL.val E.the-type E′.the-laws
-
+  -- the machine value of an event with the place past it
   abbrev passedVal : PassedEvent → Val
   passedVal = LL.val P.the-type P′.the-laws
 
@@ -148,14 +145,9 @@ module _ {M : Type 1} (𝓤 : URA M) (H : Heap 𝓤) (A : Atoms 𝓤) (W : Given
   event-said : (r : Walker) (t : FileEvent) → ent 𝓤 (ensured 𝓤 H A event.ended (event.clauses 𝓤 H A mem run) (κ, tt) (r, tt) tt t) (fact 𝓤 (Gave r t))
   event-said r t = exE 𝓤 _ (λ ws. snd∗ 𝓤 (sem 𝓤 H A (lasts event.ended (κ, tt) (r, tt) ws)) (fact 𝓤 (Gave r t)))
 
-  -- the call of `Walker::next`
+  -- the call of `Walker::next`, which asks the same
   abbrev to-next : Walker → Val → Next 𝓤 H A mem run .Ghost
   to-next r u = (((κ, tt), (q, tt), tt, (r, tt), (u ∷ [], tt)), tt)
-
-  goes-next : (r : Walker) (u : Val) → ent 𝓤 (⋆ 𝓤 H A (‵ (B (κ, tt) .own r (u ∷ [])) ∷ (‵ (flft κ q) ⊛ ‵ ftrue) ∷ [])) (Next 𝓤 H A mem run .pre (to-next r u))
-  goes-next r u =
-      qed W (‵ (B (κ, tt) .own r (u ∷ [])) ∷ (‵ (flft κ q) ⊛ ‵ ftrue) ∷ []) ∵
-      nothing ! $ move ! (1 ∷ 0 ∷ []) $ fjoin ! $ move ! (1 ∷ 0 ∷ []) $ join ! $ frame ! $ done !
 
   abbrev Moved : Walker → Walker → Type 0
   Moved r m = (m .events ≡ r .events) × (m .at ≡ placeAfter (now (r .events)) (r .at))
@@ -200,7 +192,7 @@ module _ {M : Type 1} (𝓤 : URA M) (H : Heap 𝓤) (A : Atoms 𝓤) (W : Given
         land ! (from ! (stop !)) (init ! 11 refl (EL.lawful E.the-type E′.the-laws 𝓤 H A W tt .typed t _ is-event .0)) $
         rewrite ! 11 (λ (vs : List Val). ‵ (fat fullShare E′.mir l₄ 0 (only vs))) (EL.tells E.the-type E′.the-laws t (w ∷ []) is-event) refl $
         assigns ! (of-opd ! (load ! (from ! (stop !)) (look ! 13 refl))) (from ! (stop !)) (init ! 5 refl typed) $
-        move ! (1 ∷ 0 ∷ []) $ use2 W (raw (Next 𝓤 H A mem run .pre (to-next r u))) (goes-next r u) $
+        move ! (1 ∷ 0 ∷ []) $ use2 W (raw (Next 𝓤 H A mem run .pre (to-next r u))) (goes-event r u) $
         calls-at ! fm (Next 𝓤 H A mem run) known-next (to-next r u) (and-then ! (load ! (from ! (stop !)) (look ! 4 refl)) (no-more !)) (λ x.
         use1 W (later (some (λ (m : Walker). ((‵ (flft κ q) ⊛ ‵ ftrue) ⊛ ‵ (B (κ, tt) .own m (x ∷ []))) ⊛ raw (ensured 𝓤 H A next.ended (next.clauses 𝓤 H A mem run) (κ, tt) (r, tt) tt m)))) (id⊢ 𝓤 _) $ await ! tt $ pick ! (λ m.
         split ! $ move ! (1 ∷ []) $ use1 W (raw (fact 𝓤 (Moved r m))) (next-said r m) $ heard ! (Moved r m) (λ e″. split ! $ move ! (1 ∷ []) $

@@ -1,6 +1,6 @@
 -- `schema::tables::trim` meets its contract: inside the limits the tables that the rounds settle at are exactly the definitions.
 use mathlib.Core.Path.{refl}
-use Prim.Native.Nat.{ℕ, _^_, _<_}
+use Prim.Native.Nat.{ℕ}
 use borrow.Author.Needs.{needs}
 use lib.Dec.{T-not}
 use lib.ListN.{getD}
