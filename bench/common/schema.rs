@@ -44,6 +44,7 @@ impl Schema {
 #[derive(PartialEq)]
 #[repr(C)]
 pub struct Trimming {
+    pub inside: bool,
     pub live: [u32; TYPES],
     pub bears: [bool; TYPES],
     pub reached: [bool; TYPES],
@@ -197,6 +198,7 @@ impl Schema {
     pub fn trim(&self) -> Trimming {
         if !self.within() {
             return Trimming {
+                inside: false,
                 live: [0; TYPES],
                 bears: [false; TYPES],
                 reached: [false; TYPES],
@@ -207,6 +209,7 @@ impl Schema {
         let reached = self.reached_types(&live, &forward);
         let bears = live.map(|set| has(set, 0));
         Trimming {
+            inside: true,
             live,
             bears,
             reached,

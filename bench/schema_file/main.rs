@@ -1,5 +1,5 @@
 // The schema file's call beside plain Rust of the same questions, written in two ways: `plain` stops at the first equal step when it looks for a
-// repeated STEP and trims once; `alike` compares a STEP with all of its block without a branch and trims twice, as the proved reader does.
+// repeated STEP; `alike` compares a STEP with all of its block without a branch, as the proved reader does.
 #[allow(dead_code)]
 #[path = "../common/mod.rs"]
 mod common;

@@ -1,5 +1,5 @@
 // The schema file's reader in plain Rust, twice: as one would write it, and with the proved reader's comparisons.
-use crate::common::schema::{STEPS, Schema, Searched, TYPES, WITNESS, has};
+use crate::common::schema::{STEPS, Schema, Searched, TYPES, WITNESS};
 
 // As `TypestockSchema` of the crate typestock_c: a refusal's number and place; 0 and 0 for accepted.
 #[derive(Debug, PartialEq)]
@@ -18,20 +18,6 @@ pub trait Way {
     // Is one of the steps (p, j, q)? The steps are three lists of one length.
     fn given(steps: [&[u8]; 3], step: [u8; 3]) -> bool;
     // Questions 8 and 9 of a schema inside the limits.
-    fn judge(schema: &Schema, witness: &mut [u8]) -> u8;
-}
-
-// Stops at the first equal step, and trims once.
-pub struct Obvious;
-
-impl Way for Obvious {
-    fn given([from, by, to]: [&[u8]; 3], [p, j, q]: [u8; 3]) -> bool {
-        let steps = from.iter().zip(by).zip(to);
-        steps
-            .into_iter()
-            .any(|((&f, &b), &t)| (f, b, t) == (p, j, q))
-    }
-
     fn judge(schema: &Schema, witness: &mut [u8]) -> u8 {
         let trimming = schema.trim();
         if !trimming.bears[schema.root as usize] {
@@ -44,7 +30,19 @@ impl Way for Obvious {
     }
 }
 
-// Compares with every step, without a branch; trims for question 8, and again in the search.
+// Stops at the first equal step.
+pub struct Obvious;
+
+impl Way for Obvious {
+    fn given([from, by, to]: [&[u8]; 3], [p, j, q]: [u8; 3]) -> bool {
+        let steps = from.iter().zip(by).zip(to);
+        steps
+            .into_iter()
+            .any(|((&f, &b), &t)| (f, b, t) == (p, j, q))
+    }
+}
+
+// Compares with every step, without a branch.
 pub struct Alike;
 
 impl Way for Alike {
@@ -53,16 +51,6 @@ impl Way for Alike {
         steps.fold(false, |found, ((&f, &b), &t)| {
             found | (f == p) & (b == j) & (t == q)
         })
-    }
-
-    fn judge(schema: &Schema, witness: &mut [u8]) -> u8 {
-        if !has(schema.live_states()[schema.root as usize], 0) {
-            return 8;
-        }
-        match schema.competition(witness) {
-            Searched::Competes => 9,
-            _ => 0,
-        }
     }
 }
 

@@ -1,30 +1,49 @@
--- What the tables hold of the commands so far, while they are passed one after another.
+-- What the progress and the tables hold of the commands so far, while they are passed one after another.
 use mathlib.Core.Path.{_≡_}
 use mathlib.Core.List.{List, [], _∷_}
 use Prim.Native.Nat.{ℕ, _+_, _≤_, _<_}
 use lib.ListN.{length, getD}
+use Rattle.sdtd.specs.Limits.{mostTypes, mostSteps}
 use Rattle.schema.specs.Value.{stepAt}
-use Rattle.commands.specs.File.{inside, Placed, Draft, Stated, stepCount}
+use Rattle.command.specs.declared.Command.{Command}
+use Rattle.commands.specs.Questions.{rank}
+use Rattle.commands.specs.File.{Placed, Draft, Stated, stepCount}
 use Rattle.commands.specs.Value.{EmptyFrom}
-use Rattle.commands.specs.Tables.{Tables, asked, lastType, givenAlready}
-use Rattle.commands.specs.declared.command.Command.{Command}
-use Rattle.commands.specs.declared.state.State.{State}
+use Rattle.commands.specs.Progress.{SchemaTables, seenBy, lastType, givenAlready, tagAfter, statesAfter, acceptingAfter}
+use Rattle.commands.specs.Progress.{countsAfter, fromAfter, byAfter, toAfter, placesAfter}
+use Rattle.commands.specs.declared.progress.Phase.the-variants.{InBlock}
+use Rattle.commands.specs.declared.progress.Progress.{Progress}
+use Rattle.commands.specs.declared.questions.Seen.{Seen}
 
--- the number of the question that the command fails, by the state and the tables
-abbrev pub askedBy : State → Tables → Command → ℕ
-askedBy s t c =
-    let a = lastType s in
-    asked s (getD (t .states) a 0) (getD (t .accepting) a 0)
-    (givenAlready (s .count) (t .from) (t .by) (t .to) (getD (t .counts) a 0) c) c
+-- what is seen of the file by the progress and the tables
+abbrev pub seenIn : Progress → SchemaTables → Command → Seen
+seenIn s t c =
+    let a = lastType (s .types) in
+    seenBy s (getD (t .states) a 0) (record { 0 = getD (t .accepting) a 0 })
+    (givenAlready (t .from) (t .by) (t .to) (s .steps) (getD (t .counts) a 0) c)
+
+-- the tables after the command at the place i, which passed its questions
+abbrev pub tablesAfter : Progress → SchemaTables → ℕ → Command → SchemaTables
+tablesAfter s t i c =
+    record {
+      tag = tagAfter (s .types) (t .tag) c;
+      states = statesAfter (s .types) (t .states) c;
+      accepting = acceptingAfter (s .types) (t .accepting) c;
+      counts = countsAfter (s .types) (t .counts) c;
+      from = fromAfter (s .steps) (t .from) c;
+      by = byAfter (s .steps) (t .by) c;
+      to = toAfter (s .steps) (t .to) c;
+      places = placesAfter (s .steps) i (t .places) c;
+    }
 
 -- the steps of a block, the last first, stand from the place s of the tables on
-abbrev pub StepsHold : Tables → List Placed → ℕ → Type 0
+abbrev pub StepsHold : SchemaTables → List Placed → ℕ → Type 0
 StepsHold t [] s = Unit
 StepsHold t (x ∷ xs) s =
     (stepAt (t .from) (t .by) (t .to) (s + length xs) ≡ x .step) × (getD (t .places) (s + length xs) 0 ≡ x .place) × StepsHold t xs s
 
 -- the block d is the type a, whose steps stand from the place s on
-pub record DraftHolds (t : Tables) (d : Draft) (a s : ℕ) : Type 0 where
+pub record DraftHolds (t : SchemaTables) (d : Draft) (a s : ℕ) : Type 0 where
   pub tag : getD (t .tag) a 0 ≡ d .tag
   pub states : getD (t .states) a 0 ≡ d .states
   pub accepting : getD (t .accepting) a 0 ≡ d .accepting
@@ -32,23 +51,23 @@ pub record DraftHolds (t : Tables) (d : Draft) (a s : ℕ) : Type 0 where
   pub steps : StepsHold t (d .steps) s
 
 -- the blocks, the last first, are the types from 0 on
-abbrev pub BlocksHold : Tables → List Draft → Type 0
+abbrev pub BlocksHold : SchemaTables → List Draft → Type 0
 BlocksHold t [] = Unit
 BlocksHold t (d ∷ ds) = DraftHolds t d (length ds) (stepCount ds) × BlocksHold t ds
 
 -- the tables have their lengths
-pub record Sized (t : Tables) : Type 0 where
-  pub tag : length (t .tag) ≡ 64
-  pub states : length (t .states) ≡ 64
-  pub accepting : length (t .accepting) ≡ 64
-  pub counts : length (t .counts) ≡ 64
-  pub from : length (t .from) ≡ 1024
-  pub by : length (t .by) ≡ 1024
-  pub to : length (t .to) ≡ 1024
-  pub places : length (t .places) ≡ 1024
+pub record Sized (t : SchemaTables) : Type 0 where
+  pub tag : length (t .tag) ≡ mostTypes
+  pub states : length (t .states) ≡ mostTypes
+  pub accepting : length (t .accepting) ≡ mostTypes
+  pub counts : length (t .counts) ≡ mostTypes
+  pub from : length (t .from) ≡ mostSteps
+  pub by : length (t .by) ≡ mostSteps
+  pub to : length (t .to) ≡ mostSteps
+  pub places : length (t .places) ≡ mostSteps
 
 -- past the first a types and the first n steps the tables hold 0
-pub record EmptyPast (t : Tables) (a n : ℕ) : Type 0 where
+pub record EmptyPast (t : SchemaTables) (a n : ℕ) : Type 0 where
   pub tag : EmptyFrom a (t .tag)
   pub states : EmptyFrom a (t .states)
   pub accepting : EmptyFrom a (t .accepting)
@@ -57,16 +76,16 @@ pub record EmptyPast (t : Tables) (a n : ℕ) : Type 0 where
   pub by : EmptyFrom n (t .by)
   pub to : EmptyFrom n (t .to)
 
--- The state and the tables hold what is stated.
-pub record Holds (g : Stated) (s : State) (t : Tables) : Type 0 where
+-- The progress and the tables hold what is stated.
+pub record Holds (g : Stated) (s : Progress) (t : SchemaTables) : Type 0 where
   pub sized : Sized t
   pub phase : s .phase ≡ g .phase
   pub tags : s .tags ≡ g .tags
   pub root : s .root .0 ≡ g .root
   pub types : s .types ≡ length (g .blocks)
-  pub count : s .count ≡ stepCount (g .blocks)
-  pub types-most : s .types ≤ 64
-  pub count-most : s .count ≤ 1024
-  pub some : g .phase ≡ inside → 0 < s .types
+  pub steps : s .steps ≡ stepCount (g .blocks)
+  pub types-most : s .types ≤ mostTypes
+  pub steps-most : s .steps ≤ mostSteps
+  pub some : rank (g .phase) ≡ rank InBlock → 0 < s .types
   pub blocks : BlocksHold t (g .blocks)
-  pub empty : EmptyPast t (s .types) (s .count)
+  pub empty : EmptyPast t (s .types) (s .steps)

@@ -7,13 +7,13 @@ use native.Mathlib.Nat.{suc-add}
 use native.Mathlib.Omega.{arith}
 use lib.Dec.{ltb}
 use lib.ListN.{length, getD}
-use Rattle.sdtd.specs.declared.TypeNo.{TypeNo}
 use Rattle.schema.specs.States.{members}
 use Rattle.schema.specs.Value.{upFrom, stepAt, stepsOf, offset, blockAt}
 use Rattle.schema.specs.declared.value.Schema.{Schema}
 use Rattle.schema.proofs.Values.{offset-step}
 use Rattle.commands.specs.File.{Placed, Draft, stepCount, blockBy, unknownIn, unknownBy}
-use Rattle.commands.specs.Tables.{Tables, unknownAt}
+use Rattle.commands.specs.Progress.{SchemaTables, unknownAt, valueOf}
+use Rattle.commands.specs.declared.progress.Progress.{Progress}
 use Rattle.commands.proofs.Holding.{StepsHold, DraftHolds, BlocksHold}
 
 -- the last of the numbers
@@ -33,7 +33,7 @@ map-reverse : {A B : Type 0} (f : A → B) (x : A) (xs : List A) → map f (reve
 map-reverse f x xs = ap (map f) (reverse-cons x xs) ∙ map-last f (reverse xs) x
 
 -- the steps at a block's places are its steps in file order
-steps-back : (t : Tables) (xs : List Placed) (s : ℕ) → StepsHold t xs s
+steps-back : (t : SchemaTables) (xs : List Placed) (s : ℕ) → StepsHold t xs s
     → stepsOf (t .from) (t .by) (t .to) s (length xs) ≡ map (λ (x : Placed). x .step) (reverse xs)
 unfolding stepsOf upFrom
 steps-back t [] s h = refl
@@ -43,30 +43,18 @@ steps-back t (x ∷ xs) s h =
     ∙ sym (map-reverse (λ (x : Placed). x .step) x xs)
 
 -- a type's first step stands behind all steps of the types before it
-pub offset-back : (t : Tables) (bs : List Draft) → BlocksHold t bs → offset (t .counts) (length bs) ≡ stepCount bs
+pub offset-back : (t : SchemaTables) (bs : List Draft) → BlocksHold t bs → offset (t .counts) (length bs) ≡ stepCount bs
 offset-back t [] h = refl
 offset-back t (d ∷ ds) h =
     offset-step (t .counts) (length ds) ∙ (λ i. offset-back t ds (h .1) i + h .0 .count i)
 
 -- the schema value of the tables
-abbrev pub valueOf : Tables → ℕ → ℕ → TypeNo → Schema
-valueOf t tags types root =
-    record {
-      tags = tags;
-      types = types;
-      root = root;
-      tag = t .tag;
-      states = t .states;
-      accepting = t .accepting;
-      steps = t .counts;
-      from = t .from;
-      by = t .by;
-      to = t .to;
-    }
+abbrev pub valueIn : Progress → SchemaTables → Schema
+valueIn s t = valueOf s (t .tag) (t .states) (t .accepting) (t .counts) (t .from) (t .by) (t .to)
 
-module _ (t : Tables) (tags types : ℕ) (root : TypeNo) where
+module _ (p : Progress) (t : SchemaTables) where
   block-back : (d : Draft) (a s : ℕ) → offset (t .counts) a ≡ s → DraftHolds t d a s
-      → blockAt (valueOf t tags types root) a ≡ blockBy d
+      → blockAt (valueIn p t) a ≡ blockBy d
   unfolding blockAt
   block-back d a s e h i =
       record {
@@ -77,12 +65,12 @@ module _ (t : Tables) (tags types : ℕ) (root : TypeNo) where
       }
 
   pub blocks-back : (bs : List Draft) → BlocksHold t bs
-      → map (blockAt (valueOf t tags types root)) (upFrom 0 (length bs)) ≡ map blockBy (reverse bs)
+      → map (blockAt (valueIn p t)) (upFrom 0 (length bs)) ≡ map blockBy (reverse bs)
   unfolding upFrom
   blocks-back [] h = refl
   blocks-back (d ∷ ds) h =
       let z : 0 + length ds ≡ length ds = omega arith in
-      up-last (blockAt (valueOf t tags types root)) 0 (length ds)
+      up-last (blockAt (valueIn p t)) 0 (length ds)
       ∙ rw z (λ i. blocks-back ds (h .1) i ++ (block-back d (length ds) (stepCount ds) (offset-back t ds (h .1)) (h .0) i ∷ []))
       ∙ sym (map-reverse blockBy d ds)
 
@@ -109,7 +97,7 @@ module _ (by places : List ℕ) (types : ℕ) where
   unknown-one i = refl
 
 -- the places of a block's steps
-unknown-steps : (t : Tables) (types : ℕ) (xs : List Placed) (s : ℕ) → StepsHold t xs s
+unknown-steps : (t : SchemaTables) (types : ℕ) (xs : List Placed) (s : ℕ) → StepsHold t xs s
     → unknownIn types xs ≡ unknownAt (t .by) (t .places) types s (length xs)
 unfolding unknownAt
 unknown-steps t types [] s h = refl
@@ -122,7 +110,7 @@ unknown-steps t types (x ∷ xs) s h =
     ∙ ap (u s) (sym e)
 
 -- the places of all of them
-pub unknown-back : (t : Tables) (types : ℕ) (bs : List Draft) → BlocksHold t bs
+pub unknown-back : (t : SchemaTables) (types : ℕ) (bs : List Draft) → BlocksHold t bs
     → unknownBy types bs ≡ unknownAt (t .by) (t .places) types 0 (stepCount bs)
 unfolding unknownAt
 unknown-back t types [] h = refl

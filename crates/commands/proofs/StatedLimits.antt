@@ -4,20 +4,23 @@ use mathlib.Core.Logic.{⊎-elim}
 use mathlib.Core.Bool.{Bool, true, false, cond}
 use mathlib.Core.List.{List, [], _∷_, _++_, map, reverse, reverse-cons, map-append, List·Memᴰ, List·Memᴰ·head, List·Memᴰ·tail}
 use mathlib.Core.List.{List·Memᴰ·not-nil, List·Memᴰ·cases-cons, List·Memᴰ·append-cases, List·Memᴰ·eq-of-singleton, Memᴰ·of-map}
-use Prim.Native.Nat.{ℕ, suc, _+_, _^_, _≤_, _<_}
+use Prim.Native.Nat.{ℕ, _+_, _^_, _≤_, _<_}
 use native.Mathlib.Omega.{arith}
 use lib.Dec.{T, ltb}
 use lib.ListN.{length, length-map, length-reverse}
 use borrow.Author.Tests.{ltb-true}
 use Rattle.sdtd.specs.Limits.{mostTags, mostTypes, mostStates, mostSteps}
-use Rattle.sdtd.specs.Schema.{Schema, Block, stepsIn, StepWithin, BlockWithin, WithinLimits}
-use Rattle.schema.specs.States.{member}
+use Rattle.sdtd.specs.Schema.{Schema, Block, step, stepsIn, StepWithin, BlockWithin, WithinLimits}
+use Rattle.schema.specs.States.{member, noStates}
 use Rattle.schema.proofs.Bits.{member-none, insert-below, member-insert, mem-members}
-use Rattle.commands.specs.File.{tagged, inside, rooted, Placed, Draft, Stated, nothingStated, current, stepCount}
+use Rattle.commands.specs.Questions.{rank}
+use Rattle.commands.specs.declared.progress.Phase.the-variants.{BeforeTypes, InBlock, AfterRoot}
+use Rattle.commands.specs.File.{Placed, Draft, Stated, nothingStated, current, stepCount}
 use Rattle.commands.specs.File.{withFinal, withStep, after, states, commands, blockBy, schemaBy, unknownIn, unknownBy, unknown}
-use Rattle.commands.specs.declared.command.Command.{Command}
-use Rattle.commands.specs.declared.command.Command.the-variants.{Tags, TypeBlock, Final, Step, Root, Done, NoCommand}
-use Rattle.commands.proofs.Passing.{Passed, Ended, kept-to-end}
+use Rattle.command.specs.declared.Command.{Command}
+use Rattle.command.specs.declared.Command.the-variants.{Tags, TypeBlock, Final, Step, Root, Done, NoCommand}
+use Rattle.commands.proofs.TableLaws.{final-count, final-steps, step-count, step-steps}
+use Rattle.commands.proofs.Passing.{Passed, HoldsAtEnd, kept-to-end}
 
 -- each member of a list has the property
 abbrev pub Each : {A : Type 0} → (A → Type 0) → List A → Type 0
@@ -41,43 +44,43 @@ each-turned : {A B : Type 0} (Q : B → Type 0) (f : A → B) (l : List A) → E
 each-turned Q f l every y m = let o = Memᴰ·of-map f (reverse l) m in subst Q (o .2) (every (o .0) (mem-reverse l (o .1)))
 
 -- a step's states are below the state count
-abbrev StepFine : ℕ → Placed → Type 0
-StepFine n s = (s .step .from < n) × (s .step .to < n)
+abbrev EndsWithin : ℕ → Placed → Type 0
+EndsWithin n s = (s .step .from < n) × (s .step .to < n)
 
 -- a block's numbers are inside the limits
-pub record DraftFine (tags : ℕ) (d : Draft) : Type 0 where
+pub record DraftWithin (tags : ℕ) (d : Draft) : Type 0 where
   pub tag : d .tag < tags
   pub states-least : 1 ≤ d .states
   pub states-most : d .states ≤ mostStates
-  pub below : d .accepting < 2 ^ 32
+  pub below : d .accepting < 2 ^ mostStates
   pub accepting : (q : ℕ) → T (member q (d .accepting)) → q < d .states
-  pub steps : Each (StepFine (d .states)) (d .steps)
+  pub steps : Each (EndsWithin (d .states)) (d .steps)
 
 -- the counts so far, and after ROOT the root type, are inside the limits
-pub record CountsFine (g : Stated) : Type 0 where
-  pub tags-least : tagged ≤ g .phase → 1 ≤ g .tags
+pub record CountsWithin (g : Stated) : Type 0 where
+  pub tags-least : rank BeforeTypes ≤ rank (g .phase) → 1 ≤ g .tags
   pub tags-most : g .tags ≤ mostTags
-  pub no-types : g .phase ≤ tagged → length (g .blocks) ≡ 0
-  pub types-least : inside ≤ g .phase → 1 ≤ length (g .blocks)
+  pub no-types : rank (g .phase) ≤ rank BeforeTypes → length (g .blocks) ≡ 0
+  pub types-least : rank InBlock ≤ rank (g .phase) → 1 ≤ length (g .blocks)
   pub types-most : length (g .blocks) ≤ mostTypes
   pub steps-most : stepCount (g .blocks) ≤ mostSteps
-  pub root : rooted ≤ g .phase → g .root < length (g .blocks)
+  pub root : rank AfterRoot ≤ rank (g .phase) → g .root < length (g .blocks)
 
 -- What is stated so far is inside the limits.
-pub record Fine (g : Stated) : Type 0 where
-  pub counts : CountsFine g
-  pub blocks : Each (DraftFine (g .tags)) (g .blocks)
+pub record StatedWithin (g : Stated) : Type 0 where
+  pub counts : CountsWithin g
+  pub blocks : Each (DraftWithin (g .tags)) (g .blocks)
 
-pub nothing-fine : Fine nothingStated
-nothing-fine = record { counts = omega arith; blocks = each-none (DraftFine 0) [] refl }
+pub nothing-within : StatedWithin nothingStated
+nothing-within = record { counts = omega arith; blocks = each-none (DraftWithin 0) [] refl }
 
 -- an accepting state more, and a step more, in the block that the file is in
-final-fine : {tags : ℕ} (q : ℕ) (ds : List Draft) → q < current ds .states → Each (DraftFine tags) ds
-    → Each (DraftFine tags) (withFinal q ds)
-final-fine q [] l every = every
-final-fine {tags} q (d ∷ ds) l every =
+final-within : {tags : ℕ} (q : ℕ) (ds : List Draft) → q < current ds .states → Each (DraftWithin tags) ds
+    → Each (DraftWithin tags) (withFinal q ds)
+final-within q [] l every = every
+final-within {tags} q (d ∷ ds) l every =
     let h = every d (List·Memᴰ·head refl) in
-    each-more (DraftFine tags)
+    each-more (DraftWithin tags)
     (record {
       tag = h .tag;
       states-least = h .states-least;
@@ -88,73 +91,66 @@ final-fine {tags} q (d ∷ ds) l every =
     })
     (λ x m. every x (List·Memᴰ·tail m))
 
-step-fine : {tags : ℕ} (s : Placed) (ds : List Draft) → StepFine (current ds .states) s → Each (DraftFine tags) ds
-    → Each (DraftFine tags) (withStep s ds)
-step-fine s [] l every = every
-step-fine {tags} s (d ∷ ds) l every =
+step-within : {tags : ℕ} (s : Placed) (ds : List Draft) → EndsWithin (current ds .states) s → Each (DraftWithin tags) ds
+    → Each (DraftWithin tags) (withStep s ds)
+step-within s [] l every = every
+step-within {tags} s (d ∷ ds) l every =
     let h = every d (List·Memᴰ·head refl) in
-    each-more (DraftFine tags)
+    each-more (DraftWithin tags)
     (record {
       tag = h .tag;
       states-least = h .states-least;
       states-most = h .states-most;
       below = h .below;
       accepting = h .accepting;
-      steps = each-more (StepFine (d .states)) l (h .steps);
+      steps = each-more (EndsWithin (d .states)) l (h .steps);
     })
     (λ x m. every x (List·Memᴰ·tail m))
 
--- neither changes the number of blocks; a FINAL does not change the number of steps, a STEP makes it one more at most
-final-counts : (q : ℕ) (ds : List Draft) → (length (withFinal q ds) ≡ length ds) × (stepCount (withFinal q ds) ≡ stepCount ds)
-final-counts q [] = (refl, refl)
-final-counts q (d ∷ ds) = (refl, refl)
-
-step-counts : (s : Placed) (ds : List Draft) → (length (withStep s ds) ≡ length ds) × (stepCount (withStep s ds) ≤ suc (stepCount ds))
-step-counts s [] = (refl, omega arith)
-step-counts s (d ∷ ds) = (refl, omega arith)
-
 -- a block that has only its TYPE
-draft-fine : {tags t s : ℕ} → t < tags → 1 ≤ s → s ≤ mostStates
-    → DraftFine tags (record { tag = t; states = s; accepting = 0; steps = [] })
-draft-fine {s = s} a b c =
+draft-within : {tags t s : ℕ} (i : ℕ) → t < tags → 1 ≤ s → s ≤ mostStates
+    → DraftWithin tags (record { place = i; tag = t; states = s; accepting = noStates; steps = [] })
+draft-within {s = s} i a b c =
     record {
       tag = a;
       states-least = b;
       states-most = c;
       below = omega arith;
       accepting = λ q m. absurd (member-none q m);
-      steps = each-none (StepFine s) [] refl;
+      steps = each-none (EndsWithin s) [] refl;
     }
 
 -- Each command that passes its questions keeps it.
-pub fine-kept : (i : ℕ) (g : Stated) (c : Command) → Passed g c → Fine g → Fine (after g i c)
+pub within-kept : (i : ℕ) (g : Stated) (c : Command) → Passed g c → StatedWithin g → StatedWithin (after g i c)
 unfolding after
-fine-kept i g (Tags n) p h =
+within-kept i g (Tags n) p h =
     let none = h .counts .no-types (omega arith) in
-    record { counts = omega arith; blocks = each-none (DraftFine n) (g .blocks) none }
-fine-kept i g (TypeBlock t s) p h =
-    record { counts = omega arith; blocks = each-more (DraftFine (g .tags)) (draft-fine (p .2) (p .3) (p .4)) (h .blocks) }
-fine-kept i g (Final q) p h =
-    let n = final-counts q (g .blocks) in
+    record { counts = omega arith; blocks = each-none (DraftWithin n) (g .blocks) none }
+within-kept i g (TypeBlock t s) p h =
+    record { counts = omega arith; blocks = each-more (DraftWithin (g .tags)) (draft-within i (p .2) (p .3) (p .4)) (h .blocks) }
+within-kept i g (Final q) p h =
+    let n = final-count q (g .blocks) in
+    let m = final-steps q (g .blocks) in
     let t = h .counts .tags-least (omega arith) in
     let l = h .counts .types-least (omega arith) in
-    record { counts = omega arith; blocks = final-fine q (g .blocks) (p .1) (h .blocks) }
-fine-kept i g (Step x j y) p h =
-    let s : Placed = record { step = record { from = x; by = j .0; to = y }; place = i } in
-    let n = step-counts s (g .blocks) in
+    record { counts = omega arith; blocks = final-within q (g .blocks) (p .1) (h .blocks) }
+within-kept i g (Step x j y) p h =
+    let s : Placed = record { step = step x (j .0) y; place = i } in
     let t = h .counts .tags-least (omega arith) in
     let l = h .counts .types-least (omega arith) in
-    record { counts = omega arith; blocks = step-fine s (g .blocks) (p .1, p .2) (h .blocks) }
-fine-kept i g (Root a) p h = let t = h .counts .tags-least (omega arith) in record { counts = omega arith; blocks = h .blocks }
-fine-kept i g Done p h =
+    let n = step-count s (g .blocks) in
+    let m = step-steps s (g .blocks) l in
+    record { counts = omega arith; blocks = step-within s (g .blocks) (p .1, p .2) (h .blocks) }
+within-kept i g (Root a) p h = let t = h .counts .tags-least (omega arith) in record { counts = omega arith; blocks = h .blocks }
+within-kept i g Done p h =
     let t = h .counts .tags-least (omega arith) in
     let r = h .counts .root (omega arith) in
     record { counts = omega arith; blocks = h .blocks }
-fine-kept i g NoCommand p h = absurd p
+within-kept i g NoCommand p h = absurd p
 
 -- what all the commands of a file state
-ended-fine : (file : List ℕ) {g : Stated} → commands file ≡ states g → Ended (λ i x. Fine x) file g
-ended-fine file e = kept-to-end fine-kept file e nothing-fine
+within-at-end : (file : List ℕ) {g : Stated} → commands file ≡ states g → HoldsAtEnd (λ i x. StatedWithin x) file g
+within-at-end file e = kept-to-end within-kept file e nothing-within
 
 -- where no step's type is unknown, each step's type is below the count
 none-both : {A : Type 0} (s t : List A) → s ++ t ≡ [] → (s ≡ []) × (t ≡ [])
@@ -190,7 +186,7 @@ steps-counted (d ∷ ds) =
     (simp (map-append, steps-append) (omega (arith, steps-counted ds)))
 
 -- the schema's block of a draft, each step's type known
-block-within : (S : Schema) (d : Draft) → DraftFine (S .tags) d → Each (λ s. s .step .by < length (S .blocks)) (d .steps)
+block-within : (S : Schema) (d : Draft) → DraftWithin (S .tags) d → Each (λ s. s .step .by < length (S .blocks)) (d .steps)
     → BlockWithin S (blockBy d)
 block-within S d h known =
     record {
@@ -206,7 +202,7 @@ block-within S d h known =
 pub stated-within : (file : List ℕ) (g : Stated) → commands file ≡ states g → unknown g ≡ [] → WithinLimits (schemaBy g)
 unfolding schemaBy
 stated-within file g e none =
-    let r = ended-fine file e in
+    let r = within-at-end file e in
     let h = r .holds .counts in
     let n : length (map blockBy (reverse (g .blocks))) ≡ length (g .blocks) = simp (length-map, length-reverse) in
     record {

@@ -6,20 +6,71 @@ use Prim.Native.Nat.{ℕ, zero, suc, _+_, _-_, _%_, _≤_, _<_}
 use native.Mathlib.Omega.{arith}
 use lib.ListN.{length, getD, set, length-set}
 use lib.Seq.{getD-set-same, getD-set-other}
-use Rattle.sdtd.specs.Schema.{Step}
-use Rattle.schema.specs.States.{insert}
+use Rattle.sdtd.specs.Schema.{Step, step}
+use Rattle.sdtd.specs.Limits.{mostTypes, mostSteps}
+use Rattle.schema.specs.States.{insert, noStates}
 use Rattle.schema.specs.Value.{stepAt}
 use Rattle.commands.specs.File.{sameStep, hasStep, Placed, Draft, current, stepCount, withFinal, withStep}
 use Rattle.commands.specs.Value.{EmptyFrom}
-use Rattle.commands.specs.Tables.{Tables, givenIn, withType, withAccepting, withOneStep}
+use Rattle.commands.specs.Progress.{SchemaTables, lastType, givenIn}
 use Rattle.commands.proofs.Holding.{StepsHold, DraftHolds, BlocksHold, Sized, EmptyPast}
 
--- the block that the file is in is the last type, and its steps are the last
-pub current-holds : {t : Tables} (bs : List Draft) → 0 < length bs → BlocksHold t bs
-    → DraftHolds t (current bs) (length bs - 1) (stepCount bs - length (current bs .steps))
-current-holds [] l h = absurd (omega arith)
-current-holds {t} (d ∷ ds) l h =
-    let a : length (d ∷ ds) - 1 ≡ length ds = omega arith in
+-- the tables with one type more
+abbrev pub withType : SchemaTables → ℕ → ℕ → ℕ → SchemaTables
+withType t a g k =
+    record {
+      tag = set (t .tag) a g;
+      states = set (t .states) a k;
+      accepting = t .accepting;
+      counts = t .counts;
+      from = t .from;
+      by = t .by;
+      to = t .to;
+      places = t .places;
+    }
+
+-- the tables with one accepting state more
+abbrev pub withAccepting : SchemaTables → ℕ → ℕ → SchemaTables
+withAccepting t a q =
+    record {
+      tag = t .tag;
+      states = t .states;
+      accepting = set (t .accepting) a (insert q (getD (t .accepting) a 0));
+      counts = t .counts;
+      from = t .from;
+      by = t .by;
+      to = t .to;
+      places = t .places;
+    }
+
+-- the tables with one step more, from the command at the place i
+abbrev pub withOneStep : SchemaTables → ℕ → ℕ → ℕ → ℕ → ℕ → ℕ → SchemaTables
+withOneStep t a n p j q i =
+    record {
+      tag = t .tag;
+      states = t .states;
+      accepting = t .accepting;
+      counts = set (t .counts) a (getD (t .counts) a 0 % mostSteps + 1);
+      from = set (t .from) n p;
+      by = set (t .by) n j;
+      to = set (t .to) n q;
+      places = set (t .places) n i;
+    }
+
+-- the block that the file is in is the last type, and its steps are the last; before the first there is none, and the tables are empty
+pub current-holds : {t : SchemaTables} {types n : ℕ} (bs : List Draft) → types ≡ length bs → types ≤ mostTypes → EmptyPast t types n
+    → BlocksHold t bs → DraftHolds t (current bs) (lastType types) (stepCount bs - length (current bs .steps))
+current-holds {types = types} [] e l z h =
+    let a = lastType types in
+    record {
+      tag = z .tag a (omega arith);
+      states = z .states a (omega arith);
+      accepting = z .accepting a (omega arith);
+      count = z .counts a (omega arith);
+      steps = tt;
+    }
+current-holds {types = types} (d ∷ ds) e l z h =
+    let a : lastType types ≡ length ds = omega arith in
     let n : stepCount (d ∷ ds) - length (d .steps) ≡ stepCount ds = omega arith in
     rw (a, n) (h .0)
 
@@ -64,7 +115,7 @@ module _ (from by to : List ℕ) (p j q : ℕ) where
       ∙ or-assoc b a c)
 
 -- the steps of a block are those at its places
-pub given-holds : (t : Tables) (p j q : ℕ) (xs : List Placed) (s : ℕ) → StepsHold t xs s
+pub given-holds : (t : SchemaTables) (p j q : ℕ) (xs : List Placed) (s : ℕ) → StepsHold t xs s
     → givenIn (t .from) (t .by) (t .to) p j q s (length xs) ≡ hasStep p j q xs
 unfolding givenIn
 given-holds t p j q [] s h = refl
@@ -73,7 +124,7 @@ given-holds t p j q (x ∷ xs) s h =
     ∙ (λ i. sameStep p j q (h .0 i) || given-holds t p j q xs s (h .2) i)
 
 -- the tables agree on the types below a and on the steps below n
-record Below (t u : Tables) (a n : ℕ) : Type 0 where
+record Below (t u : SchemaTables) (a n : ℕ) : Type 0 where
   tag : (b : ℕ) → b < a → getD (u .tag) b 0 ≡ getD (t .tag) b 0
   states : (b : ℕ) → b < a → getD (u .states) b 0 ≡ getD (t .states) b 0
   accepting : (b : ℕ) → b < a → getD (u .accepting) b 0 ≡ getD (t .accepting) b 0
@@ -81,7 +132,7 @@ record Below (t u : Tables) (a n : ℕ) : Type 0 where
   step : (k : ℕ) → k < n → stepAt (u .from) (u .by) (u .to) k ≡ stepAt (t .from) (t .by) (t .to) k
   place : (k : ℕ) → k < n → getD (u .places) k 0 ≡ getD (t .places) k 0
 
-module _ {t u : Tables} {a n : ℕ} (w : Below t u a n) where
+module _ {t u : SchemaTables} {a n : ℕ} (w : Below t u a n) where
   steps-below : (xs : List Placed) (s : ℕ) → s + length xs ≤ n → StepsHold t xs s → StepsHold u xs s
   steps-below [] s l h = tt
   steps-below (x ∷ xs) s l h = (
@@ -112,15 +163,15 @@ set-below l a v b h = getD-set-other l a b v 0 (omega arith)
 set-empty : {n : ℕ} (l : List ℕ) (a v m : ℕ) → n ≤ m → a < m → EmptyFrom n l → EmptyFrom m (set l a v)
 set-empty {n} l a v m h b e i k = getD-set-other l a i v 0 (omega arith) ∙ e i (omega arith)
 
-module _ {t : Tables} {a n : ℕ} (e : EmptyPast t a n) where
+module _ {t : SchemaTables} {a n : ℕ} (e : EmptyPast t a n) where
   -- one type more
   pub type-empty : (b g k : ℕ) → a ≡ b → EmptyPast (withType t b g k) (b + 1) n
   type-empty b g k q =
       record {
         tag = set-empty (t .tag) b g (b + 1) (omega arith) (omega arith) (e .tag);
         states = set-empty (t .states) b k (b + 1) (omega arith) (omega arith) (e .states);
-        accepting = set-empty (t .accepting) b 0 (b + 1) (omega arith) (omega arith) (e .accepting);
-        counts = set-empty (t .counts) b 0 (b + 1) (omega arith) (omega arith) (e .counts);
+        accepting = λ i l. e .accepting i (omega arith);
+        counts = λ i l. e .counts i (omega arith);
         from = e .from;
         by = e .by;
         to = e .to;
@@ -146,20 +197,20 @@ module _ {t : Tables} {a n : ℕ} (e : EmptyPast t a n) where
         tag = e .tag;
         states = e .states;
         accepting = e .accepting;
-        counts = set-empty (t .counts) b (getD (t .counts) b 0 % 1024 + 1) a (omega arith) l (e .counts);
+        counts = set-empty (t .counts) b (getD (t .counts) b 0 % mostSteps + 1) a (omega arith) l (e .counts);
         from = set-empty (t .from) m p (m + 1) (omega arith) (omega arith) (e .from);
         by = set-empty (t .by) m j (m + 1) (omega arith) (omega arith) (e .by);
         to = set-empty (t .to) m q (m + 1) (omega arith) (omega arith) (e .to);
       }
 
-module _ (t : Tables) (k : Sized t) where
+module _ (t : SchemaTables) (k : Sized t) where
   pub type-sized : (a g n : ℕ) → Sized (withType t a g n)
   type-sized a g n =
       record {
         tag = rw length-set (k .tag);
         states = rw length-set (k .states);
-        accepting = rw length-set (k .accepting);
-        counts = rw length-set (k .counts);
+        accepting = k .accepting;
+        counts = k .counts;
         from = k .from;
         by = k .by;
         to = k .to;
@@ -193,15 +244,15 @@ module _ (t : Tables) (k : Sized t) where
       }
 
   -- one type more
-  pub type-blocks : (bs : List Draft) (a g n : ℕ) → a ≡ length bs → a < 64 → BlocksHold t bs
-      → BlocksHold (withType t a g n) (record { tag = g; states = n; accepting = 0; steps = [] } ∷ bs)
-  type-blocks bs a g n e l h =
+  pub type-blocks : {m : ℕ} (bs : List Draft) (a g n i : ℕ) → a ≡ length bs → a < mostTypes → EmptyPast t a m → BlocksHold t bs
+      → BlocksHold (withType t a g n) (record { place = i; tag = g; states = n; accepting = noStates; steps = [] } ∷ bs)
+  type-blocks bs a g n i e l z h =
       rw (← e) (
         record {
           tag = getD-set-same (t .tag) a g 0 (omega (arith, k .tag));
           states = getD-set-same (t .states) a n 0 (omega (arith, k .states));
-          accepting = getD-set-same (t .accepting) a 0 0 (omega (arith, k .accepting));
-          count = getD-set-same (t .counts) a 0 0 (omega (arith, k .counts));
+          accepting = z .accepting a (omega arith);
+          count = z .counts a (omega arith);
           steps = tt;
         },
         blocks-below w bs (omega arith) (omega arith) h,
@@ -212,14 +263,14 @@ module _ (t : Tables) (k : Sized t) where
           record {
             tag = set-below (t .tag) a g;
             states = set-below (t .states) a n;
-            accepting = set-below (t .accepting) a 0;
-            counts = set-below (t .counts) a 0;
+            accepting = λ b l. refl;
+            counts = λ b l. refl;
             step = λ i l. refl;
             place = λ i l. refl;
           }
 
   -- one accepting state more
-  pub final-blocks : (bs : List Draft) (a q : ℕ) → suc a ≡ length bs → a < 64 → BlocksHold t bs
+  pub final-blocks : (bs : List Draft) (a q : ℕ) → suc a ≡ length bs → a < mostTypes → BlocksHold t bs
       → BlocksHold (withAccepting t a q) (withFinal q bs)
   final-blocks [] a q e l h = absurd (omega arith)
   final-blocks (d ∷ ds) a q e l h =
@@ -255,14 +306,14 @@ module _ (t : Tables) (k : Sized t) where
         tag = λ b l. refl;
         states = λ b l. refl;
         accepting = λ b l. refl;
-        counts = set-below (t .counts) a (getD (t .counts) a 0 % 1024 + 1);
+        counts = set-below (t .counts) a (getD (t .counts) a 0 % mostSteps + 1);
         step = λ b l. rw (set-below (t .from) n p b l, set-below (t .by) n j b l, set-below (t .to) n q b l);
         place = set-below (t .places) n i;
       }
 
   -- the new step stands at its place
-  step-stands : (n p j q : ℕ) → n < 1024
-      → _≡_ {A = Step} (stepAt (set (t .from) n p) (set (t .by) n j) (set (t .to) n q) n) (record { from = p; by = j; to = q })
+  step-stands : (n p j q : ℕ) → n < mostSteps
+      → _≡_ {A = Step} (stepAt (set (t .from) n p) (set (t .by) n j) (set (t .to) n q) n) (step p j q)
   step-stands n p j q l =
       rw (
         getD-set-same (t .from) n p 0 (omega (arith, k .from)),
@@ -271,20 +322,20 @@ module _ (t : Tables) (k : Sized t) where
       )
 
   -- one step more
-  pub step-blocks : (bs : List Draft) (a n p j q i : ℕ) → suc a ≡ length bs → a < 64 → n ≡ stepCount bs → n < 1024 → BlocksHold t bs
-      → BlocksHold (withOneStep t a n p j q i) (withStep (record { step = record { from = p; by = j; to = q }; place = i }) bs)
+  pub step-blocks : (bs : List Draft) (a n p j q i : ℕ) → suc a ≡ length bs → a < mostTypes → n ≡ stepCount bs → n < mostSteps → BlocksHold t bs
+      → BlocksHold (withOneStep t a n p j q i) (withStep (record { step = step p j q; place = i }) bs)
   step-blocks [] a n p j q i e l f m h = absurd (omega arith)
   step-blocks (d ∷ ds) a n p j q i e l f m h =
       let c : length ds ≡ a = omega arith in
       let x : DraftHolds t d a (stepCount ds) = rw c at (h .0) in
       let b : Below t (withOneStep t a n p j q i) a n = step-below a n p j q i in
-      let y : getD (t .counts) a 0 % 1024 + 1 ≡ suc (length (d .steps)) = omega (arith, x .count) in (
+      let y : getD (t .counts) a 0 % mostSteps + 1 ≡ suc (length (d .steps)) = omega (arith, x .count) in (
         rw c
             (record {
               tag = x .tag;
               states = x .states;
               accepting = x .accepting;
-              count = getD-set-same (t .counts) a (getD (t .counts) a 0 % 1024 + 1) 0 (omega (arith, k .counts)) ∙ y;
+              count = getD-set-same (t .counts) a (getD (t .counts) a 0 % mostSteps + 1) 0 (omega (arith, k .counts)) ∙ y;
               steps =
                   rw (← f) (
                     step-stands n p j q m,

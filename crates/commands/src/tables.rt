@@ -1,20 +1,31 @@
 // The tables that the commands fill.
-use crate::command::Command;
+use crate::progress::Progress;
+use crate::progress::TYPE_NUMBERS;
+use command::Command;
 use schema::STEPS;
 use schema::StateSet;
 use schema::TYPES;
-use sdtd::Tag;
 use sdtd::TypeNo;
 ghost use mathlib.Core.Path.{_≡_};
-ghost use Prim.Native.Nat.{_+_, _%_, _≤_, _<_};
-ghost use lib.ListN.{getD, set};
-ghost use Rattle.sdtd.specs.Limits.{mostTypes, mostSteps};
-ghost use Rattle.schema.specs.States.{insert, noStates};
+ghost use Prim.Native.Nat.{_+_, _≤_};
+ghost use Rattle.sdtd.specs.Limits.{mostSteps};
 ghost use Rattle.commands.specs.File.{sameStep};
-ghost use Rattle.commands.specs.Tables.{givenIn, givenLast, givenAlready};
+ghost use Rattle.commands.specs.Progress.{lastType, givenIn, givenLast, givenAlready};
+ghost use Rattle.commands.specs.Progress.{tagAfter, statesAfter, acceptingAfter, countsAfter};
+ghost use Rattle.commands.specs.Progress.{fromAfter, byAfter, toAfter, placesAfter};
 
 // the most steps, as a type's count of them
 const MOST_COUNT: u16 = STEPS as u16;
+
+// The largest type number. Added modulo the number of types it takes one away.
+const LAST_TYPE: u8 = TYPE_NUMBERS - 1;
+
+// The place of the block that the file is in.
+pub(crate) fn last_type(types: u8) -> usize
+    ensures { λ r. ⌜ r ≡ lastType types ⌝ }
+{
+    ((types % TYPE_NUMBERS + LAST_TYPE) % TYPE_NUMBERS) as usize
+}
 
 // Is the step f, b, t the step p, j, q? All three parts are compared, with no branch.
 fn same_step(f: u8, b: TypeNo, t: u8, p: u8, j: TypeNo, q: u8) -> bool
@@ -59,7 +70,7 @@ fn has_last<'a>(
     j: TypeNo,
     q: u8,
 ) -> bool
-    ensures { λ r. ⌜ r ≡ givenLast (now (from .entry)) (now (by .entry)) (now (to .entry)) p (j .0) q count n ⌝ }
+    ensures { λ r. ⌜ r ≡ givenLast (now (from .entry)) (now (by .entry)) (now (to .entry)) count n p (j .0) q ⌝ }
 {
     if count < n {
         return false;
@@ -79,7 +90,7 @@ pub(crate) fn given_already<'a>(
     n: u16,
     command: Command,
 ) -> bool
-    ensures { λ r. ⌜ r ≡ givenAlready count (now (from .entry)) (now (by .entry)) (now (to .entry)) n command ⌝ }
+    ensures { λ r. ⌜ r ≡ givenAlready (now (from .entry)) (now (by .entry)) (now (to .entry)) count n command ⌝ }
 {
     match command {
         Command::Step(p, j, q) => has_last(from, by, to, count, n as usize, p, j, q),
@@ -87,64 +98,81 @@ pub(crate) fn given_already<'a>(
     }
 }
 
-// One type more, the type a.
+// A TYPE's tag and state count, at the next type.
 pub(crate) fn add_type<'a>(
+    command: Command,
+    types: u8,
     tag: &'a mut [u8; TYPES],
     states: &'a mut [u8; TYPES],
-    accepting: &'a mut [u32; TYPES],
-    counts: &'a mut [u16; TYPES],
-    a: TypeNo,
-    g: Tag,
-    k: u8,
 )
-    requires { ⌜ a .0 < mostTypes ⌝ }
-    ensures { λ _. ⌜ (now (tag .exit) ≡ set (now (tag .entry)) (a .0) (g .0))
-        × (now (states .exit) ≡ set (now (states .entry)) (a .0) k)
-        × (now (accepting .exit) ≡ set (now (accepting .entry)) (a .0) noStates)
-        × (now (counts .exit) ≡ set (now (counts .entry)) (a .0) 0) ⌝ }
+    ensures { λ _. ⌜ (now (tag .exit) ≡ tagAfter types (now (tag .entry)) command)
+        × (now (states .exit) ≡ statesAfter types (now (states .entry)) command) ⌝ }
 {
-    let i = a.0 as usize;
-    tag[i] = g.0;
-    states[i] = k;
-    accepting[i] = StateSet::NONE.0;
-    counts[i] = 0;
+    let next = (types % TYPE_NUMBERS) as usize;
+    match command {
+        Command::TypeBlock(g, k) => {
+            tag[next] = g.0;
+            states[next] = k;
+        }
+        _ => {}
+    }
 }
 
-// One accepting state more, of the type a.
-pub(crate) fn add_final(accepting: &mut [u32; TYPES], a: TypeNo, q: u8)
-    requires { ⌜ a .0 < mostTypes ⌝ }
-    ensures { λ _. ⌜ now (accepting .exit) ≡ set (now (accepting .entry)) (a .0) (insert q (getD (now (accepting .entry)) (a .0) 0)) ⌝ }
+// A FINAL's state, of the last type.
+pub(crate) fn add_final(command: Command, types: u8, accepting: &mut [u32; TYPES])
+    ensures { λ _. ⌜ now (accepting .exit) ≡ acceptingAfter types (now (accepting .entry)) command ⌝ }
 {
-    let i = a.0 as usize;
-    let grown = StateSet(accepting[i]).with(q);
-    accepting[i] = grown.0;
+    let last = last_type(types);
+    match command {
+        Command::Final(q) => {
+            let grown = StateSet(accepting[last]).with(q);
+            accepting[last] = grown.0;
+        }
+        _ => {}
+    }
 }
 
-// One step more, of the type a, at the place n of the tables.
+// A STEP's parts, at the next step.
 pub(crate) fn add_step<'a>(
-    counts: &'a mut [u16; TYPES],
+    command: Command,
+    steps: usize,
     from: &'a mut [u8; STEPS],
     by: &'a mut [u8; STEPS],
     to: &'a mut [u8; STEPS],
-    places: &'a mut [usize; STEPS],
-    a: TypeNo,
-    n: usize,
-    p: u8,
-    j: TypeNo,
-    q: u8,
-    at: usize,
 )
-    requires { ⌜ (a .0 < mostTypes) × (n < mostSteps) ⌝ }
-    ensures { λ _. ⌜ (now (counts .exit) ≡ set (now (counts .entry)) (a .0) (getD (now (counts .entry)) (a .0) 0 % mostSteps + 1))
-        × (now (from .exit) ≡ set (now (from .entry)) n p)
-        × (now (by .exit) ≡ set (now (by .entry)) n (j .0))
-        × (now (to .exit) ≡ set (now (to .entry)) n q)
-        × (now (places .exit) ≡ set (now (places .entry)) n at) ⌝ }
+    ensures { λ _. ⌜ (now (from .exit) ≡ fromAfter steps (now (from .entry)) command)
+        × (now (by .exit) ≡ byAfter steps (now (by .entry)) command)
+        × (now (to .exit) ≡ toAfter steps (now (to .entry)) command) ⌝ }
 {
-    let i = a.0 as usize;
-    counts[i] = counts[i] % MOST_COUNT + 1;
-    from[n] = p;
-    by[n] = j.0;
-    to[n] = q;
-    places[n] = at;
+    let next = steps % STEPS;
+    match command {
+        Command::Step(p, j, q) => {
+            from[next] = p;
+            by[next] = j.0;
+            to[next] = q;
+        }
+        _ => {}
+    }
+}
+
+// A STEP's place, and one step more of the last type.
+pub(crate) fn add_place<'a>(
+    command: Command,
+    progress: Progress,
+    at: usize,
+    counts: &'a mut [u16; TYPES],
+    places: &'a mut [usize; STEPS],
+)
+    ensures { λ _. ⌜ (now (counts .exit) ≡ countsAfter (progress .types) (now (counts .entry)) command)
+        × (now (places .exit) ≡ placesAfter (progress .steps) at (now (places .entry)) command) ⌝ }
+{
+    let last = last_type(progress.types);
+    let next = progress.steps % STEPS;
+    match command {
+        Command::Step(_, _, _) => {
+            counts[last] = counts[last] % MOST_COUNT + 1;
+            places[next] = at;
+        }
+        _ => {}
+    }
 }

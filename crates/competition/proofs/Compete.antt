@@ -1,34 +1,37 @@
 -- What the search of one type means for the schema.
-use mathlib.Core.Path.{_≡_, refl, sym, _∙_}
+use mathlib.Core.Path.{_≡_, sym, _∙_}
 use mathlib.Core.Logic.{_↔_, _≢_}
 use mathlib.Core.Bool.{Bool, false}
-use mathlib.Core.List.{List, [], _∷_, _++_, List·Memᴰ, List·Memᴰ·head, List·Memᴰ·tail, List·Memᴰ·not-nil}
-use Prim.Native.Nat.{ℕ, zero, suc, _+_, _*_, _≤_, _<_}
-use native.Mathlib.Nat.{le-of-suc-le-suc}
+use mathlib.Core.List.{List, [], _∷_, _++_, List·Memᴰ, List·Memᴰ·not-nil}
+use Prim.Native.Nat.{ℕ, zero, suc, _+_, _≤_, _<_}
 use native.Mathlib.Omega.{arith}
-use lib.Dec.{T, eqb·suc-zero}
-use lib.ListN.{length, getD, replicate, length-append, List·getD-eq-default}
-use Rattle.sdtd.specs.Limits.{mostWord}
-use Rattle.sdtd.specs.Schema.{Block, Schema, noBlock, blockOf, tagOf, Leads, stay, go, StepWithin, WithinLimits}
+use lib.Dec.{T}
+use lib.ListN.{length, getD, length-append, List·getD-eq-default}
+use Rattle.sdtd.specs.Limits.{mostTypes, mostStates, mostWord}
+use Rattle.sdtd.specs.Schema.{Schema, noBlock, blockOf, tagOf, Leads, stay, go, StepWithin, WithinLimits}
 use Rattle.sdtd.specs.Trim.{Bears, none, both, AllBear, Live, Useful}
 use Rattle.sdtd.specs.Competition.{Compete, CompeteIn, pairNumber}
 use Rattle.sdtd.proofs.Automata.{all-append, leads-append}
 use Rattle.sdtd.proofs.Fixpoint.{bears-live, PairClosed}
 use Rattle.sdtd.proofs.Rivals.{RivalSteps, rivals-compete, no-rivals}
-use Rattle.schema.specs.States.{member}
+use Rattle.schema.specs.States.{member, bearsIn}
 use Rattle.schema.specs.Limits.{StepsWithin}
-use Rattle.competition.specs.Marks.{firstOf, secondOf, byOf, parentOf, nextSteps, wordTo}
+use Rattle.competition.specs.Tables.{nextFrom, nextBy}
+use Rattle.competition.specs.Marks.{firstOf, secondOf, byOf, parentOf, wordTo}
 use Rattle.competition.specs.Rivals.{Ahead, AreRivals}
 use Rattle.competition.specs.Queue.{Leading, Trail, ClosedPairs, TrailToRivals}
+use Rattle.schema.proofs.LimitLaws.{own-within}
 use Rattle.competition.proofs.NextStates.{next-states}
+use Rattle.competition.proofs.Words.{word-first, word-more}
 
--- The tables that the search of the type a has: a's next states, the live states of each type and of a, the number of types, their tags.
+-- The tables that the search of the type a has: a's next states, which types bear trees, the types' tags, a's live states, and the number
+-- of types.
 pub record Prepared (S : Schema) (a : ℕ) (next bears tag : List ℕ) (own types : ℕ) : Type 0 where
   pub within : WithinLimits S
-  pub inside : a < length (S .blocks)
-  pub next-is : next ≡ nextSteps (blockOf S a .steps) (replicate 2048 0)
-  pub live : (c q : ℕ) → T (member q (getD bears c 0)) ↔ Live S c q
-  pub own-is : own ≡ getD bears a 0
+  pub is-type : a < length (S .blocks)
+  pub next-is : next ≡ nextBy (blockOf S a .steps)
+  pub bears-is : (j : ℕ) → T (bearsIn bears j) ↔ Bears S j
+  pub own-is : (q : ℕ) → T (member q own) ↔ Live S a q
   pub types-is : types ≡ length (S .blocks)
   pub tags : (c : ℕ) → c < types → getD tag c 0 ≡ tagOf S c
 
@@ -45,56 +48,25 @@ pub record CompeteEither (S : Schema) (a : ℕ) (w : List ℕ) (j k : ℕ) : Typ
   pub falling : k < j → Compete S a w k j
   pub short : length w ≤ mostWord
 
-in-list : (bs : List Block) (i : ℕ) → i < length bs → List·Memᴰ (getD bs i noBlock) bs
-in-list [] i l = absurd (omega arith)
-in-list (b ∷ bs) zero l = List·Memᴰ·head refl
-in-list (b ∷ bs) (suc i) l = List·Memᴰ·tail (in-list bs i (le-of-suc-le-suc l))
-
--- the steps of a type inside the limits
-steps-within : (S : Schema) (a : ℕ) → WithinLimits S → a < length (S .blocks) → StepsWithin 32 (length (S .blocks)) (blockOf S a .steps)
-steps-within S a within inside s m =
-    let block = within .blocks (blockOf S a) (in-list (S .blocks) a inside) in
-    let h = block .steps s m in
-    let most : blockOf S a .states ≤ 32 = block .states-most in
-    record { from = omega (arith, h .from); by = h .by; to = omega (arith, h .to) }
-
--- a pair of states below 32 whose number is in the set
+-- a pair of states whose number is in the set
 abbrev PairIn : List Bool → ℕ → ℕ → Type 0
-PairIn reached p q = T (getD reached (pairNumber p q) false) × (p < 32) × (q < 32)
-
--- the word to the first entry, and to a later one
-word-first : (fuel : ℕ) (queue : List ℕ) → wordTo fuel queue 0 ≡ []
-unfolding wordTo
-word-first zero queue = refl
-word-first (suc fuel) queue = refl
-
-word-later :
-    (fuel : ℕ) (queue : List ℕ) (i : ℕ)
-    → wordTo (suc fuel) queue (suc i) ≡ wordTo fuel queue (parentOf (getD queue (suc i) 0)) ++ (byOf (getD queue (suc i) 0) ∷ [])
-unfolding wordTo
-word-later fuel queue i = rw (eqb·suc-zero i)
+PairIn reached p q = T (getD reached (pairNumber p q) false) × (p < mostStates) × (q < mostStates)
 
 module _ {S : Schema} {a : ℕ} {next bears tag : List ℕ} {own types : ℕ} (c : Prepared S a next bears tag own types) where
   -- the type's own steps, and what the tables say of them
   abbrev Own : ℕ → ℕ → ℕ → Type 0
   Own p j q = List·Memᴰ (record { from = p; by = j; to = q }) (blockOf S a .steps)
 
-  own-within : (p j q : ℕ) → Own p j q → StepWithin 32 types (record { from = p; by = j; to = q })
-  own-within p j q m = rw (c .types-is) (steps-within S a (c .within) (c .inside) (record { from = p; by = j; to = q }) m)
+  own-step : (p j q : ℕ) → Own p j q → StepWithin mostStates types (record { from = p; by = j; to = q })
+  own-step p j q m = rw (c .types-is) (own-within S a (c .within) (c .is-type) (record { from = p; by = j; to = q }) m)
 
-  next-own : (p j q : ℕ) → p < 32 → j < types → T (member q (getD next (p * 64 + j) 0)) ↔ Own p j q
+  next-own : (p j q : ℕ) → p < mostStates → j < types → T (member q (nextFrom next p j)) ↔ Own p j q
   next-own p j q lp lj =
       let most = c .within .types-most in
-      let h = steps-within S a (c .within) (c .inside) in
-      let all : StepsWithin 32 64 (blockOf S a .steps) =
+      let h = own-within S a (c .within) (c .is-type) in
+      let all : StepsWithin mostStates mostTypes (blockOf S a .steps) =
       λ s m. record { from = h s m .from; by = omega (arith, h s m .by, most); to = h s m .to } in
       rw (c .next-is) (next-states (blockOf S a .steps) all p j q lp (omega (arith, c .types-is, most)))
-
-  bears-own : (j : ℕ) → T (member 0 (getD bears j 0)) ↔ Bears S j
-  bears-own j = (λ m. bears-live .1 (c .live j 0 .0 m), λ b. c .live j 0 .1 (bears-live .0 b))
-
-  live-own : (q : ℕ) → T (member q own) ↔ Live S a q
-  live-own q = rw (c .own-is) (c .live a q)
 
   -- a way by one word goes on with two steps by one type
   word-on : {p q j p′ q′ : ℕ} {w : List ℕ} → WordTo S a w p q → Own p j p′ → Own q j q′ → Bears S j → WordTo S a (w ++ (j ∷ [])) p′ q′
@@ -117,21 +89,21 @@ module _ {S : Schema} {a : ℕ} {next bears tag : List ℕ} {own types : ℕ} (c
     way-later i w l h r =
         let e = getD queue i 0 in
         let from = getD queue (parentOf e) 0 in
-        let f = t .found i l h in (
+        let f = t .led i l h in (
           word-on (r .0) (next-own (firstOf from) (byOf e) (firstOf e) (omega arith) (f .below) .0 (f .left))
-              (next-own (secondOf from) (byOf e) (secondOf e) (omega arith) (f .below) .0 (f .right)) (bears-own (byOf e) .0 (f .bearing)),
+              (next-own (secondOf from) (byOf e) (secondOf e) (omega arith) (f .below) .0 (f .right)) (c .bears-is (byOf e) .0 (f .bearing)),
           simp length-append (omega (arith, t .linked i l h, r .1)),
         )
 
     way : (fuel i : ℕ) → i ≤ fuel → i ≤ at → Way i (wordTo fuel queue i)
-    way zero zero l h = rw (word-first 0 queue) way-first
+    way zero zero l h = rw (word-first queue 0) way-first
     way zero (suc i) l h = absurd (omega arith)
-    way (suc fuel) zero l h = rw (word-first (suc fuel) queue) way-first
+    way (suc fuel) zero l h = rw (word-first queue (suc fuel)) way-first
     way (suc fuel) (suc i) l h =
         let e = getD queue (suc i) 0 in
         let earlier : parentOf e < suc i = t .linked (suc i) (omega arith) h in
         let r = way fuel (parentOf e) (omega arith) (omega arith) in
-        rw (word-later fuel queue i) (way-later (suc i) (wordTo fuel queue (parentOf e)) (omega arith) h r)
+        rw (word-more queue fuel i) (way-later (suc i) (wordTo fuel queue (parentOf e)) (omega arith) h r)
 
     -- the word to the last entry leads to both its states
     pub trail-word : WordTo S a (wordTo at queue at) (firstOf (getD queue at 0)) (secondOf (getD queue at 0))
@@ -141,7 +113,7 @@ module _ {S : Schema} {a : ℕ} {next bears tag : List ℕ} {own types : ℕ} (c
     trail-short = way at at (omega arith) (omega arith) .1
 
   -- two types of one tag ahead of two states have rival steps
-  ahead-rivals : {p q j k : ℕ} → p < 32 → q < 32 → j < types → k < types → getD tag j 0 ≡ getD tag k 0
+  ahead-rivals : {p q j k : ℕ} → p < mostStates → q < mostStates → j < types → k < types → getD tag j 0 ≡ getD tag k 0
       → Ahead next bears own p j → Ahead next bears own q k → RivalSteps S a p q j k
   ahead-rivals {p} {q} {j} {k} lp lq lj lk e x y =
       record {
@@ -150,15 +122,15 @@ module _ {S : Schema} {a : ℕ} {next bears tag : List ℕ} {own types : ℕ} (c
         step-j = next-own p j (x .to) lp lj .0 (x .leads);
         step-k = next-own q k (y .to) lq lk .0 (y .leads);
         one-tag = sym (c .tags j lj) ∙ e ∙ c .tags k lk;
-        bears-j = bears-own j .0 (x .bearing);
-        bears-k = bears-own k .0 (y .bearing);
-        live-j = live-own (x .to) .0 (x .live);
-        live-k = live-own (y .to) .0 (y .live);
+        bears-j = c .bears-is j .0 (x .bearing);
+        bears-k = c .bears-is k .0 (y .bearing);
+        live-j = c .own-is (x .to) .0 (x .live);
+        live-k = c .own-is (y .to) .0 (y .live);
       }
 
   -- rivals are rival steps by different types
   pub rivals-steps :
-      {p q j k : ℕ} → p < 32 → q < 32 → AreRivals next bears tag own types p q j k ↔ (RivalSteps S a p q j k × (j ≢ k))
+      {p q j k : ℕ} → p < mostStates → q < mostStates → AreRivals next bears tag own types p q j k ↔ (RivalSteps S a p q j k × (j ≢ k))
   rivals-steps {p} {q} {j} {k} lp lq = (there, back)
     where
       there : AreRivals next bears tag own types p q j k → RivalSteps S a p q j k × (j ≢ k)
@@ -167,16 +139,16 @@ module _ {S : Schema} {a : ℕ} {next bears tag : List ℕ} {own types : ℕ} (c
         λ e. r .rival .different (sym e),
       )
 
-      ahead : {s i n : ℕ} → s < 32 → Own s i n → Bears S i → Live S a n → Ahead next bears own s i
+      ahead : {s i n : ℕ} → s < mostStates → Own s i n → Bears S i → Live S a n → Ahead next bears own s i
       ahead {s} {i} {n} ls m b l =
-          let below = own-within s i n m .by in
-          record { bearing = bears-own i .1 b; to = n; leads = next-own s i n ls below .1 m; live = live-own n .1 l }
+          let below = own-step s i n m .by in
+          record { bearing = c .bears-is i .1 b; to = n; leads = next-own s i n ls below .1 m; live = c .own-is n .1 l }
 
       back : RivalSteps S a p q j k × (j ≢ k) → AreRivals next bears tag own types p q j k
       back h =
           let r = h .0 in
-          let lj : j < types = own-within p j (r .next-j) (r .step-j) .by in
-          let lk : k < types = own-within q k (r .next-k) (r .step-k) .by in
+          let lj : j < types = own-step p j (r .next-j) (r .step-j) .by in
+          let lk : k < types = own-step q k (r .next-k) (r .step-k) .by in
           record {
             below = lj;
             ahead = ahead lp (r .step-j) (r .bears-j) (r .live-j);
@@ -194,8 +166,8 @@ module _ {S : Schema} {a : ℕ} {next bears tag : List ℕ} {own types : ℕ} (c
       {queue : List ℕ} {at j k : ℕ} → Useful S a → TrailToRivals next bears tag own types queue at j k
       → CompeteEither S a (wordTo at queue at) j k
   trail-competes {queue} {at} {j} {k} u r =
-      let lp : firstOf (getD queue at 0) < 32 = omega arith in
-      let lq : secondOf (getD queue at 0) < 32 = omega arith in
+      let lp : firstOf (getD queue at 0) < mostStates = omega arith in
+      let lq : secondOf (getD queue at 0) < mostStates = omega arith in
       let w = trail-word (r .trail) in
       let x = r .rivals in
       record {
@@ -204,7 +176,7 @@ module _ {S : Schema} {a : ℕ} {next bears tag : List ℕ} {own types : ℕ} (c
         falling =
             rivals-compete (u .0) (u .1) (w .right) (w .left) (w .bear)
             (ahead-rivals lq lp (x .rival .below) (x .below) (x .rival .one-tag) (x .rival .ahead) (x .ahead));
-        short = omega (arith, trail-short (r .trail), r .trail .inside);
+        short = omega (arith, trail-short (r .trail), r .trail .place-below);
       }
 
   -- where a closed set of pairs has no rivals, no types compete
@@ -213,12 +185,12 @@ module _ {S : Schema} {a : ℕ} {next bears tag : List ℕ} {own types : ℕ} (c
     where
       closed-step : {p q j p′ q′ : ℕ} → PairIn reached p q → Own p j p′ → Own q j q′ → Bears S j → PairIn reached p′ q′
       closed-step {p} {q} {j} {p′} {q′} h m n b =
-          let x = own-within p j p′ m in
-          let y = own-within q j q′ n in
+          let x = own-step p j p′ m in
+          let y = own-step q j q′ n in
           let leading : Leading next bears types p q j p′ q′ =
           record {
             below = x .by;
-            bearing = bears-own j .1 b;
+            bearing = c .bears-is j .1 b;
             left = next-own p j p′ (h .1) (x .by) .1 m;
             right = next-own q j q′ (h .2) (x .by) .1 n;
           } in

@@ -9,10 +9,11 @@ use native.Mathlib.Omega.{arith}
 use lib.Dec.{T}
 use lib.ListN.{length, getD, set, length-set}
 use lib.Seq.{getD-set-same, getD-set-other}
+use Rattle.sdtd.specs.Limits.{mostPairs}
 use Rattle.sdtd.specs.Competition.{pairNumber}
 use Rattle.sdtd.proofs.Rounds.{count, count-le, count-set}
 use Rattle.competition.specs.Marks.{Marks, firstOf, secondOf, parentOf}
-use Rattle.competition.specs.Queue.{FoundFrom}
+use Rattle.competition.specs.Queue.{LedTo}
 
 -- the pair with the number n is marked
 abbrev pub IsMarked : Marks → ℕ → Type 0
@@ -22,28 +23,28 @@ IsMarked m n = T (getD (m .reached) n false)
 abbrev pub entryAt : Marks → ℕ → ℕ
 entryAt m i = getD (m .queue) i 0
 
-abbrev pub numberOf : ℕ → ℕ
-numberOf e = pairNumber (firstOf e) (secondOf e)
+abbrev pub entryNumber : ℕ → ℕ
+entryNumber e = pairNumber (firstOf e) (secondOf e)
 
 -- an entry of the queue has the pair number n
 pub record Placed (m : Marks) (n : ℕ) : Type 0 where
   pub place : ℕ
-  pub inside : place < m .count
-  pub is : numberOf (entryAt m place) ≡ n
+  pub place-below : place < m .count
+  pub is : entryNumber (entryAt m place) ≡ n
 
 -- The marked numbers are those of the entries, each number once; the first entry is the pair 0, 0, and each other was found from an
 -- earlier one.
 pub record Kept (next bears : List ℕ) (types : ℕ) (m : Marks) : Type 0 where
-  pub reached-length : length (m .reached) ≡ 528
-  pub queue-length : length (m .queue) ≡ 528
+  pub reached-length : length (m .reached) ≡ mostPairs
+  pub queue-length : length (m .queue) ≡ mostPairs
   pub counted : count (m .reached) ≡ m .count
   pub some : 0 < m .count
-  pub most : m .count ≤ 528
+  pub most : m .count ≤ mostPairs
   pub first : entryAt m 0 ≡ 0
-  pub marked : (i : ℕ) → i < m .count → IsMarked m (numberOf (entryAt m i))
+  pub marked : (i : ℕ) → i < m .count → IsMarked m (entryNumber (entryAt m i))
   pub placed : (n : ℕ) → IsMarked m n → Placed m n
   pub linked : (i : ℕ) → 0 < i → i < m .count → parentOf (entryAt m i) < i
-  pub found : (i : ℕ) → 0 < i → i < m .count → FoundFrom next bears types (m .queue) (entryAt m i)
+  pub led : (i : ℕ) → 0 < i → i < m .count → LedTo next bears types (m .queue) (entryAt m i)
 
 -- a mark set leaves the others as they were
 pub set-marks : (l : List Bool) (n k : ℕ) → T (getD l k false) → T (getD (set l n true) k false)
@@ -64,9 +65,9 @@ set-marked (b ∷ l) (suc n) (suc k) t = ⊎-elim (λ e. inl (omega arith)) (λ 
 abbrev pub joined : Marks → ℕ → ℕ → Marks
 joined m n e = record { reached = set (m .reached) n true; queue = set (m .queue) (m .count) e; count = m .count + 1 }
 
-module _ {next bears : List ℕ} {types : ℕ} {m : Marks} (kept : Kept next bears types m) (n e : ℕ) (is : numberOf e ≡ n) (inside : n < 528)
-    (new : getD (m .reached) n false ≡ false) where
-  pub room : m .count < 528
+module _ {next bears : List ℕ} {types : ℕ} {m : Marks} (kept : Kept next bears types m) (n e : ℕ) (is : entryNumber e ≡ n)
+    (below : n < mostPairs) (new : getD (m .reached) n false ≡ false) where
+  pub room : m .count < mostPairs
   room =
       omega (
         arith,
@@ -100,21 +101,21 @@ module _ {next bears : List ℕ} {types : ℕ} {m : Marks} (kept : Kept next bea
   join-placed : (k : ℕ) → IsMarked (joined m n e) k → Placed (joined m n e) k
   join-placed k t =
       ⊎-elim
-      (λ same. record { place = m .count; inside = omega arith; is = rw new-entry (rw same is) })
+      (λ same. record { place = m .count; place-below = omega arith; is = rw new-entry (rw same is) })
       (λ u. let r = kept .placed k u in
-      record { place = r .place; inside = omega (arith, r .inside); is = rw (old-entry (r .place) (r .inside)) (r .is) })
+      record { place = r .place; place-below = omega (arith, r .place-below); is = rw (old-entry (r .place) (r .place-below)) (r .is) })
       (set-marked (m .reached) n k t)
 
-  module _ (parent : parentOf e < m .count) (led : FoundFrom next bears types (m .queue) e) where
-    join-found : (i : ℕ) → i < m .count + 1 → 0 < i → FoundFrom next bears types (joined m n e .queue) (entryAt (joined m n e) i)
-    join-found =
+  module _ (parent : parentOf e < m .count) (new-led : LedTo next bears types (m .queue) e) where
+    join-led : (i : ℕ) → i < m .count + 1 → 0 < i → LedTo next bears types (joined m n e .queue) (entryAt (joined m n e) i)
+    join-led =
         each
-        (λ i x. 0 < i → FoundFrom next bears types (joined m n e .queue) x)
-        (λ i h p. still (entryAt m i) (omega (arith, kept .linked i p h)) (kept .found i p h))
-        (λ p. still e parent led)
+        (λ i x. 0 < i → LedTo next bears types (joined m n e .queue) x)
+        (λ i h p. still (entryAt m i) (omega (arith, kept .linked i p h)) (kept .led i p h))
+        (λ p. still e parent new-led)
       where
-        still : (x : ℕ) → parentOf x < m .count → FoundFrom next bears types (m .queue) x
-            → FoundFrom next bears types (joined m n e .queue) x
+        still : (x : ℕ) → parentOf x < m .count → LedTo next bears types (m .queue) x
+            → LedTo next bears types (joined m n e .queue) x
         still x h f = rw (old-entry (parentOf x) h) f
 
     pub join-kept : Kept next bears types (joined m n e)
@@ -128,10 +129,10 @@ module _ {next bears : List ℕ} {types : ℕ} {m : Marks} (kept : Kept next bea
           first = rw (old-entry 0 (kept .some)) (kept .first);
           marked =
               each
-              (λ i x. IsMarked (joined m n e) (numberOf x))
-              (λ i h. set-marks (m .reached) n (numberOf (entryAt m i)) (kept .marked i h))
+              (λ i x. IsMarked (joined m n e) (entryNumber x))
+              (λ i h. set-marks (m .reached) n (entryNumber (entryAt m i)) (kept .marked i h))
               (rw is new-mark);
           placed = join-placed;
           linked = λ i p h. each (λ j x. 0 < j → parentOf x < j) (λ j l z. kept .linked j z l) (λ z. parent) i h p;
-          found = λ i p h. join-found i h p;
+          led = λ i p h. join-led i h p;
         }

@@ -6,4 +6,5 @@ pub mod MarkGrowth
 pub mod Queues
 pub mod Words
 pub mod Compete
-pub mod Outcome
+pub mod SearchMeaning
+pub mod Answers

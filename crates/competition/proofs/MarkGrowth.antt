@@ -3,46 +3,48 @@ use mathlib.Core.Path.{_≡_, refl, sym, _∙_, subst}
 use mathlib.Core.Logic.{_⊎_, inl, inr, ⊎-elim}
 use mathlib.Core.Bool.{Bool, true, false, cond}
 use mathlib.Core.List.{List}
-use Prim.Native.Nat.{ℕ, zero, suc, _+_, _*_, _<_, _≤_}
+use Prim.Native.Nat.{ℕ, zero, suc, _+_, _<_, _≤_}
 use native.Mathlib.Decide.{ℕ-discrete}
 use native.Mathlib.Omega.{arith}
 use borrow.Author.Tests.{lt-ltb}
 use lib.Dec.{T, ltb}
 use lib.ListN.{getD}
+use Rattle.sdtd.specs.Limits.{mostTypes, mostStates, mostPairs}
 use Rattle.sdtd.specs.Competition.{pairNumber}
 use Rattle.sdtd.proofs.Pairs.{pair-below-most}
-use Rattle.schema.specs.States.{member}
+use Rattle.schema.specs.States.{member, bearsIn}
+use Rattle.competition.specs.Tables.{nextFrom}
 use Rattle.competition.specs.Marks.{Marks, linkOf, entryOf, firstOf, secondOf, byOf, parentOf}
 use Rattle.competition.specs.Marks.{markOf, markRow, markProduct, markTypes, markStep}
-use Rattle.competition.specs.Queue.{Leading, FoundFrom}
-use Rattle.competition.proofs.Kept.{IsMarked, entryAt, numberOf, Kept, joined, set-marks, room, old-entry, new-mark, join-kept}
+use Rattle.competition.specs.Queue.{Leading, LedTo}
+use Rattle.competition.proofs.Kept.{IsMarked, entryAt, entryNumber, Kept, joined, set-marks, room, old-entry, new-mark, join-kept}
 
 -- what an entry is made of
-entry-first : (p q l : ℕ) → p < 32 → firstOf (entryOf p q l) ≡ p
+entry-first : (p q l : ℕ) → p < mostStates → firstOf (entryOf p q l) ≡ p
 entry-first p q l hp = omega arith
 
-entry-second : (p q l : ℕ) → p < 32 → q < 32 → secondOf (entryOf p q l) ≡ q
+entry-second : (p q l : ℕ) → p < mostStates → q < mostStates → secondOf (entryOf p q l) ≡ q
 entry-second p q l hp hq = omega arith
 
-entry-by : (p q j at : ℕ) → p < 32 → q < 32 → j < 64 → byOf (entryOf p q (linkOf j at)) ≡ j
+entry-by : (p q j at : ℕ) → p < mostStates → q < mostStates → j < mostTypes → byOf (entryOf p q (linkOf j at)) ≡ j
 entry-by p q j at hp hq hj = omega arith
 
-entry-parent : (p q j at : ℕ) → p < 32 → q < 32 → j < 64 → parentOf (entryOf p q (linkOf j at)) ≡ at
+entry-parent : (p q j at : ℕ) → p < mostStates → q < mostStates → j < mostTypes → parentOf (entryOf p q (linkOf j at)) ≡ at
 entry-parent p q j at hp hq hj = omega arith
 
 -- the pair of p with one of the n states from s on that is in the set y
 abbrev InRow : ℕ → ℕ → ℕ → ℕ → ℕ → ℕ → Type 0
 InRow p y s n p′ q = (p′ ≡ p) × (s ≤ q) × (q < s + n) × T (member q y)
 
--- the pair of one of the n states from s on that is in the set x with a state below 32 of the set y
+-- the pair of one of the n states from s on that is in the set x with a state of the set y
 abbrev InProduct : ℕ → ℕ → ℕ → ℕ → ℕ → ℕ → Type 0
-InProduct x y s n p q = (s ≤ p) × (p < s + n) × T (member p x) × (q < 32) × T (member q y)
+InProduct x y s n p q = (s ≤ p) × (p < s + n) × T (member p x) × (q < mostStates) × T (member q y)
 
 -- pairs are found from the entry e, which is at the place `at`
 module _ (next bears : List ℕ) (types at e : ℕ) where
   pub record Ready (m : Marks) : Type 0 where
     pub kept : Kept next bears types m
-    pub inside : at < m .count
+    pub queued : at < m .count
     pub here : entryAt m at ≡ e
 
   -- from m to m′ entries and marks are only added, and the pairs New are marked
@@ -80,34 +82,34 @@ module _ (next bears : List ℕ) (types at e : ℕ) where
 
   -- an entry of such a pair was found from e
   led : (queue : List ℕ) (x j p q : ℕ) → getD queue at 0 ≡ e → parentOf x ≡ at → byOf x ≡ j → firstOf x ≡ p → secondOf x ≡ q
-      → LeadsTo j p q → FoundFrom next bears types queue x
+      → LeadsTo j p q → LedTo next bears types queue x
   led queue x j p q here parent by first second l = rw (parent, here, by, first, second) l
 
-  joins : (m : Marks) (n x : ℕ) → Ready m → numberOf x ≡ n → n < 528 → getD (m .reached) n false ≡ false → parentOf x ≡ at
-      → FoundFrom next bears types (m .queue) x → Grows m (joined m n x) (λ p q. pairNumber p q ≡ n)
-  joins m n x r is inside fresh parent f =
+  joins : (m : Marks) (n x : ℕ) → Ready m → entryNumber x ≡ n → n < mostPairs → getD (m .reached) n false ≡ false → parentOf x ≡ at
+      → LedTo next bears types (m .queue) x → Grows m (joined m n x) (λ p q. pairNumber p q ≡ n)
+  joins m n x r is below fresh parent f =
       record {
         ready =
             record {
-              kept = join-kept (r .kept) n x is inside fresh (omega (arith, r .inside)) f;
-              inside = omega (arith, r .inside);
-              here = old-entry (r .kept) n x is inside fresh at (r .inside) ∙ r .here;
+              kept = join-kept (r .kept) n x is below fresh (omega (arith, r .queued)) f;
+              queued = omega (arith, r .queued);
+              here = old-entry (r .kept) n x is below fresh at (r .queued) ∙ r .here;
             };
         more = omega arith;
         marks = λ k t. set-marks (m .reached) n k t;
-        entries = old-entry (r .kept) n x is inside fresh;
-        new = λ p q s. rw s (new-mark (r .kept) n x is inside fresh);
+        entries = old-entry (r .kept) n x is below fresh;
+        new = λ p q s. rw s (new-mark (r .kept) n x is below fresh);
       }
 
-  mark-cases : (m : Marks) (n x : ℕ) → Ready m → numberOf x ≡ n → n < 528 → parentOf x ≡ at → FoundFrom next bears types (m .queue) x
+  mark-cases : (m : Marks) (n x : ℕ) → Ready m → entryNumber x ≡ n → n < mostPairs → parentOf x ≡ at → LedTo next bears types (m .queue) x
       → (b : Bool) → getD (m .reached) n false ≡ b
-      → Grows m (cond b m (cond (ltb (m .count) 528) (joined m n x) m)) (λ p q. pairNumber p q ≡ n)
-  mark-cases m n x r is inside parent f true old = stays r (λ p q s. rw s (subst T (sym old) tt))
-  mark-cases m n x r is inside parent f false fresh =
-      rw (lt-ltb (m .count) 528 (room (r .kept) n x is inside fresh)) (joins m n x r is inside fresh parent f)
+      → Grows m (cond b m (cond (ltb (m .count) mostPairs) (joined m n x) m)) (λ p q. pairNumber p q ≡ n)
+  mark-cases m n x r is below parent f true old = stays r (λ p q s. rw s (subst T (sym old) tt))
+  mark-cases m n x r is below parent f false fresh =
+      rw (lt-ltb (m .count) mostPairs (room (r .kept) n x is below fresh)) (joins m n x r is below fresh parent f)
 
-  module _ (j : ℕ) (small : j < 64) where
-    mark-grows : (m : Marks) (p q : ℕ) → Ready m → p < 32 → q < 32 → LeadsTo j p q
+  module _ (j : ℕ) (small : j < mostTypes) where
+    mark-grows : (m : Marks) (p q : ℕ) → Ready m → p < mostStates → q < mostStates → LeadsTo j p q
         → Grows m (markOf m p q (linkOf j at)) (λ p′ q′. pairNumber p′ q′ ≡ pairNumber p q)
     unfolding markOf
     mark-grows m p q r hp hq l =
@@ -119,8 +121,8 @@ module _ (next bears : List ℕ) (types at e : ℕ) where
         (led (m .queue) x j p q (r .here) parent (entry-by p q j at hp hq small) first second l)
         (getD (m .reached) (pairNumber p q) false) refl
 
-    row-grows : (p y : ℕ) → p < 32 → ((q : ℕ) → T (member q y) → LeadsTo j p q) → (s n : ℕ) → s + n ≤ 32 → (m : Marks) → Ready m
-        → Grows m (markRow p y (linkOf j at) s n m) (InRow p y s n)
+    row-grows : (p y : ℕ) → p < mostStates → ((q : ℕ) → T (member q y) → LeadsTo j p q) → (s n : ℕ) → s + n ≤ mostStates
+        → (m : Marks) → Ready m → Grows m (markRow p y (linkOf j at) s n m) (InRow p y s n)
     unfolding markRow
     row-grows p y hp lead s zero h m r = stays r (λ p′ q c. absurd (omega (arith, c .1, c .2)))
     row-grows p y hp lead s (suc n) h m r =
@@ -135,46 +137,46 @@ module _ (next bears : List ℕ) (types at e : ℕ) where
               | no other ↦ inr (c .0, omega (arith, c .1), omega (arith, c .2), c .3)
             ]
 
-    product-grows : (x y : ℕ) → ((p q : ℕ) → T (member p x) → T (member q y) → LeadsTo j p q) → (s n : ℕ) → s + n ≤ 32 → (m : Marks)
+    product-grows : (x y : ℕ) → ((p q : ℕ) → T (member p x) → T (member q y) → LeadsTo j p q) → (s n : ℕ) → s + n ≤ mostStates → (m : Marks)
         → Ready m
         → Grows m (markProduct x y (linkOf j at) s n m) (InProduct x y s n)
     unfolding markProduct
     product-grows x y lead s zero h m r = stays r (λ p q c. absurd (omega (arith, c .0, c .1)))
     product-grows x y lead s (suc n) h m r =
-        let one = grows-if (member s x) r (λ t. row-grows s y (omega arith) (λ q. lead s q t) 0 32 (omega arith) m r) in
+        let one = grows-if (member s x) r (λ t. row-grows s y (omega arith) (λ q. lead s q t) 0 mostStates (omega arith) m r) in
         grows-then one (product-grows x y lead (suc s) n (omega arith) _ (one .ready)) split
       where
-        split : (p q : ℕ) → InProduct x y s (suc n) p q → (T (member s x) × InRow s y 0 32 p q) ⊎ InProduct x y (suc s) n p q
+        split : (p q : ℕ) → InProduct x y s (suc n) p q → (T (member s x) × InRow s y 0 mostStates p q) ⊎ InProduct x y (suc s) n p q
         split p q c =
             elim (ℕ-discrete p s) [
               | yes same ↦ inl (rw same at (c .2), (same, omega arith, omega (arith, c .3), c .4))
               | no other ↦ inr (omega (arith, c .0), omega (arith, c .1), c .2, c .3, c .4)
             ]
 
-  -- one of the n types from j on leads from e's pair to the pair p, q of states below 32
+  -- one of the n types from j on leads from e's pair to the pair p, q of states
   pub record LedBy (j n p q : ℕ) : Type 0 where
     pub by : ℕ
     pub least : j ≤ by
     pub most : by < j + n
-    pub first-below : p < 32
-    pub second-below : q < 32
+    pub first-below : p < mostStates
+    pub second-below : q < mostStates
     pub leads : LeadsTo by p q
 
-  types-grows : types ≤ 64 → (j n : ℕ) → j + n ≤ types → (m : Marks) → Ready m
+  types-grows : types ≤ mostTypes → (j n : ℕ) → j + n ≤ types → (m : Marks) → Ready m
       → Grows m (markTypes next bears (firstOf e) (secondOf e) at j n m) (LedBy j n)
   unfolding markTypes
   types-grows few j zero h m r = stays r (λ p q c. absurd (omega (arith, c .least, c .most)))
   types-grows few j (suc n) h m r =
-      let x : ℕ = getD next (firstOf e * 64 + j) 0 in
-      let y : ℕ = getD next (secondOf e * 64 + j) 0 in
+      let x : ℕ = nextFrom next (firstOf e) j in
+      let y : ℕ = nextFrom next (secondOf e) j in
       let one =
-      grows-if (member 0 (getD bears j 0)) r
+      grows-if (bearsIn bears j) r
       (λ t. product-grows j (omega arith) x y (λ p q l k. record { below = omega arith; bearing = t; left = l; right = k })
-      0 32 (omega arith) m r) in
+      0 mostStates (omega arith) m r) in
       grows-then one (types-grows few (suc j) n (omega arith) _ (one .ready)) split
     where
       split : (p q : ℕ) → LedBy j (suc n) p q
-          → (T (member 0 (getD bears j 0)) × InProduct (getD next (firstOf e * 64 + j) 0) (getD next (secondOf e * 64 + j) 0) 0 32 p q)
+          → (T (bearsIn bears j) × InProduct (nextFrom next (firstOf e) j) (nextFrom next (secondOf e) j) 0 mostStates p q)
           ⊎ LedBy (suc j) n p q
       split p q c =
           elim (ℕ-discrete (c .by) j) [
@@ -192,6 +194,6 @@ module _ (next bears : List ℕ) (types at e : ℕ) where
                 })
           ]
 
-  pub step-grows : types ≤ 64 → (m : Marks) → Ready m → Grows m (markStep next bears types at m) (LedBy 0 types)
+  pub step-grows : types ≤ mostTypes → (m : Marks) → Ready m → Grows m (markStep next bears types at m) (LedBy 0 types)
   unfolding markStep
   step-grows few m r = rw (r .here) (types-grows few 0 types (omega arith) m r)

@@ -9,13 +9,14 @@ use native.Mathlib.Omega.{arith}
 use lib.Dec.{T}
 use lib.ListN.{length, getD, set, replicate, length-set, length-replicate}
 use lib.Seq.{getD-set-same}
+use Rattle.sdtd.specs.Limits.{mostTypes, mostStates, mostPairs}
 use Rattle.sdtd.specs.Competition.{pairNumber}
 use Rattle.sdtd.proofs.Pairs.{pair-swap-number, pair-one-number}
 use Rattle.sdtd.proofs.Rounds.{count, count-set}
 use Rattle.competition.specs.Marks.{Marks, firstOf, secondOf, markStep}
 use Rattle.competition.specs.Rivals.{AreRivals}
 use Rattle.competition.specs.Queue.{Leading, ClosedPairs, TrailToRivals}
-use Rattle.competition.proofs.Kept.{IsMarked, entryAt, numberOf, Placed, Kept, set-marked}
+use Rattle.competition.proofs.Kept.{IsMarked, entryAt, entryNumber, Placed, Kept, set-marked}
 use Rattle.competition.proofs.MarkGrowth.{Grows, LedBy, step-grows}
 
 -- only the pair 0, 0, found from nothing
@@ -24,7 +25,7 @@ firstMarks none queue = record { reached = set none 0 true; queue = set queue 0 
 
 -- all that the pair p, q leads to is marked, and it has no rivals
 pub record Done (next bears tag : List ℕ) (own types : ℕ) (m : Marks) (p q : ℕ) : Type 0 where
-  pub closed : (j p′ q′ : ℕ) → p′ < 32 → q′ < 32 → Leading next bears types p q j p′ q′ → IsMarked m (pairNumber p′ q′)
+  pub closed : (j p′ q′ : ℕ) → p′ < mostStates → q′ < mostStates → Leading next bears types p q j p′ q′ → IsMarked m (pairNumber p′ q′)
   pub no-rivals : (j k : ℕ) → ¬ AreRivals next bears tag own types p q j k
 
 -- the pairs of the entries before the place `at` are done
@@ -48,7 +49,7 @@ first-unmarked zero = refl
 first-unmarked (suc n) = refl
 
 -- then the pair 0, 0 is the only one
-module _ (next bears : List ℕ) (types n : ℕ) (full : n ≡ 528) (queue : List ℕ) (sized : length queue ≡ 528) where
+module _ (next bears : List ℕ) (types n : ℕ) (full : n ≡ mostPairs) (queue : List ℕ) (sized : length queue ≡ mostPairs) where
   first-entry : getD (set queue 0 0) 0 0 ≡ 0
   first-entry = getD-set-same queue 0 0 0 (omega arith)
 
@@ -60,7 +61,7 @@ module _ (next bears : List ℕ) (types n : ℕ) (full : n ≡ 528) (queue : Lis
         none-counted n,
       )
 
-  first-marked : (i : ℕ) → i < 1 → IsMarked (firstMarks (replicate n false) queue) (numberOf (getD (set queue 0 0) i 0))
+  first-marked : (i : ℕ) → i < 1 → IsMarked (firstMarks (replicate n false) queue) (entryNumber (getD (set queue 0 0) i 0))
   first-marked zero h =
       rw (first-entry, getD-set-same (replicate n false) 0 true false (omega (arith, length-replicate n false))) tt
   first-marked (suc i) h = absurd (omega arith)
@@ -68,7 +69,7 @@ module _ (next bears : List ℕ) (types n : ℕ) (full : n ≡ 528) (queue : Lis
   first-placed : (k : ℕ) → IsMarked (firstMarks (replicate n false) queue) k → Placed (firstMarks (replicate n false) queue) k
   first-placed k t =
       ⊎-elim
-      (λ e. record { place = 0; inside = omega arith; is = rw first-entry (sym e) })
+      (λ e. record { place = 0; place-below = omega arith; is = rw first-entry (sym e) })
       (λ u. absurd (no-mark n k u))
       (set-marked (replicate n false) 0 k t)
 
@@ -84,7 +85,7 @@ module _ (next bears : List ℕ) (types n : ℕ) (full : n ≡ 528) (queue : Lis
         marked = first-marked;
         placed = first-placed;
         linked = λ i p h. absurd (omega arith);
-        found = λ i p h. absurd (omega arith);
+        led = λ i p h. absurd (omega arith);
       }
 
 -- of a pair the states change places
@@ -92,10 +93,10 @@ leading-swap : {next bears : List ℕ} {types p q j p′ q′ : ℕ} → Leading
 leading-swap l = record { below = l .below; bearing = l .bearing; left = l .right; right = l .left }
 
 module _ {next bears tag : List ℕ} {own types : ℕ} where
-  pub search-first : (queue : List ℕ) → length queue ≡ 528
-      → SearchInv next bears tag own types 0 (firstMarks (replicate 528 false) queue)
+  pub search-first : (queue : List ℕ) → length queue ≡ mostPairs
+      → SearchInv next bears tag own types 0 (firstMarks (replicate mostPairs false) queue)
   search-first queue h =
-      record { kept = first-kept next bears types 528 refl queue h; before = omega arith; done = λ i l. absurd (omega arith) }
+      record { kept = first-kept next bears types mostPairs refl queue h; before = omega arith; done = λ i l. absurd (omega arith) }
 
   -- a pair that is done stays done
   done-grows : {at e : ℕ} {m m′ : Marks} {New : ℕ → ℕ → Type 0} {p q : ℕ} → Grows next bears types at e m m′ New
@@ -145,19 +146,19 @@ module _ {next bears tag : List ℕ} {own types : ℕ} where
               })
         ]
 
-    pub search-next : at < m .count → types ≤ 64
+    pub search-next : at < m .count → types ≤ mostTypes
         → ((j k : ℕ) → ¬ AreRivals next bears tag own types (firstOf (entryAt m at)) (secondOf (entryAt m at)) j k)
         → SearchInv next bears tag own types (suc at) (markStep next bears types at m)
-    search-next inside few none =
-        let g = step-grows next bears types at (entryAt m at) few m (record { kept = inv .kept; inside = inside; here = refl }) in
-        record { kept = g .ready .kept; before = g .ready .inside; done = now-done g none }
+    search-next queued few none =
+        let g = step-grows next bears types at (entryAt m at) few m (record { kept = inv .kept; queued = queued; here = refl }) in
+        record { kept = g .ready .kept; before = g .ready .queued; done = now-done g none }
 
     -- at the end each marked pair is done
     done-marked : m .count ≤ at → (p q : ℕ) → IsMarked m (pairNumber p q) → Done next bears tag own types m p q
     done-marked h p q t =
         let r = inv .kept .placed (pairNumber p q) t in
         let e : ℕ = entryAt m (r .place) in
-        let d : Done next bears tag own types m (firstOf e) (secondOf e) = inv .done (r .place) (omega (arith, r .inside)) in
+        let d : Done next bears tag own types m (firstOf e) (secondOf e) = inv .done (r .place) (omega (arith, r .place-below)) in
         ⊎-elim
         (λ s. rw (s .0, s .1) at d)
         (λ s. done-swap (rw (s .0, s .1) at d))
@@ -171,17 +172,17 @@ module _ {next bears tag : List ℕ} {own types : ℕ} where
           no-rivals = λ p q j k hp hq t. done-marked h p q t .no-rivals j k;
         }
 
-    pub search-found : {j k : ℕ} → at < m .count
+    pub search-rivals : {j k : ℕ} → at < m .count
         → AreRivals next bears tag own types (firstOf (entryAt m at)) (secondOf (entryAt m at)) j k
         → TrailToRivals next bears tag own types (m .queue) at j k
-    search-found h r =
+    search-rivals h r =
         record {
           trail =
               record {
-                inside = omega (arith, inv .kept .most);
+                place-below = omega (arith, inv .kept .most);
                 first = (rw (inv .kept .first), rw (inv .kept .first));
                 linked = λ i p l. inv .kept .linked i p (omega arith);
-                found = λ i p l. inv .kept .found i p (omega arith);
+                led = λ i p l. inv .kept .led i p (omega arith);
               };
           rivals = r;
         }

@@ -14,7 +14,7 @@ word-first queue zero = refl
 word-first queue (suc fuel) = refl
 
 -- with fuel, a later place has the word to the place it was found from, and then its own type
-word-more : (queue : List ℕ) (fuel i : ℕ)
+pub word-more : (queue : List ℕ) (fuel i : ℕ)
     → wordTo (suc fuel) queue (suc i) ≡ wordTo fuel queue (parentOf (getD queue (suc i) 0)) ++ (byOf (getD queue (suc i) 0) ∷ [])
 unfolding wordTo
 word-more queue fuel i = rw eqb·suc-zero

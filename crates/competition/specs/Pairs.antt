@@ -7,6 +7,6 @@ use Rattle.sdtd.specs.Competition.{pairNumber}
 use Rattle.competition.specs.declared.pairs.PairNumber.{PairNumber}
 use Rattle.competition.specs.declared.pairs.PairNumber.the-variants.{At, Outside}
 
--- the number of the pair, where both are states below 32
+-- the number of the pair, where both are states
 abbrev pub pairAnswer : ℕ → ℕ → PairNumber
 pairAnswer s t = cond (ltb s mostStates && ltb t mostStates) (At (pairNumber s t)) Outside

@@ -2,10 +2,11 @@
 use mathlib.Core.Path.{_≡_}
 use mathlib.Core.Logic.{_≢_}
 use mathlib.Core.List.{List}
-use Prim.Native.Nat.{ℕ, _+_, _*_, _<_}
+use Prim.Native.Nat.{ℕ, _<_}
 use lib.Dec.{T}
 use lib.ListN.{getD}
-use Rattle.schema.specs.States.{member}
+use Rattle.schema.specs.States.{member, bearsIn}
+use Rattle.competition.specs.Tables.{nextFrom}
 use Rattle.competition.specs.declared.rivals.Rival.{Rival}
 use Rattle.competition.specs.declared.rivals.Rival.the-variants.{One, NoType}
 use Rattle.competition.specs.declared.rivals.Rivals.{Rivals}
@@ -13,9 +14,9 @@ use Rattle.competition.specs.declared.rivals.Rivals.the-variants.{Of, No
 
 -- the type j bears a tree and leads from the state s to a state of the set `own`
 pub record Ahead (next bears : List ℕ) (own s j : ℕ) : Type 0 where
-  pub bearing : T (member 0 (getD bears j 0))
+  pub bearing : T (bearsIn bears j)
   pub to : ℕ
-  pub leads : T (member to (getD next (s * 64 + j) 0))
+  pub leads : T (member to (nextFrom next s j))
   pub live : T (member to own)
 
 -- k is another type of j's tag that is ahead of the state s

@@ -1,12 +1,13 @@
--- What the search for competition answers: document 01, "Competition".
+-- What the two calls about competition answer: document 01, "Competition".
 use mathlib.Core.Path.{_≡_}
 use mathlib.Core.List.{List, [], _∷_, _++_}
-use Prim.Native.Nat.{ℕ, _≤_}
+use Prim.Native.Nat.{ℕ}
 use lib.ListN.{length, drop}
-use Rattle.sdtd.specs.Limits.{leastWitness}
-use Rattle.sdtd.specs.Schema.{Schema, WithinLimits}
-use Rattle.sdtd.specs.Competition.{Competition, Witness}
-use Rattle.sdtd.specs.Answer.{Question, Ordered}
+use Rattle.sdtd.specs.Schema.{Schema}
+use Rattle.sdtd.specs.Competition.{Witness}
+use Rattle.sdtd.specs.Answer.{Question, Ordered, fine, refused-at, verdictIn}
+use Rattle.sdtd.specs.declared.Verdict.{Verdict}
+use Rattle.competition.specs.Questions.{bufferAsked, limitsAsked, rootAsked, competitionAsked}
 use Rattle.competition.specs.declared.search.Searched.{Searched}
 use Rattle.competition.specs.declared.search.Searched.the-variants.{ShortBuffer, OutsideLimits, Restrained, Competes}
 
@@ -16,14 +17,9 @@ pub record Written (S : Schema) (was is : List ℕ) : Type 0 where
   pub witness : Witness S bytes
   pub filled : is ≡ bytes ++ drop (length bytes) was
 
--- the question that is answered with the number n where it does not hold
-abbrev pub ask : ℕ → Type 0 → Question ℕ
-ask n holds = record { holds = holds; refusal = n }
-
 -- "Has the witness buffer at least 532 bytes? No: 1". Is the schema inside the limits? No: 10. "Is there no competition? No: 9".
 abbrev pub searchQuestions : Schema → List ℕ → List (Question ℕ)
-searchQuestions S was =
-    ask 1 (leastWitness ≤ length was) ∷ ask 10 (WithinLimits S) ∷ ask 9 (¬ Competition S) ∷ []
+searchQuestions S was = bufferAsked 1 was ∷ limitsAsked 10 S ∷ competitionAsked 9 S ∷ []
 
 -- Document 01's number for each case, 0 where no question is answered no.
 abbrev pub numberFor : Searched → ℕ
@@ -37,3 +33,17 @@ pub record SearchMeans (S : Schema) (was is : List ℕ) (r : Searched) : Type 0 
   pub answer : Ordered (searchQuestions S was) (λ n. n ≡ 0) (numberFor r)
   pub written : numberFor r ≡ 9 → Written S was is
   pub unchanged : ¬ (numberFor r ≡ 9) → is ≡ was
+
+-- The same, with "Does the root type bear a tree? No: 8" before 9; each refusal has "place 0".
+abbrev pub judgeQuestions : Schema → List ℕ → List (Question Verdict)
+judgeQuestions S was =
+    bufferAsked (verdictIn (refused-at 1 0)) was
+    ∷ limitsAsked (verdictIn (refused-at 10 0)) S
+    ∷ rootAsked (verdictIn (refused-at 8 0)) S
+    ∷ competitionAsked (verdictIn (refused-at 9 0)) S ∷ []
+
+-- The verdict on a schema, and what the buffer holds: "on 9" a witness; "on every other answer it is all unchanged".
+pub record JudgeMeans (S : Schema) (was is : List ℕ) (r : Verdict) : Type 0 where
+  pub answer : Ordered (judgeQuestions S was) (λ a. a ≡ verdictIn fine) r
+  pub written : r ≡ verdictIn (refused-at 9 0) → Written S was is
+  pub unchanged : ¬ (r ≡ verdictIn (refused-at 9 0)) → is ≡ was

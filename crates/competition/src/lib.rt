@@ -1,12 +1,18 @@
-// Competition in a schema: pair numbers, and the search over pairs of states with its witness.
+// Competition in a schema: pair numbers, the search over pairs of states with its witness, and the verdict on a schema.
+mod entries;
 mod marks;
 mod pairs;
 mod rivals;
 mod search;
+mod tables;
 mod witness;
 
 pub use pairs::PairNumber;
 pub use pairs::pair_number;
 pub use search::Searched;
 pub use search::competition;
+pub use search::judge;
 pub use witness::LEAST_WITNESS;
+pub use witness::WORD_PLACE;
+pub use witness::WitnessHead;
+pub use witness::witness_head;

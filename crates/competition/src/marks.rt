@@ -1,19 +1,23 @@
 // Pairs of states marked as reached, with a queue of those found.
+use crate::entries::entry_of;
+use crate::entries::first_of;
+use crate::entries::link_of;
+use crate::entries::second_of;
 use crate::pairs::PAIRS;
 use crate::pairs::number;
+use crate::tables::NEXT;
+use crate::tables::bears_in;
+use crate::tables::next_place;
 use schema::STATES;
 use schema::StateSet;
 use schema::TYPES;
 ghost use mathlib.Core.Path.{_≡_};
 ghost use Prim.Native.Nat.{_<_, _≤_};
-ghost use Rattle.competition.specs.Marks.{marks, markOf, markRow, markProduct, markTypes, markStep};
+ghost use Rattle.sdtd.specs.Limits.{mostTypes, mostStates, mostPairs};
+ghost use Rattle.competition.specs.Marks.{mostLinks, marks, markOf, markRow, markProduct, markTypes, markStep};
 
-// Entries of the table of next states: 32 states by 64 types.
-pub(crate) const NEXT: usize = STATES as usize * TYPES;
-
-// The pair joins the queue, unless it is reached already. An entry's 5 lowest bits are p, the next 5 are q, and `link` stands above them.
-// `link` is the type that led to the pair and the place of the pair it led from, packed in one number; it and the entries are bare numbers.
-// The test for a full queue is there for the bound. It never holds in a search: there are only 528 pairs, and each joins once.
+// The pair joins the queue, unless it is reached already.
+// The test for a full queue is there for the bound. It never holds in a search: there are only so many pairs, and each joins once.
 fn mark<'a>(
     reached: &'a mut [bool; PAIRS],
     queue: &'a mut [u32; PAIRS],
@@ -22,7 +26,7 @@ fn mark<'a>(
     q: u8,
     link: u32,
 ) -> usize
-    requires { ⌜ (p < 32) × (q < 32) × (link < 65536) ⌝ }
+    requires { ⌜ (p < mostStates) × (q < mostStates) × (link < mostLinks) ⌝ }
     ensures { λ r. ⌜ marks (now (reached .exit)) (now (queue .exit)) r
         ≡ markOf (marks (now (reached .entry)) (now (queue .entry)) count) p q link ⌝ }
 {
@@ -34,7 +38,7 @@ fn mark<'a>(
         return count;
     }
     reached[n] = true;
-    queue[count] = p as u32 + 32 * (q as u32) + 1024 * link;
+    queue[count] = entry_of(p, q, link);
     count + 1
 }
 
@@ -47,19 +51,19 @@ fn mark_row<'a>(
     right: u32,
     link: u32,
 ) -> usize
-    requires { ⌜ (p < 32) × (link < 65536) ⌝ }
+    requires { ⌜ (p < mostStates) × (link < mostLinks) ⌝ }
     ensures { λ r. ⌜ marks (now (reached .exit)) (now (queue .exit)) r
-        ≡ markRow p right link 0 32 (marks (now (reached .entry)) (now (queue .entry)) count) ⌝ }
+        ≡ markRow p right link 0 mostStates (marks (now (reached .entry)) (now (queue .entry)) count) ⌝ }
 {
-    let mut found = count;
+    let mut queued = count;
     let mut q: u8 = 0;
     while q < STATES {
         if StateSet(right).has(q) {
-            found = mark(reached, queue, found, p, q, link);
+            queued = mark(reached, queue, queued, p, q, link);
         }
         q += 1;
     }
-    found
+    queued
 }
 
 // The pairs of the states of one set with those of another.
@@ -71,26 +75,32 @@ fn mark_product<'a>(
     right: u32,
     link: u32,
 ) -> usize
-    requires { ⌜ link < 65536 ⌝ }
+    requires { ⌜ link < mostLinks ⌝ }
     ensures { λ r. ⌜ marks (now (reached .exit)) (now (queue .exit)) r
-        ≡ markProduct left right link 0 32 (marks (now (reached .entry)) (now (queue .entry)) count) ⌝ }
+        ≡ markProduct left right link 0 mostStates (marks (now (reached .entry)) (now (queue .entry)) count) ⌝ }
 {
     if left == StateSet::NONE.0 {
         return count;
     }
-    let mut found = count;
+    let mut queued = count;
     let mut p: u8 = 0;
     while p < STATES {
         if StateSet(left).has(p) {
-            found = mark_row(reached, queue, found, p, right, link);
+            queued = mark_row(reached, queue, queued, p, right, link);
         }
         p += 1;
     }
-    found
+    queued
 }
 
-// The pairs that tree-bearing types lead to from the pair p, q, which is at the place `at` of the queue.
-// `bears` is the table of live states: a type bears a tree exactly when state 0 is in its set.
+// A pair of states p, q, and its place in the queue.
+struct QueuedPair {
+    at: usize,
+    p: usize,
+    q: usize,
+}
+
+// The pairs that tree-bearing types lead to from a pair of the queue.
 // A pair with a dead state joins too and does no harm, since rival steps lead only into live states.
 fn mark_types<'a>(
     reached: &'a mut [bool; PAIRS],
@@ -99,35 +109,32 @@ fn mark_types<'a>(
     next: &[u32; NEXT],
     bears: &[u32; TYPES],
     types: usize,
-    at: usize,
-    p: usize,
-    q: usize,
+    pair: QueuedPair,
 ) -> usize
-    requires { ⌜ (types ≤ 64) × (at < 528) × (p < 32) × (q < 32) ⌝ }
+    requires { ⌜ (types ≤ mostTypes) × (pair .at < mostPairs) × (pair .p < mostStates) × (pair .q < mostStates) ⌝ }
     ensures { λ r. ⌜ marks (now (reached .exit)) (now (queue .exit)) r
-        ≡ markTypes (now (next .entry)) (now (bears .entry)) p q at 0 types
+        ≡ markTypes (now (next .entry)) (now (bears .entry)) (pair .p) (pair .q) (pair .at) 0 types
         (marks (now (reached .entry)) (now (queue .entry)) count) ⌝ }
 {
-    let mut found = count;
+    let at = pair.at;
+    let p = pair.p;
+    let q = pair.q;
+    let mut queued = count;
     let mut i = 0;
     while i < types {
-        if StateSet(bears[i]).has(0) {
-            found = mark_product(
-                reached,
-                queue,
-                found,
-                next[p * TYPES + i],
-                next[q * TYPES + i],
-                (i + TYPES * at) as u32,
-            );
+        if bears_in(bears, i) {
+            let link = link_of(i, at);
+            let left = next[next_place(p, i)];
+            let right = next[next_place(q, i)];
+            queued = mark_product(reached, queue, queued, left, right, link);
         }
         i += 1;
     }
-    found
+    queued
 }
 
 // Which pairs are reached after a step of the search, and how many stand in the queue.
-pub(crate) struct Stepped {
+pub(crate) struct PairsMarked {
     pub reached: [bool; PAIRS],
     pub count: usize,
 }
@@ -141,18 +148,19 @@ pub(crate) fn search_step(
     bears: &[u32; TYPES],
     types: usize,
     at: usize,
-) -> Stepped
-    requires { ⌜ (types ≤ 64) × (at < 528) ⌝ }
+) -> PairsMarked
+    requires { ⌜ (types ≤ mostTypes) × (at < mostPairs) ⌝ }
     ensures { λ r. ⌜ marks (r .reached) (now (queue .exit)) (r .count)
         ≡ markStep (now (next .entry)) (now (bears .entry)) types at (marks reached (now (queue .entry)) count) ⌝ }
 {
     let mut marked = reached;
     let entry = queue[at];
-    let p = (entry % 32) as usize;
-    let q = (entry / 32 % 32) as usize;
-    let found = mark_types(&mut marked, queue, count, next, bears, types, at, p, q);
-    Stepped {
+    let p = first_of(entry);
+    let q = second_of(entry);
+    let pair = QueuedPair { at, p, q };
+    let queued = mark_types(&mut marked, queue, count, next, bears, types, pair);
+    PairsMarked {
         reached: marked,
-        count: found,
+        count: queued,
     }
 }

@@ -2,13 +2,14 @@
 use schema::STATES;
 ghost use mathlib.Core.Path.{_≡_};
 ghost use Prim.Native.Nat.{_<_};
+ghost use Rattle.sdtd.specs.Limits.{mostStates, mostPairs};
 ghost use Rattle.sdtd.specs.Competition.{pairNumber};
 ghost use Rattle.competition.specs.Pairs.{pairAnswer};
 
-// "0 to 527"
-pub(crate) const PAIRS: usize = 528;
+// The unordered pairs of states have the numbers "0 to 527".
+pub(crate) const PAIRS: usize = STATES as usize * (STATES as usize + 1) / 2;
 
-// The number of a pair of states, or that one of them is 32 or more.
+// The number of a pair of states, or that one of them is no state.
 pub enum PairNumber {
     At(u16),
     Outside,
@@ -16,8 +17,8 @@ pub enum PairNumber {
 
 // "for p ≥ q the pair has number p(p+1)/2 + q"
 pub(crate) fn number(s: u8, t: u8) -> usize
-    requires { ⌜ (s < 32) × (t < 32) ⌝ }
-    ensures { λ r. ⌜ (r ≡ pairNumber s t) × (r < 528) ⌝ }
+    requires { ⌜ (s < mostStates) × (t < mostStates) ⌝ }
+    ensures { λ r. ⌜ (r ≡ pairNumber s t) × (r < mostPairs) ⌝ }
 {
     let p = s as usize;
     let q = t as usize;

@@ -1,5 +1,7 @@
 // Rival steps at a pair of states: by different tree-bearing types of one tag, into live states.
-use crate::marks::NEXT;
+use crate::tables::NEXT;
+use crate::tables::bears_in;
+use crate::tables::next_place;
 use schema::StateSet;
 use schema::TYPES;
 use sdtd::Tag;
@@ -7,6 +9,7 @@ use sdtd::TypeNo;
 ghost use mathlib.Core.Logic.{_↔_};
 ghost use Prim.Native.Nat.{_<_, _≤_};
 ghost use lib.Dec.{T};
+ghost use Rattle.sdtd.specs.Limits.{mostTypes, mostStates};
 ghost use Rattle.competition.specs.Rivals.{Ahead, RivalMeans, RivalsMean};
 
 // A type, or none.
@@ -22,7 +25,6 @@ pub(crate) enum Rivals {
 }
 
 // Does the type j bear a tree and lead from the state to a state of the set `own`, the live states of the type that is searched?
-// `bears` is the table of live states: a type bears a tree exactly when state 0 is in its set.
 fn ahead<'a>(
     next: &'a [u32; NEXT],
     bears: &'a [u32; TYPES],
@@ -30,14 +32,14 @@ fn ahead<'a>(
     state: usize,
     j: TypeNo,
 ) -> bool
-    requires { ⌜ (state < 32) × (j .0 < 64) ⌝ }
+    requires { ⌜ (state < mostStates) × (j .0 < mostTypes) ⌝ }
     ensures { λ r. ⌜ T r ↔ Ahead (now (next .entry)) (now (bears .entry)) own state (j .0) ⌝ }
 {
     let i = j.0 as usize;
-    if !StateSet(bears[i]).has(0) {
+    if !bears_in(bears, i) {
         return false;
     }
-    StateSet(own).meets(StateSet(next[state * TYPES + i]))
+    StateSet(own).meets(StateSet(next[next_place(state, i)]))
 }
 
 // Another type of j's tag that is ahead of the state.
@@ -50,7 +52,7 @@ fn rival_of<'a>(
     state: usize,
     j: TypeNo,
 ) -> Rival
-    requires { ⌜ (types ≤ 64) × (state < 32) × (j .0 < 64) ⌝ }
+    requires { ⌜ (types ≤ mostTypes) × (state < mostStates) × (j .0 < mostTypes) ⌝ }
     ensures { λ r. ⌜ RivalMeans (now (next .entry)) (now (bears .entry)) (now (tag .entry)) own types state (j .0) r ⌝ }
 {
     let shared = Tag(tag[j.0 as usize]);
@@ -79,7 +81,7 @@ pub(crate) fn rivals_at<'a>(
     p: usize,
     q: usize,
 ) -> Rivals
-    requires { ⌜ (types ≤ 64) × (p < 32) × (q < 32) ⌝ }
+    requires { ⌜ (types ≤ mostTypes) × (p < mostStates) × (q < mostStates) ⌝ }
     ensures { λ r. ⌜ RivalsMean (now (next .entry)) (now (bears .entry)) (now (tag .entry)) own types p q r ⌝ }
 {
     let mut i = 0;

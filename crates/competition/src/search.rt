@@ -1,27 +1,36 @@
-// The search for competition, type by type, breadth first over unordered pairs of states.
-use crate::marks::NEXT;
+// The search for competition, type by type, breadth first over unordered pairs of states; and the two calls that answer by it.
+use crate::entries::first_of;
+use crate::entries::second_of;
 use crate::marks::search_step;
 use crate::pairs::PAIRS;
 use crate::rivals::Rivals;
 use crate::rivals::rivals_at;
+use crate::tables::NEXT;
+use crate::tables::TypeTables;
+use crate::tables::bears_in;
+use crate::tables::next_place;
 use crate::witness::LEAST_WITNESS;
 use crate::witness::write_rivals;
 use schema::STATES;
 use schema::STEPS;
 use schema::Schema;
+use schema::Span;
 use schema::StateSet;
 use schema::TYPES;
+use schema::Trimming;
 use schema::trim;
-use schema::within;
 use sdtd::TypeNo;
+use sdtd::Verdict;
 ghost use mathlib.Core.Path.{_≡_};
 ghost use Prim.Native.Nat.{_+_, _<_, _≤_};
-ghost use lib.ListN.{replicate};
-ghost use Rattle.schema.specs.States.{noStates};
+ghost use lib.ListN.{length};
+ghost use Rattle.sdtd.specs.Limits.{mostTypes, mostSteps, leastWitness};
+ghost use Rattle.sdtd.specs.Schema.{WithinLimits};
+ghost use Rattle.schema.specs.Trimming.{Exact};
 ghost use Rattle.schema.specs.Value.{stepsOf, offset, meaning};
-ghost use Rattle.competition.specs.Marks.{nextStep, nextSteps};
-ghost use Rattle.competition.specs.Queue.{FoundMeans, SearchedAt, CompetingMeans};
-ghost use Rattle.competition.specs.Search.{SearchMeans};
+ghost use Rattle.competition.specs.Tables.{nextStep, nextBy};
+ghost use Rattle.competition.specs.Queue.{PairFoundMeans, SearchedAt, CompetingMeans, CompetesMeans};
+ghost use Rattle.competition.specs.Search.{SearchMeans, JudgeMeans};
 
 // What the search of a schema answers.
 pub enum Searched {
@@ -36,35 +45,33 @@ pub enum Searched {
 }
 
 // The place in the queue of a pair with rivals, and the rival types; or that there is none.
-pub(crate) enum Found {
+pub(crate) enum PairFound {
     At(usize, TypeNo, TypeNo),
     Nowhere,
 }
 
-// A step joins the table of next states. Inside the limits the remainders change nothing: a state is below 32, a type below 64.
+// A step joins the table of next states. Inside the limits the remainders change nothing.
 fn next_step(next: &mut [u32; NEXT], from: u8, by: TypeNo, to: u8)
     ensures { λ _. ⌜ now (next .exit) ≡ nextStep (record { from = from; by = by .0; to = to }) (now (next .entry)) ⌝ }
 {
-    let at = (from % STATES) as usize * TYPES + by.0 as usize % TYPES;
+    let at = next_place((from % STATES) as usize, by.0 as usize % TYPES);
     let grown = StateSet(next[at]).with(to);
     next[at] = grown.0;
 }
 
-// To which states each type leads from each state, by the n steps from start on.
+// To which states each type leads from each state, by the steps of the span.
 fn next_states<'a>(
     from: &'a [u8; STEPS],
     by: &'a [u8; STEPS],
     to: &'a [u8; STEPS],
-    start: usize,
-    n: usize,
+    span: Span,
 ) -> [u32; NEXT]
-    requires { ⌜ start + n ≤ 1024 ⌝ }
-    ensures { λ r. ⌜ r
-        ≡ nextSteps (stepsOf (now (from .entry)) (now (by .entry)) (now (to .entry)) start n) (replicate 2048 noStates) ⌝ }
+    requires { ⌜ span .start + span .n ≤ mostSteps ⌝ }
+    ensures { λ r. ⌜ r ≡ nextBy (stepsOf (now (from .entry)) (now (by .entry)) (now (to .entry)) (span .start) (span .n)) ⌝ }
 {
     let mut next = [StateSet::NONE.0; NEXT];
-    let end = start + n;
-    let mut i = start;
+    let end = span.start + span.n;
+    let mut i = span.start;
     while i < end {
         next_step(&mut next, from[i], TypeNo(by[i]), to[i]);
         i += 1;
@@ -72,7 +79,7 @@ fn next_states<'a>(
     next
 }
 
-// The search of one type: the first pair found with rivals, with the queue that leads to it.
+// The search of one type, whose live states are the set `own`: the first pair found with rivals, with the queue that leads to it.
 fn search_type<'a>(
     next: &'a [u32; NEXT],
     bears: &'a [u32; TYPES],
@@ -80,9 +87,9 @@ fn search_type<'a>(
     own: u32,
     types: usize,
     queue: &mut [u32; PAIRS],
-) -> Found
-    requires { ⌜ types ≤ 64 ⌝ }
-    ensures { λ r. ⌜ FoundMeans (now (next .entry)) (now (bears .entry)) (now (tag .entry)) own types (now (queue .exit)) r ⌝ }
+) -> PairFound
+    requires { ⌜ types ≤ mostTypes ⌝ }
+    ensures { λ r. ⌜ PairFoundMeans (now (next .entry)) (now (bears .entry)) (now (tag .entry)) own types (now (queue .exit)) r ⌝ }
 {
     let mut reached = [false; PAIRS];
     reached[0] = true;
@@ -93,49 +100,46 @@ fn search_type<'a>(
     let mut at = 0;
     while at < count {
         let entry = queue[at];
-        let p = (entry % 32) as usize;
-        let q = (entry / 32 % 32) as usize;
+        let p = first_of(entry);
+        let q = second_of(entry);
         let rivals = rivals_at(next, bears, tag, own, types, p, q);
         if let Rivals::Of(j, k) = rivals {
-            return Found::At(at, j, k);
+            return PairFound::At(at, j, k);
         }
-        let stepped = search_step(reached, queue, count, next, bears, types, at);
-        let marked = stepped.reached;
-        reached = marked;
-        count = stepped.count;
+        let marked = search_step(reached, queue, count, next, bears, types, at);
+        let grown = marked.reached;
+        reached = grown;
+        count = marked.count;
         at += 1;
     }
-    Found::Nowhere
+    PairFound::Nowhere
 }
 
-// The search of the type a, if it is reached and bears a tree; its n steps stand from start on.
+// The search of the type a, if it is reached and bears a tree; its steps are those of the span.
 fn search_at<'a>(
     from: &'a [u8; STEPS],
     by: &'a [u8; STEPS],
     to: &'a [u8; STEPS],
-    start: usize,
-    n: usize,
-    tag: &'a [u8; TYPES],
-    types: usize,
-    live: &'a [u32; TYPES],
-    reached: &'a [bool; TYPES],
+    span: Span,
+    tables: TypeTables,
     a: TypeNo,
     queue: &mut [u32; PAIRS],
-) -> Found
-    requires { ⌜ (start + n ≤ 1024) × (types ≤ 64) × (a .0 < 64) ⌝ }
-    ensures { λ r. ⌜ SearchedAt (nextSteps (stepsOf (now (from .entry)) (now (by .entry)) (now (to .entry)) start n) (replicate 2048 noStates))
-        (now (live .entry)) (now (tag .entry)) (now (reached .entry)) types (a .0) (now (queue .exit)) r ⌝ }
+) -> PairFound
+    requires { ⌜ (span .start + span .n ≤ mostSteps) × (tables .types ≤ mostTypes) × (a .0 < mostTypes) ⌝ }
+    ensures { λ r. ⌜ SearchedAt (nextBy (stepsOf (now (from .entry)) (now (by .entry)) (now (to .entry)) (span .start) (span .n)))
+        tables (a .0) (now (queue .exit)) r ⌝ }
 {
     let i = a.0 as usize;
-    if !reached[i] {
-        return Found::Nowhere;
+    if !tables.reached[i] {
+        return PairFound::Nowhere;
     }
-    let own = live[i];
-    if !StateSet(own).has(0) {
-        return Found::Nowhere;
+    if !bears_in(&tables.bears, i) {
+        return PairFound::Nowhere;
     }
-    let next = next_states(from, by, to, start, n);
-    search_type(&next, live, tag, own, types, queue)
+    let own = tables.live[i];
+    let types = tables.types;
+    let next = next_states(from, by, to, span);
+    search_type(&next, &tables.bears, &tables.tag, own, types, queue)
 }
 
 // The smallest type in which two compete: the type, the place in the queue of a pair with rivals, and the rivals.
@@ -150,23 +154,22 @@ fn first_competing<'a>(
     by: &'a [u8; STEPS],
     to: &'a [u8; STEPS],
     steps: &'a [u16; TYPES],
-    tag: &'a [u8; TYPES],
-    types: usize,
-    live: &'a [u32; TYPES],
-    reached: &'a [bool; TYPES],
+    tables: TypeTables,
     queue: &mut [u32; PAIRS],
 ) -> Competing
-    requires { ⌜ (types ≤ 64) × (offset (now steps) types ≤ 1024) ⌝ }
-    ensures { λ r. ⌜ CompetingMeans (stepsOf (now (from .entry)) (now (by .entry)) (now (to .entry))) (now (steps .entry)) (now (live .entry))
-        (now (tag .entry)) (now (reached .entry)) types (now (queue .exit)) r ⌝ }
+    requires { ⌜ (tables .types ≤ mostTypes) × (offset (now steps) (tables .types) ≤ mostSteps) ⌝ }
+    ensures { λ r. ⌜ CompetingMeans (stepsOf (now (from .entry)) (now (by .entry)) (now (to .entry))) (now (steps .entry)) tables
+        (now (queue .exit)) r ⌝ }
 {
+    let types = tables.types;
     let mut start = 0;
     let mut i = 0;
     while i < types {
         let a = TypeNo(i as u8);
         let n = steps[i] as usize;
-        let found = search_at(from, by, to, start, n, tag, types, live, reached, a, queue);
-        if let Found::At(at, j, k) = found {
+        let span = Span { start, n };
+        let pair = search_at(from, by, to, span, tables, a, queue);
+        if let PairFound::At(at, j, k) = pair {
             return Competing::In(a, at, j, k);
         }
         start += n;
@@ -175,35 +178,73 @@ fn first_competing<'a>(
     Competing::NoneIn
 }
 
-// Is there a competition? The smallest type in which two compete, the two and a word after which they do go to the witness buffer.
+// The search of a schema inside the limits by its trimming: do two types compete? If so, the smallest type in which two compete, the two and
+// a word after which they do go to the witness buffer.
+// The table of live states tells which types bear a tree.
+fn competes(schema: Schema, trimming: Trimming, witness: &mut [u8]) -> bool
+    requires { ⌜ WithinLimits (meaning schema) × Exact (meaning schema) trimming × (leastWitness ≤ length (now witness)) ⌝ }
+    ensures { λ r. ⌜ CompetesMeans (meaning schema) (now (witness .entry)) (now (witness .exit)) r ⌝ }
+{
+    let tag = schema.tag;
+    let live = trimming.live;
+    let reached = trimming.reached;
+    let tables = TypeTables {
+        tag,
+        live,
+        bears: live,
+        reached,
+        types: schema.types as usize,
+    };
+    let mut queue = [0u32; PAIRS];
+    let competing = first_competing(
+        &schema.from,
+        &schema.by,
+        &schema.to,
+        &schema.steps,
+        tables,
+        &mut queue,
+    );
+    if let Competing::In(a, at, j, k) = competing {
+        write_rivals(witness, a, j, k, &queue, at);
+        return true;
+    }
+    false
+}
+
+// Is there a competition?
 pub fn competition(schema: Schema, witness: &mut [u8]) -> Searched
     ensures { λ r. ⌜ SearchMeans (meaning schema) (now (witness .entry)) (now (witness .exit)) r ⌝ }
 {
     if witness.len() < LEAST_WITNESS {
         return Searched::ShortBuffer;
     }
-    if !within(schema) {
+    let trimming = trim(schema);
+    if !trimming.inside {
         return Searched::OutsideLimits;
     }
-    let trimming = trim(schema);
-    let live = trimming.live;
-    let reached = trimming.reached;
-    let types = schema.types as usize;
-    let mut queue = [0u32; PAIRS];
-    let found = first_competing(
-        &schema.from,
-        &schema.by,
-        &schema.to,
-        &schema.steps,
-        &schema.tag,
-        types,
-        &live,
-        &reached,
-        &mut queue,
-    );
-    if let Competing::In(a, at, j, k) = found {
-        write_rivals(witness, a, j, k, &queue, at);
+    if competes(schema, trimming, witness) {
         return Searched::Competes;
     }
     Searched::Restrained
+}
+
+// The verdict on a schema: does the root type bear a tree, and is there no competition?
+pub fn judge(schema: Schema, witness: &mut [u8]) -> Verdict
+    ensures { λ r. ⌜ JudgeMeans (meaning schema) (now (witness .entry)) (now (witness .exit)) r ⌝ }
+{
+    if witness.len() < LEAST_WITNESS {
+        return Verdict::RefusedAt(1, 0);
+    }
+    let trimming = trim(schema);
+    if !trimming.inside {
+        return Verdict::RefusedAt(10, 0);
+    }
+    let root = schema.root.0 as usize;
+    if !trimming.bears[root] {
+        return Verdict::RefusedAt(8, 0);
+    }
+    if competes(schema, trimming, witness) {
+        return Verdict::RefusedAt(9, 0);
+    }
+    Verdict::Fine
 }

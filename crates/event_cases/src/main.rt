@@ -12,13 +12,21 @@ use crate::show::number;
 use crate::show::show_file;
 use crate::show::show_types;
 use crate::show::text;
+use competition::LEAST_WITNESS;
 use reading::EventFile;
 use reading::read_events;
 use schema::Schema;
+use schema_file::MOST_BYTES;
 use schema_file::SchemaFile;
 
+// The most cases.
+const CASES: u32 = 0x10000;
+
+// The length that ends the cases.
+const END: usize = 0xffff;
+
 // The longest schema file, event file and buffer of a case.
-const FILE: usize = 8389;
+const FILE: usize = MOST_BYTES;
 
 const EVENTS: usize = 65534;
 
@@ -45,7 +53,7 @@ fn fill(out: &mut [u8]) {
 
 // Reads the schema file of a case.
 fn read_schema(file: &mut [u8]) -> SchemaFile {
-    let mut witness = [0u8; 532];
+    let mut witness = [0u8; LEAST_WITNESS];
     let got = io::read_full(INPUT, file);
     schema_file::read(&file[..got], &mut witness)
 }
@@ -106,7 +114,7 @@ fn next_case() -> bool {
     let file_length = two(head[0], head[1]);
     let events_length = two(head[2], head[3]);
     let buffer_length = two(head[4], head[5]);
-    if got == 6 && file_length == 65535 && events_length == 65535 && buffer_length == 65535 {
+    if got == 6 && file_length == END && events_length == END && buffer_length == END {
         text(b"end\n");
         return false;
     }
@@ -119,7 +127,7 @@ fn next_case() -> bool {
 
 fn main() {
     let mut case: u32 = 0;
-    while case < 65536 && next_case() {
+    while case < CASES && next_case() {
         case += 1;
     }
 }

@@ -1,8 +1,8 @@
 // Answers and buffers, written to standard output.
 use crate::pattern;
 use libc::STDOUT_FILENO;
-use schema_file::FileAnswer;
 use sdtd::TypeNo;
+use sdtd::Verdict;
 
 pub(crate) fn text(words: &[u8]) {
     io::write_all(STDOUT_FILENO, words);
@@ -12,10 +12,10 @@ pub(crate) fn number(n: u64) {
     io::print_decimal(STDOUT_FILENO, n);
 }
 
-pub(crate) fn show_file(answer: FileAnswer) {
+pub(crate) fn show_file(answer: Verdict) {
     match answer {
-        FileAnswer::Accepted => text(b"accepted"),
-        FileAnswer::Refused(n, p) => {
+        Verdict::Fine => text(b"accepted"),
+        Verdict::RefusedAt(n, p) => {
             text(b"refused ");
             number(n as u64);
             text(b" at ");

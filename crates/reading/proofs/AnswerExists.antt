@@ -17,13 +17,13 @@ use Rattle.reading.specs.declared.value.Reading.{Reading}
 use Rattle.reading.specs.declared.calls.EventAnswer.the-variants.{Typed, Taken}
 use Rattle.reading.specs.declared.calls.Next.{Next}
 use Rattle.reading.specs.Levels.{innerType, Within}
-use Rattle.reading.specs.Questions.{gives, LeadsTo, CanOpen, opened, closed, ended, OpeningTaken, questions, TakenBy, CallMeans}
+use Rattle.reading.specs.Questions.{gives, LeadsTo, CanOpen, opened, closed, afterFinish, OpeningTaken, questions, TakenBy, CallMeans}
 use Rattle.reading.specs.Calls.{by-value, answerOf, Called}
-use Rattle.reading.proofs.StateSets.{set-below}
+use Rattle.reading.proofs.StateSets.{decided-set}
 use Rattle.reading.proofs.Decisions.{within-decided, leads-decided, open-decided, some-open-decided, ends-decided, over-decided}
 use Rattle.reading.proofs.OneAnswer.{call-unique}
 
--- inside the limits a step of an open element leads to a state below 32
+-- inside the limits a step of an open element leads to a state below `mostStates`
 led-below : {S : Schema} {r : Reading} {j q : ℕ} → Within S r → 0 < r .depth → LeadsTo S r j q → q < mostStates
 led-below {S} {r} w l x =
     let b = block-within (w .schema) (w .reading .levels (pred (r .depth)) (omega arith) .type) in
@@ -33,7 +33,7 @@ led-below {S} {r} w l x =
 opening-taken : (S : Schema) (r : Reading) (g : ℕ) → Within S r → (j : ℕ) × CanOpen S r g j → (n : Next) × OpeningTaken S r g n
 opening-taken S r g w o =
     let s = smallest-of (λ j. decided (open-decided S r g j .1)) (o .0) (o .1) in
-    let k = set-below (λ q. leads-decided S r (s .number) q .1) 32 (le-refl 32) in (
+    let k = decided-set (λ q. leads-decided S r (s .number) q .1) mostStates (le-refl mostStates) in (
       gives (Typed (typeNo (s .number))) (opened r (s .number) (k .set)),
       record {
         type = s .number;
@@ -76,7 +76,7 @@ call-decided S r (closing g) = (
 )
 call-decided S r finish = (
   to-dec (within-decided S r .1),
-  λ w. (to-dec (false-means (r .finished)), λ f. (to-dec (over-decided r .1), λ k. (gives Taken (ended r), refl))),
+  λ w. (to-dec (false-means (r .finished)), λ f. (to-dec (over-decided r .1), λ k. (gives Taken (afterFinish r), refl))),
 )
 
 pub call-exists : (S : Schema) (r : Reading) (x : Event) → (n : Next) × CallMeans S r x n

@@ -11,10 +11,10 @@ use Rattle.sdtd.specs.Limits.{mostLevels}
 use Rattle.sdtd.specs.Schema.{Schema, blockOf, tagOf, Word}
 use Rattle.sdtd.specs.Document.{Event, opening, closing, finish, Begins}
 use Rattle.sdtd.specs.Competition.{Competition, Accepted}
-use Rattle.sdtd.specs.Answer.{Question, Answer, ask, Ordered}
+use Rattle.sdtd.specs.Answer.{Question, Answer, refused, ask, Ordered}
 use Rattle.sdtd.specs.Reading.{depth, innermost, NotFinished, ChildrenFormWord, questions, TakenAnswer}
 use Rattle.sdtd.specs.Calls.{ifTaken}
-use Rattle.sdtd.proofs.Machine.{Owner, top, own, rootBlock, Frame, frame}
+use Rattle.sdtd.proofs.Machine.{Owner, top, own, OneRoot, Frame, frame}
 use Rattle.sdtd.proofs.Follow.{Candidate}
 use Rattle.sdtd.proofs.Position.{Position, position-grown, open-position, close-position, end-position}
 use Rattle.sdtd.proofs.Next.{opening-exactly, opening-given}
@@ -24,7 +24,7 @@ use Rattle.reading.specs.declared.value.Reading.{Reading}
 use Rattle.reading.specs.declared.calls.EventAnswer.the-variants.{Typed, Taken, Refused}
 use Rattle.reading.specs.declared.calls.Next.{Next}
 use Rattle.reading.specs.Levels.{innerType}
-use Rattle.reading.specs.Questions.{gives, CanOpen, OpeningTaken, opened, Ends, closed, ended, CallMeans}
+use Rattle.reading.specs.Questions.{gives, CanOpen, OpeningTaken, opened, Ends, closed, afterFinish, CallMeans}
 use Rattle.reading.specs.Questions as Promise
 use Rattle.reading.specs.Calls.{answerOf}
 use Rattle.reading.proofs.Keeping.{Levels, outermost, level, Reads, over, going, After, after-within}
@@ -39,7 +39,7 @@ pub record Answered (S : Schema) (e : List Event) (x : Event) (qs : List (Questi
 -- A question of the promise, and the question that it is for the events taken.
 asked : {S : Schema} {e : List Event} {r : Reading} {x : Event} {i : ℕ} {P Q R : Type 0} {qs : List (Question Answer)} {n : Next}
     → After S e r → P ↔ Q → (P → R → Answered S e x qs n) → ((¬ P) × (n ≡ gives (Refused i) r)) ⊎ (P × R)
-    → Answered S e x (ask i Q ∷ qs) n
+    → Answered S e x (ask (refused i) Q ∷ qs) n
 asked {S} {e} {x = x} k same next (inl o) =
     record {
       right = inl (λ q. o .0 (same .1 q), ap (λ (m : Next). answerOf (m .answer)) (o .1));
@@ -118,15 +118,15 @@ module _ {S : Schema} (free : ¬ Competition S) {e : List Event} {r : Reading} (
       (λ h. asked k tags (λ t. asked k word (λ c. closing-taken p (rw z l) (sym tag ∙ t) (ends-word u .0 c)))))
       m
 
-  finish-taken : {w : List ℕ} → Position S e (frame top w ∷ []) → r .depth ≡ 0 → Word (rootBlock S) w → x ≡ gives Taken (ended r)
+  finish-taken : {w : List ℕ} → Position S e (frame top w ∷ []) → r .depth ≡ 0 → OneRoot S w → x ≡ gives Taken (afterFinish r)
       → Answered S e finish [] x
   finish-taken p z v q =
-      let sized : Sized (ended r) = record { depth = k .sized .depth; types = k .sized .types; sets = k .sized .sets } in
+      let sized : Sized (afterFinish r) = record { depth = k .sized .depth; types = k .sized .types; sets = k .sized .sets } in
       subst (Answered S e finish []) (sym q)
       (record { right = refl; next = record { frames = []; at = end-position p v; reads = over refl z; sized = sized } })
 
   finish-answered : {fs : List Frame} {n : ℕ} → Levels S (r .types) (r .sets) (r .rooted) n fs → r .depth ≡ n → Position S e fs
-      → Ordered (drop 2 (Promise.questions S r finish)) (λ y. y ≡ gives Taken (ended r)) x
+      → Ordered (drop 2 (Promise.questions S r finish)) (λ y. y ≡ gives Taken (afterFinish r)) x
       → Answered S e finish (drop 1 (questions S e finish)) x
   finish-answered (outermost rooted) z p m =
       let root = root-over r z rooted p in

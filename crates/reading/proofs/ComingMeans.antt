@@ -1,5 +1,4 @@
 -- What a call asks of the type that comes next.
-use mathlib.Core.Path.{_≡_}
 use mathlib.Core.Logic.{_↔_}
 use Prim.Native.Nat.{ℕ, _^_, _≤_, _<_}
 use lib.Dec.{T}
@@ -8,14 +7,16 @@ use Rattle.sdtd.specs.Schema.{Schema as Meaning}
 use Rattle.schema.specs.States.{member}
 use Rattle.reading.specs.declared.value.Reading.{Reading}
 use Rattle.reading.specs.declared.coming.Coming.{Coming}
+use Rattle.reading.specs.declared.coming.Coming.the-variants.{Nothing, OfType}
 use Rattle.reading.specs.Questions.{LeadsTo, CanOpen}
-use Rattle.reading.specs.Coming.{noType}
 
--- the smallest type that can be opened under the tag g, and the states that it leads to; or that there is none
-pub record ComingMeans (S : Meaning) (r : Reading) (g : ℕ) (c : Coming) : Type 0 where
-  pub most : c .of .0 ≤ noType
-  pub none : c .of .0 ≡ noType → (j : ℕ) → ¬ CanOpen S r g j
-  pub some : c .of .0 < noType → CanOpen S r g (c .of .0)
-  pub smallest : (j : ℕ) → CanOpen S r g j → c .of .0 ≤ j
-  pub kept-below : c .kept < 2 ^ mostStates
-  pub keeps : c .of .0 < noType → 0 < r .depth → (q : ℕ) → T (member q (c .kept)) ↔ LeadsTo S r (c .of .0) q
+-- the type j is the smallest that can be opened under the tag g, and it leads to the states kept
+pub record ComesNext (S : Meaning) (r : Reading) (g j kept : ℕ) : Type 0 where
+  pub can-open : CanOpen S r g j
+  pub smallest : (k : ℕ) → CanOpen S r g k → j ≤ k
+  pub kept-below : kept < 2 ^ mostStates
+  pub keeps : 0 < r .depth → (q : ℕ) → T (member q kept) ↔ LeadsTo S r j q
+
+abbrev pub ComingMeans : Meaning → Reading → ℕ → Coming → Type 0
+ComingMeans S r g Nothing = (j : ℕ) → ¬ CanOpen S r g j
+ComingMeans S r g (OfType j kept) = ComesNext S r g (j .0) kept

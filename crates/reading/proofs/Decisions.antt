@@ -91,8 +91,8 @@ module _ (S : Schema) (r : Reading) where
       let own = and-means (live-table S .1 .bears j) (eq-means (tagOf S j) g) in
       decision
       (means-iff (and-means own (and-means inside outside)) (
-        λ c. ((c .bears, c .tag), (c .inside, c .outside)),
-        λ p. record { bears = p .0 .0; tag = p .0 .1; inside = p .1 .0; outside = p .1 .1 },
+        λ c. ((c .bears, c .tag), (c .some-open, c .none-open)),
+        λ p. record { bears = p .0 .0; tag = p .0 .1; some-open = p .1 .0; none-open = p .1 .1 },
       ))
 
   -- a type that can be opened is the root type or stands on a step of the innermost block
@@ -105,8 +105,8 @@ module _ (S : Schema) (r : Reading) where
         record {
           member = p .0;
           given = elim (decLt 0 (r .depth)) [
-            | yes l ↦ List·Memᴰ·tail (Memᴰ·map (λ (s : Step). s .by) (p .1 .inside l .1 .step))
-            | no l ↦ List·Memᴰ·head (p .1 .outside (omega arith) .0)
+            | yes l ↦ List·Memᴰ·tail (Memᴰ·map (λ (s : Step). s .by) (p .1 .some-open l .1 .step))
+            | no l ↦ List·Memᴰ·head (p .1 .none-open (omega arith) .0)
           ];
           holds = p .1;
         },

@@ -1,29 +1,32 @@
 -- What the verdict on an event file says of valid documents: from demand 3's questions for each event, demand 2 for the whole file.
-use mathlib.Core.Path.{_≡_, refl, ap, subst, _∙_}
+use mathlib.Core.Path.{_≡_, refl, sym, ap, subst, _∙_}
 use mathlib.Core.Logic.{_↔_, inl, inr, ⊎-elim}
 use mathlib.Core.List.{List, [], _∷_, _++_, append-nil, append-assoc, List·Memᴰ, List·Memᴰ·head, List·Memᴰ·not-nil, Memᴰ·append-right}
-use Prim.Native.Nat.{ℕ, zero, suc, _+_, _≤_}
+use Prim.Native.Nat.{ℕ, _+_, _≤_}
 use native.Mathlib.Omega.{arith}
 use lib.ListN.{length}
 use Rattle.sdtd.specs.Schema.{Schema}
 use Rattle.sdtd.specs.Document.{Event, opening, closing, finish, stream, openings, Valid, typesOf}
 use Rattle.sdtd.specs.Competition.{Accepted}
-use Rattle.sdtd.specs.Answer.{Answer, refused, typed, taken}
-use Rattle.sdtd.specs.Reading.{TakenAnswer}
-use Rattle.sdtd.specs.Calls.{IsTaken, ifTaken, calls, answersBy, TakenWhole, ValidWithin, WholeMeets}
+use Rattle.sdtd.specs.Answer.{Answer, refused, typed, taken, fine}
+use Rattle.sdtd.specs.Calls.{IsTaken, calls, answersBy, TakenWhole, ValidWithin, WholeMeets}
 use Rattle.sdtd.proofs.Typed.{openings-types}
 use Rattle.sdtd.proofs.Within.{within-tags}
-use Rattle.sdtd.proofs.Calls.{RightAt, places-of-each, right-taken, Fits, fits-beginning, within-fits, Sound, call-meets, sound-next}
-use Rattle.sdtd.proofs.Calls.{calls-meet-whole, fresh as nothing-taken}
+use Rattle.sdtd.proofs.Calls.{RightAt, places-of-each, Fits, fits-beginning, within-fits, Sound, call-meets, sound-next, if-taken}
+use Rattle.sdtd.proofs.Calls.{calls-meet-whole, nothing-taken}
+use Rattle.reading.specs.declared.value.Reading.{Reading}
 use Rattle.reading.specs.Levels.{fresh}
-use Rattle.reading.specs.EventFile.{Events, ends, stray, event, eventsOf, sizeOf, Verdict, Follows, Walk}
-use Rattle.reading.specs.EventMeaning.{bytesOf, Judged, EventFileMeets}
-use Rattle.reading.proofs.EventBytes.{eventList, listed, listed-events, bytes-events, events-bytes}
-use Rattle.reading.proofs.EventWalk.{walk-judged}
-use Rattle.reading.proofs.EventWhole.{typesIn, Whole, judged-whole}
+use Rattle.events.specs.Events.{Events, eventsOf, sizeOf, bytesOf}
+use Rattle.reading.specs.Passage.{TakenCall, Passage, Follows, Passes}
+use Rattle.reading.specs.EventFile.{byCalls, typesGiven, withRoom, verdictWith, typesWith, numberOf}
+use Rattle.reading.specs.EventMeaning.{byDocuments, EventFileMeets}
+use Rattle.events.proofs.EventBytes.{eventList, listed, listed-events, bytes-events, events-bytes}
+use Rattle.reading.proofs.EventWalk.{passage-judged}
+use Rattle.reading.proofs.EventWhole.{judged-zero, typesAmong, Whole, judged-whole}
+use Rattle.reading.proofs.RoomLaws.{typesIn, room-or-20, room-enough, laid-fine, laid-enough}
 
 -- the types that the answers to the events give out
-types-among : (e : List Event) (ts : List ℕ) → openings e ≡ length ts → typesIn (answersBy e ts) ≡ ts
+types-among : (e : List Event) (ts : List ℕ) → openings e ≡ length ts → typesAmong (answersBy e ts) ≡ ts
 types-among [] [] p = refl
 types-among [] (t ∷ ts) p = absurd (omega arith)
 types-among (opening g ∷ e) [] p = absurd (omega arith)
@@ -31,8 +34,8 @@ types-among (opening g ∷ e) (t ∷ ts) p = ap (λ (l : List ℕ). t ∷ l) (ty
 types-among (closing g ∷ e) ts p = types-among e ts p
 types-among (finish ∷ e) ts p = types-among e ts p
 
--- The events of a verdict of 0, from no event on.
-module _ {S : Schema} (accepted : Accepted S) {es : Events} {v : Verdict} {ts : List ℕ} (w : Whole S [] 0 es v ts) where
+-- The events of a file that all is fine with, from no event on.
+module _ {S : Schema} (accepted : Accepted S) {es : Events} {cs : List TakenCall} (w : Whole S [] es cs) where
   taken-whole : TakenWhole (w .exchanges)
   taken-whole =
       let l : (front : List Event) × (calls (w .exchanges) ≡ front ++ (finish ∷ [])) =
@@ -47,64 +50,39 @@ module _ {S : Schema} (accepted : Accepted S) {es : Events} {v : Verdict} {ts : 
   whole-valid : ValidWithin S (eventList es)
   whole-valid = subst (ValidWithin S) (w .all-called) (meets .exactly .0 taken-whole)
 
-  whole-types : {d : List Event} → calls (w .exchanges) ≡ d → (u : Valid S d) → ts ≡ typesOf u
+  whole-types : {d : List Event} → calls (w .exchanges) ≡ d → (u : Valid S d) → typesIn cs ≡ typesOf u
   whole-types q =
-      subst (λ (d : List Event). (u : Valid S d) → ts ≡ typesOf u) q
-      (λ u. w .types ∙ ap typesIn (meets .types taken-whole u) ∙ types-among (calls (w .exchanges)) (typesOf u) (openings-types u))
+      subst (λ (d : List Event). (u : Valid S d) → typesIn cs ≡ typesOf u) q
+      (λ u. w .types ∙ ap typesAmong (meets .types taken-whole u) ∙ types-among (calls (w .exchanges)) (typesOf u) (openings-types u))
 
--- an opening needs one byte of the buffer, and no other event does
-typed-opens : (S : Schema) (e : List Event) (x : Event) (j : ℕ) (f : List Event) → TakenAnswer S e x (typed j)
-    → openings (x ∷ f) ≡ suc (openings f)
-typed-opens S e (opening g) j f t = refl
-typed-opens S e (closing g) j f t = let z : _≡_ {A = ℕ} 0 1 = cc in absurd (omega arith)
-typed-opens S e finish j f t = let z : _≡_ {A = ℕ} 0 1 = cc in absurd (omega arith)
+-- after an event that is taken the verdict is that of the rest
+goes-on : (e : List Event) (x : Event) (a : Answer) (at : ℕ) (p : Passage (List Event)) {Rest : Passage (List Event) → Type 0}
+    → IsTaken a → ((q : Passage (List Event)) → Rest q → q .verdict ≡ fine) → Follows e at x a p Rest → p .verdict ≡ fine
+goes-on e x (refused n) at p t later f = absurd t
+goes-on e x (typed j) at p t later (q, r, s) = ap (λ (k : Passage (List Event)). k .verdict) s ∙ later q r
+goes-on e x taken at p t later (q, r, s) = ap (λ (k : Passage (List Event)). k .verdict) s ∙ later q r
 
-openings-after : (x : Event) (f : List Event) → openings f ≤ openings (x ∷ f)
-openings-after (opening g) f = omega arith
-openings-after (closing g) f = omega arith
-openings-after finish f = omega arith
-
--- the walk goes on after an event that is taken, while the buffer has a byte for each opening
-goes-on : (S : Schema) (e : List Event) (x : Event) (f : List Event) (a : Answer) (room at : ℕ) (v : Verdict) (ts : List ℕ)
-    {on : ℕ → List ℕ → Type 0} → IsTaken a → TakenAnswer S e x a → Sound S (e ++ ifTaken a x)
-    → (Sound S (e ++ (x ∷ [])) → (left : ℕ) (us : List ℕ) → openings f ≤ left → on left us → v .number ≡ 0)
-    → openings (x ∷ f) ≤ room → Follows a room at v ts on → v .number ≡ 0
-goes-on S e x f (typed j) zero at v ts t k s later h d = absurd (omega (arith, typed-opens S e x j f k))
-goes-on S e x f (typed j) (suc room) at v ts t k s later h (us, p, d) = later s room us (omega (arith, typed-opens S e x j f k)) d
-goes-on S e x f taken room at v ts t k s later h d = later s room ts (omega (arith, openings-after x f)) d
-
--- the events f after e, all of them a document within 64 levels, get the verdict 0
-valid-taken : {S : Schema} → Accepted S → (e f : List Event) → Sound S e → Fits S (e ++ f) → List·Memᴰ finish (e ++ f)
-    → (room at : ℕ) (v : Verdict) (ts : List ℕ) → openings f ≤ room → Judged S e room at (listed f) v ts → v .number ≡ 0
-valid-taken accepted e [] s b m room at v ts h (inl (n, q), t) = absurd (n (rw append-nil at m))
-valid-taken accepted e [] s b m room at v ts h (inr (n, q), t) = ap (λ (u : Verdict). u .number) q
-valid-taken {S} accepted e (x ∷ f) s b m room at v ts h (a, r, d) =
+-- the events f after e, all of them a document within `mostLevels` levels, are fine
+valid-fine : {S : Schema} → Accepted S → (e f : List Event) → Sound S e → Fits S (e ++ f) → List·Memᴰ finish (e ++ f)
+    → (at : ℕ) (p : Passage (List Event)) → Passes (byDocuments S) e at (listed f) p → p .verdict ≡ fine
+valid-fine accepted e [] s b m at p (inl (n, q)) = absurd (n (rw append-nil at m))
+valid-fine accepted e [] s b m at p (inr (n, q)) = ap (λ (k : Passage (List Event)). k .verdict) q
+valid-fine {S} accepted e (x ∷ f) s b m at p (a, after, (r, k), d) =
     let c = call-meets (accepted .no-competition) (within-tags (accepted .within)) e s x a r in
     let fits : Fits S ((e ++ (x ∷ [])) ++ f) = rw append-assoc b in
     let among : List·Memᴰ finish ((e ++ (x ∷ [])) ++ f) = rw append-assoc m in
     let t : IsTaken a = c .taken-exactly .1 (fits-beginning (e ++ (x ∷ [])) f fits) in
-    goes-on S e x f a room at v ts t (right-taken S e x a r t .1) (sound-next e s x a c)
-    (λ s′ left us l j. valid-taken accepted (e ++ (x ∷ [])) f s′ fits among left (at + sizeOf x) v us l j)
-    h d
+    let next : after ≡ e ++ (x ∷ []) = k ∙ ap (λ (l : List Event). e ++ l) (if-taken a x t) in
+    let sound : Sound S (e ++ (x ∷ [])) = subst (λ (l : List Event). Sound S (e ++ l)) (if-taken a x t) (sound-next e s x a c) in
+    goes-on e x a at p t
+    (λ q g.
+    valid-fine accepted (e ++ (x ∷ [])) f sound fits among (at + sizeOf x) q
+    (subst (λ (l : List Event). Passes (byDocuments S) l (at + sizeOf x) (listed f) q) next g))
+    d
 
 -- a document has a finish
 finish-of : {S : Schema} {d : List Event} → ValidWithin S d → List·Memᴰ finish d
 finish-of w = subst (List·Memᴰ finish) (w .is-document) (Memᴰ·append-right (stream (w .tree)) (List·Memᴰ·head refl))
-
-follows-room : (a : Answer) (room at : ℕ) (v : Verdict) (ts : List ℕ) {on : ℕ → List ℕ → Type 0}
-    → ((left : ℕ) (us : List ℕ) → on left us → length us ≤ left) → Follows a room at v ts on → length ts ≤ room
-follows-room (refused n) room at v ts later d = omega (arith, ap length (d .1))
-follows-room (typed j) zero at v ts later d = omega (arith, ap length (d .1))
-follows-room (typed j) (suc room) at v ts later (us, p, d) = omega (arith, ap length p, later room us d)
-follows-room taken room at v ts later d = later room ts d
-
--- no more types are given out than the buffer has bytes
-judged-room : (S : Schema) (e : List Event) (room at : ℕ) (es : Events) (v : Verdict) (ts : List ℕ) → Judged S e room at es v ts
-    → length ts ≤ room
-judged-room S e room at ends v ts (q, t) = omega (arith, ap length t)
-judged-room S e room at stray v ts (q, t) = omega (arith, ap length t)
-judged-room S e room at (event x es) v ts (a, r, d) =
-    follows-room a room at v ts (λ left us j. judged-room S (e ++ (x ∷ [])) left (at + sizeOf x) es v us j) d
 
 -- the events of a file that is the bytes of the list d
 read-listed : (file : List ℕ) (d : List Event) → file ≡ bytesOf d → eventsOf file ≡ listed d
@@ -113,42 +91,70 @@ read-listed file d p = ap eventsOf p ∙ bytes-events d
 read-events : (file : List ℕ) (d : List Event) → file ≡ bytesOf d → eventList (eventsOf file) ≡ d
 read-events file d p = ap eventList (read-listed file d p) ∙ listed-events d
 
--- The walk over a file from a fresh reading, under an accepted schema.
-module _ {S : Schema} (accepted : Accepted S) (file : List ℕ) (room : ℕ) (v : Verdict) (ts : List ℕ)
-    (walk : Walk S fresh room 0 (eventsOf file) v ts) where
-  judged : Judged S [] room 0 (eventsOf file) v ts
-  judged = walk-judged accepted file room v ts walk
+-- The walk over a file by the questions about documents, under an accepted schema.
+module _ {S : Schema} (accepted : Accepted S) (file : List ℕ) (p : Passage (List Event)) (judged : Passes (byDocuments S) [] 0 (eventsOf file) p) where
+  whole : p .verdict ≡ fine → Whole S [] (eventsOf file) (p .calls)
+  whole z = judged-whole S [] 0 (eventsOf file) p judged z
 
-  whole : v .number ≡ 0 → Whole S [] 0 (eventsOf file) v ts
-  whole z = judged-whole S [] room 0 (eventsOf file) v ts judged z
+  types-given : p .verdict ≡ fine → (d : List Event) → file ≡ bytesOf d → (u : Valid S d) → typesIn (p .calls) ≡ typesOf u
+  types-given z d q u = whole-types accepted (whole z) (whole z .all-called ∙ read-events file d q) u
 
-  types-given : v .number ≡ 0 → (d : List Event) → file ≡ bytesOf d → (u : Valid S d) → ts ≡ typesOf u
-  types-given z d p u = whole-types accepted (whole z) (whole z .all-called ∙ read-events file d p) u
+  -- a byte for each opening of the document is a byte for each type
+  few : p .verdict ≡ fine → (d : List Event) → file ≡ bytesOf d → ValidWithin S d → openings d ≡ length (typesIn (p .calls))
+  few z d q u =
+      let n : Valid S d = record { tree = u .tree; is-document = u .is-document; typing = u .typing } in
+      openings-types n ∙ ap length (sym (types-given z d q n))
 
-  -- For any buffer: the file is taken exactly when it is the bytes of the document of a valid tree nested at most 64 deep, and the buffer
-  -- has a byte for each opening.
-  pub taken-with-room : (v .number ≡ 0) ↔ ((d : List Event) × (file ≡ bytesOf d) × ValidWithin S d × (openings d ≤ room))
-  taken-with-room = (
-    λ z.
-        let d = eventList (eventsOf file) in
-        let p = events-bytes file (whole z .ended) in
-        let u = whole-valid accepted (whole z) in
-        let n : Valid S d = record { tree = u .tree; is-document = u .is-document; typing = u .typing } in
-        let few = judged-room S [] room 0 (eventsOf file) v ts judged in
-        (d, p, u, omega (arith, openings-types n, ap length (types-given z d p n))),
-    λ (d, p, u, h).
-        valid-taken accepted [] d (nothing-taken S) (within-fits u) (finish-of u) room 0 v ts h
-        (subst (λ (es : Events). Judged S [] room 0 es v ts) (read-listed file d p) judged),
+  -- the file is taken whole exactly when it is the bytes of the document of a valid tree nested at most `mostLevels` deep
+  fine-exactly : (p .verdict ≡ fine) ↔ ((d : List Event) × (file ≡ bytesOf d) × ValidWithin S d)
+  fine-exactly = (
+    λ z. (eventList (eventsOf file), events-bytes file (whole z .ended), whole-valid accepted (whole z)),
+    λ (d, q, u).
+        valid-fine accepted [] d (nothing-taken S) (within-fits u) (finish-of u) 0 p
+        (subst (λ (es : Events). Passes (byDocuments S) [] 0 es p) (read-listed file d q) judged),
   )
 
+  -- and, for any buffer, this has a byte for each opening
+  taken-with-room : (room : ℕ)
+      → (verdictWith room p ≡ fine) ↔ ((d : List Event) × (file ≡ bytesOf d) × ValidWithin S d × (openings d ≤ room))
+  taken-with-room room = (
+    λ v.
+        let (z, h) = laid-fine room p .0 v in
+        let (d, q, u) = fine-exactly .0 z in
+        (d, q, u, omega (arith, few z d q u)),
+    λ (d, q, u, h).
+        let z = fine-exactly .1 (d, q, u) in
+        laid-fine room p .1 (z, omega (arith, few z d q u)),
+  )
+
+  -- no refusal has the number 0
+  zero-fine : (room : ℕ) → numberOf (verdictWith room p) ≡ 0 → verdictWith room p ≡ fine
+  zero-fine room z =
+      ⊎-elim
+      (λ h.
+      let same = room-enough room (typesGiven (p .calls)) (p .verdict) h in
+      same ∙ judged-zero S [] 0 (eventsOf file) p judged (ap numberOf (sym same) ∙ z))
+      (λ (h, at, q). absurd (omega (arith, ap numberOf q)))
+      (room-or-20 room (typesGiven (p .calls)) (p .verdict))
+
 -- Under an accepted schema the walk from a fresh reading meets demands 2 and 3, for any buffer.
-pub event-file-meets : {S : Schema} → Accepted S → (file : List ℕ) (room : ℕ) {v : Verdict} {ts : List ℕ}
-    → Walk S fresh room 0 (eventsOf file) v ts → EventFileMeets S room file v ts
-event-file-meets accepted file room {v} {ts} w =
-    let k = whole accepted file room v ts w in
+pub event-file-meets : {S : Schema} → Accepted S → (file : List ℕ) (room : ℕ) (p : Passage Reading)
+    → Passes (byCalls S) fresh 0 (eventsOf file) p → EventFileMeets S room file (verdictWith room p) (typesWith room p)
+event-file-meets {S} accepted file room p f =
+    let (q, judged, same) = passage-judged accepted file p f in
+    let v : verdictWith room q ≡ verdictWith room p =
+    λ i. withRoom room (typesGiven (same .calls i)) (same .verdict i) in
+    let ts : typesWith room q ≡ typesWith room p = λ i. typesWith room (record { verdict = q .verdict; calls = same .calls i; last = q .last }) in
+    let exactly = taken-with-room accepted file q judged room in
     record {
-      judged = walk-judged accepted file room v ts w;
-      taken-exactly = taken-with-room accepted file room v ts w;
-      types = types-given accepted file room v ts w;
-      place = λ z. omega (arith, k z .place, ap length (events-bytes file (k z .ended)));
+      passage = q;
+      judged = judged;
+      verdict = sym v;
+      given = sym ts;
+      zero-taken = λ z. sym v ∙ zero-fine accepted file q judged room (ap numberOf v ∙ z);
+      taken-exactly = (λ z. exactly .0 (v ∙ z), λ d. sym v ∙ exactly .1 d);
+      types =
+          λ z d b u.
+          let (e, h) = laid-fine room q .0 (v ∙ z) in
+          sym ts ∙ laid-enough room q h .1 ∙ types-given accepted file q judged e d b u;
     }

@@ -1,7 +1,7 @@
 -- What the promise asks of the innermost level, by the type of its element and its children so far.
 use mathlib.Core.Path.{_≡_, refl, sym, _∙_}
 use mathlib.Core.Logic.{_↔_, _≢_, Iff·trans}
-use mathlib.Core.Bool.{Bool, true, false, true≢false}
+use mathlib.Core.Bool.{false, true≢false}
 use mathlib.Core.List.{List, [], _∷_, _++_, append-assoc, nil≢cons, List·Memᴰ}
 use Prim.Native.Nat.{ℕ, suc, _<_}
 use native.Mathlib.Omega.{arith}
@@ -10,9 +10,10 @@ use lib.ListN.{getD}
 use Rattle.sdtd.specs.Schema.{Block, Schema, blockOf, tagOf, Leads, stay, go, Word}
 use Rattle.sdtd.specs.Document.{Event}
 use Rattle.sdtd.specs.Trim.{Bears, AllBear, Live}
+use Rattle.sdtd.proofs.Basics.{not-false-true}
 use Rattle.sdtd.proofs.Automata.{leads-append, leads-split, accepts-after}
 use Rattle.sdtd.proofs.Fixpoint.{live-closed, bears-live}
-use Rattle.sdtd.proofs.Machine.{Owner, top, own, rootBlock, word-is-root, Frame, frame}
+use Rattle.sdtd.proofs.Machine.{Owner, top, own, OneRoot, Frame, frame}
 use Rattle.sdtd.proofs.Follow.{Candidate, Grown, grown}
 use Rattle.sdtd.proofs.Position.{Position}
 use Rattle.sdtd.proofs.Next.{candidate-inside, candidate-outside}
@@ -50,16 +51,16 @@ module _ {S : Schema} {r : Reading} {a : ℕ} {w : List ℕ} (v : Level S (inner
   can-open-inside : {g j : ℕ} → 0 < r .depth → AllBear S w → CanOpen S r g j ↔ ((tagOf S j ≡ g) × Candidate S (own a) w j)
   can-open-inside {g} {j} inside bear = (
     λ c.
-        let h = leads-to (c .bears) .0 (c .inside inside .1) in
+        let h = leads-to (c .bears) .0 (c .some-open inside .1) in
         let word : Word (blockOf S a) (w ++ (j ∷ h .1 .word)) = rw append-assoc at (accepts-after (h .0) (h .1 .accepts)) in
-        (c .tag, record { rest = h .1 .word; word = word; bears = c .bears; bear = h .1 .bear }),
+        (c .tag, record { rest = h .1 .word; fills = word; bears = c .bears; bear = h .1 .bear }),
     λ c.
         let p = candidate-inside bear .0 (c .1) in
         record {
           bears = p .by-bearing;
           tag = c .0;
-          inside = λ l. (p .to, leads-to (p .by-bearing) .1 (leads-append (p .leads) (go (p .step) stay), p .to-live));
-          outside = λ z. absurd (omega arith);
+          some-open = λ l. (p .to, leads-to (p .by-bearing) .1 (leads-append (p .leads) (go (p .step) stay), p .to-live));
+          none-open = λ z. absurd (omega arith);
         },
   )
 
@@ -81,32 +82,28 @@ module _ {S : Schema} {r : Reading} {a : ℕ} {w : List ℕ} (v : Level S (inner
 can-open-outside : {S : Schema} {r : Reading} {w : List ℕ} {g j : ℕ} → r .depth ≡ 0 → (w ≡ []) ↔ (r .rooted ≡ false)
     → CanOpen S r g j ↔ ((tagOf S j ≡ g) × Candidate S top w j)
 can-open-outside z rooted = (
-  λ c. let o = c .outside z in (c .tag, candidate-outside .1 (rooted .1 (o .1), o .0, c .bears)),
+  λ c. let o = c .none-open z in (c .tag, candidate-outside .1 (rooted .1 (o .1), o .0, c .bears)),
   λ c.
       let o = candidate-outside .0 (c .1) in
       record {
         bears = o .2;
         tag = c .0;
-        inside = λ h. absurd (omega arith);
-        outside = λ e. (o .1, rooted .0 (o .0));
+        some-open = λ h. absurd (omega arith);
+        none-open = λ e. (o .1, rooted .0 (o .0));
       },
 )
 
-is-true : (b : Bool) → b ≢ false → b ≡ true
-is-true true h = refl
-is-true false h = absurd (h refl)
-
 -- the outside's children are the root once there is one
-some-child : {S : Schema} {e : List Event} (w : List ℕ) → Position S e (frame top w ∷ []) → w ≢ [] → Word (rootBlock S) w
+some-child : {S : Schema} {e : List Event} (w : List ℕ) → Position S e (frame top w ∷ []) → w ≢ [] → OneRoot S w
 some-child [] p h = absurd (h refl)
 some-child (a ∷ w) p h = root-child p
 
 -- 18, with nothing open
 pub root-over : {S : Schema} {e : List Event} (r : Reading) {w : List ℕ} → r .depth ≡ 0 → (w ≡ []) ↔ (r .rooted ≡ false)
-    → Position S e (frame top w ∷ []) → RootOver r ↔ Word (rootBlock S) w
+    → Position S e (frame top w ∷ []) → RootOver r ↔ OneRoot S w
 root-over {S} r {w} z rooted p = (
   λ c. some-child w p (λ q. true≢false (sym (c .opened) ∙ rooted .0 q)),
-  λ v. record { opened = is-true (r .rooted) (λ q. nil≢cons (sym (rooted .1 q) ∙ word-is-root S v)); closed = z },
+  λ v. record { opened = not-false-true (r .rooted) (λ q. nil≢cons (sym (rooted .1 q) ∙ v .only)); closed = z },
 )
 
 children-bear : {S : Schema} {o : Owner} {w : List ℕ} {fs : List Frame} → Grown S (frame o w ∷ fs) → AllBear S w

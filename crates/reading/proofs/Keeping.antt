@@ -48,7 +48,7 @@ pub data Reads (S : Schema) (r : Reading) : List Frame → Type 0 where
   over : r .finished ≡ true → r .depth ≡ 0 → Reads S r []
   going : {fs : List Frame} → r .finished ≡ false → Levels S (r .types) (r .sets) (r .rooted) (r .depth) fs → Reads S r fs
 
--- there are 64 levels, and at most as many are open
+-- there are `mostLevels` levels, and at most as many are open
 pub record Sized (r : Reading) : Type 0 where
   pub depth : r .depth ≤ mostLevels
   pub types : length (r .types) ≡ mostLevels

@@ -1,6 +1,7 @@
 -- First what the private steps of the calls compute, then what lists of calls mean and that each call has exactly one answer; last, lent
 -- readings and event files.
 pub mod LevelLaws
+pub mod LayoutLaws
 pub mod StepWays
 pub mod ComingLaws
 pub mod ComingMeans
@@ -13,6 +14,7 @@ pub mod Innermost
 pub mod CallAnswers
 pub mod ListOfCalls
 pub mod OneAnswer
+pub mod DepthLaws
 pub mod StateSets
 pub mod Decisions
 pub mod AnswerExists
@@ -20,16 +22,15 @@ pub mod WithinKept
 pub mod LentWalk
 pub mod LentCall
 pub mod LentTagged
-pub mod EventLaws
-pub mod TurnWays
-pub mod WalkerParts
-pub mod EventBytes
-pub mod EventPlaces
+pub mod Passages
+pub mod EventWalk
+pub mod RoomWalk
+pub mod RoomLaws
 pub mod SetsKept
+pub mod TurnWays
 pub mod StepSound
 pub mod TurnLaws
-pub mod EventWalk
+pub mod LayLaws
 pub mod EventWhole
 pub mod EventTheory
-pub mod WalkExists
 pub mod EventModel

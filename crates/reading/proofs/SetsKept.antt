@@ -1,35 +1,24 @@
--- Whatever call is made, the state sets of a reading stay below 2 ^ 32.
+-- Whatever call is made, the state sets of a reading have only states below `mostStates`.
 use mathlib.Core.Path.{_≡_, sym, subst}
 use mathlib.Core.Logic.{_⊎_, inl, inr}
 use mathlib.Core.List.{List}
 use Prim.Native.Nat.{ℕ, zero, suc, _^_, _<_}
-use native.Mathlib.Decide.{ℕ-discrete, decLt}
 use native.Mathlib.Omega.{arith}
-use lib.ListN.{length, getD, set}
-use lib.Seq.{getD-set-same, getD-set-other, set-out}
+use lib.ListN.{getD, set}
+use Rattle.sdtd.specs.Limits.{mostStates}
 use Rattle.sdtd.specs.Schema.{Schema}
 use Rattle.sdtd.specs.Document.{Event, opening, closing, finish}
 use Rattle.schema.specs.States.{onlyStart}
+use Rattle.schema.proofs.Bits.{set-below}
 use Rattle.reading.specs.declared.value.Reading.{Reading}
 use Rattle.reading.specs.declared.calls.EventAnswer.the-variants.{Refused}
 use Rattle.reading.specs.declared.calls.Next.{Next}
 use Rattle.reading.specs.Questions.{gives, setsAfter, OpeningTaken, CallMeans}
 
 abbrev pub Below : List ℕ → Type 0
-Below sets = (n : ℕ) → getD sets n 0 < 2 ^ 32
+Below sets = (n : ℕ) → getD sets n 0 < 2 ^ mostStates
 
-set-below : (l : List ℕ) (i v : ℕ) → v < 2 ^ 32 → Below l → Below (set l i v)
-set-below l i v h b n =
-    elim (ℕ-discrete n i) [
-      | yes e ↦
-          elim (decLt i (length l)) [
-            | yes w ↦ rw (e, getD-set-same l i v 0 w) h
-            | no o ↦ rw (set-out l i v (omega arith)) (b n)
-          ]
-      | no d ↦ rw (getD-set-other l i n v 0 d) (b n)
-    ]
-
-after-below : (sets : List ℕ) (n kept : ℕ) → kept < 2 ^ 32 → Below sets → Below (setsAfter sets n kept)
+after-below : (sets : List ℕ) (n kept : ℕ) → kept < 2 ^ mostStates → Below sets → Below (setsAfter sets n kept)
 after-below sets zero kept h b = set-below sets 0 onlyStart (omega arith) b
 after-below sets (suc n) kept h b = set-below (set sets n kept) (suc n) onlyStart (omega arith) (set-below sets n kept h b)
 

@@ -8,6 +8,7 @@ use native.Mathlib.Decide.{decLt, ℕ-discrete}
 use native.Mathlib.Omega.{arith}
 use lib.Dec.{T, eqb→eq}
 use lib.Pow.{pow-mono}
+use Rattle.sdtd.specs.Limits.{mostStates}
 use Rattle.sdtd.proofs.Tests.{Means, decided}
 use Rattle.schema.specs.States.{member, insert}
 use Rattle.schema.proofs.Bits.{member-none, insert-below, member-insert}
@@ -26,12 +27,12 @@ member-under s x m = elim (decLt s x) [ yes l ↦ l | no l ↦ absurd (high (ome
 -- the set of the states below n that have the property
 pub record SetBelow (P : ℕ → Type 0) (n : ℕ) : Type 0 where
   pub set : ℕ
-  pub small : set < 2 ^ 32
+  pub small : set < 2 ^ mostStates
   pub states : (q : ℕ) → T (member q set) ↔ ((q < n) × P q)
 
 module _ {P : ℕ → Type 0} {n : ℕ} (s : SetBelow P n) where
   -- with the next state, or without it
-  with-next : n < 32 → P n → SetBelow P (suc n)
+  with-next : n < mostStates → P n → SetBelow P (suc n)
   with-next l p =
       record {
         set = insert n (s .set);
@@ -59,10 +60,10 @@ module _ {P : ℕ → Type 0} {n : ℕ} (s : SetBelow P n) where
         );
       }
 
--- there is one
-pub set-below : {P : ℕ → Type 0} {f : ℕ → Bool} → ((q : ℕ) → Means (f q) (P q)) → (n : ℕ) → n ≤ 32 → SetBelow P n
-set-below m zero l =
+-- there is one for a decided property
+pub decided-set : {P : ℕ → Type 0} {f : ℕ → Bool} → ((q : ℕ) → Means (f q) (P q)) → (n : ℕ) → n ≤ mostStates → SetBelow P n
+decided-set m zero l =
     record { set = 0; small = omega arith; states = λ q. (λ t. absurd (member-none q t), λ h. absurd (omega arith)) }
-set-below m (suc n) l =
-    let s = set-below m n (omega arith) in
+decided-set m (suc n) l =
+    let s = decided-set m n (omega arith) in
     ⊎-elim (with-next s (omega arith)) (without-next s) (decided (m n))

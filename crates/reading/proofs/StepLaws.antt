@@ -1,59 +1,44 @@
 -- The steps over an examined schema answer what the calls promise.
-use mathlib.Core.Path.{_≡_, refl, sym, _∙_}
+use mathlib.Core.Path.{_≡_, refl, sym, ap, _∙_}
 use mathlib.Core.Logic.{_↔_, _⊎_, inl, inr}
-use mathlib.Core.Bool.{Bool, true, false, cond, _&&_, and-true, and-false}
-use mathlib.Core.List.{List, [], _∷_}
+use mathlib.Core.Bool.{Bool, true, false, cond, _&&_}
+use mathlib.Core.List.{[], _∷_}
 use Prim.Native.Nat.{ℕ, _+_, _^_, _≤_, _<_}
-use native.Mathlib.Numerals.{add-one}
 use native.Mathlib.Omega.{arith}
 use borrow.Author.Tests.{ne-eqb}
 use lib.Dec.{T, eqb, leb, eqb→eq, leb→le, le→leb, eqb-refl}
-use lib.ListN.{length, getD, drop}
-use Rattle.sdtd.specs.Limits.{mostSteps, mostLevels}
+use lib.ListN.{getD, drop}
+use Rattle.sdtd.specs.Limits.{mostTags, mostStates, mostSteps, mostLevels}
 use Rattle.sdtd.specs.Schema.{Schema as Meaning}
 use Rattle.sdtd.specs.Document.{Event, opening, closing, finish}
-use Rattle.sdtd.specs.Answer.{Ordered}
-use Rattle.schema.specs.States.{member, meet}
-use Rattle.schema.specs.Value.{meaning}
+use Rattle.sdtd.specs.Answer.{ask, Ordered}
+use Rattle.sdtd.proofs.Basics.{cond-either, and-parts, is-true, is-false, not-both}
+use Rattle.schema.specs.States.{meet}
+use Rattle.schema.specs.Value.{offset, meaning}
 use Rattle.schema.specs.declared.value.Schema.{Schema}
-use Rattle.schema.proofs.Values.{offset-step}
-use Rattle.schema.proofs.SpreadLaws.{cond-either, and-parts}
 use Rattle.schema.proofs.FirstTables.{Fits}
 use Rattle.reading.specs.declared.value.Reading.{Reading}
 use Rattle.reading.specs.declared.calls.EventAnswer.the-variants.{Refused}
 use Rattle.reading.specs.declared.calls.Next.{Next}
 use Rattle.reading.specs.declared.coming.Coming.{Coming}
+use Rattle.reading.specs.declared.coming.Coming.the-variants.{Nothing, OfType}
+use Rattle.reading.specs.declared.layout.Layout.{Layout}
+use Rattle.reading.specs.declared.steps.Inner.{Inner}
 use Rattle.reading.specs.Levels.{innerType, innerSet, Within}
-use Rattle.reading.specs.Questions.{gives, ask, questions, TakenBy, Ends, CallMeans}
-use Rattle.reading.specs.Coming.{noTag, noType}
-use Rattle.reading.specs.Examined.{Tables as Found}
-use Rattle.reading.specs.Steps.{Tables, tables, comingAt, openBy, openStep, closeStep, finishStep, Steady, Inside}
-use Rattle.reading.proofs.LevelLaws.{not-both, tags-of, inner-below, inner-most, inner-tag, ends-meets}
+use Rattle.reading.specs.Questions.{gives, refuses, questions, TakenBy, Ends, CallMeans}
+use Rattle.reading.specs.Layout.{Row, row}
+use Rattle.reading.specs.Examined.{LaidOut}
+use Rattle.reading.specs.Steps.{StepTables, stepTables, innerRow, comingAt, openBy, openStep, inner, innerOf, closeStep, closeStepIn}
+use Rattle.reading.specs.Steps.{finishStep, Steady, InnerFits}
+use Rattle.reading.proofs.LevelLaws.{tags-of, tag-below, inner-below, inner-most, inner-tag, ends-meets}
 use Rattle.reading.proofs.ComingMeans.{ComingMeans}
 use Rattle.reading.proofs.InsideMeans.{inside-room, inside-means}
 use Rattle.reading.proofs.RootMeans.{root-means}
-
--- the tables of an opening, by what the examination found
-abbrev pub tablesOf : Schema → ℕ → List ℕ → List ℕ → Tables
-tablesOf v root start label = tables (v .from) (v .by) (v .to) label start (v .steps) (v .tags) (v .root .0) root
-
-is-true : (b : Bool) → T b → b ≡ true
-is-true true h = refl
-is-true false h = absurd h
-
-is-false : (b : Bool) → ¬ T b → b ≡ false
-is-false true h = absurd (h tt)
-is-false false h = refl
 
 not-leb : (m n : ℕ) → ¬ T (leb m n) → n < m
 not-leb m n h =
     let d : ¬ (m ≤ n) = λ l. h (le→leb m n l) in
     omega arith
-
--- the root's label is the tag g exactly where its tag is and the root bears a tree
-root-same : (b : Bool) (tag g : ℕ) → g < noTag → eqb (cond b tag noTag) g ≡ (eqb tag g && b)
-root-same true tag g l = sym (and-true (eqb tag g))
-root-same false tag g l = ne-eqb noTag g (λ e. omega arith) ∙ sym (and-false (eqb tag g))
 
 -- the questions of a call from the one at the place k on
 abbrev Rest : Meaning → Reading → Event → ℕ → Next → Type 0
@@ -71,30 +56,24 @@ asked-yes P true f g = inr (f tt)
 asked-yes P false f g = inl (g (λ h. h), refl)
 
 -- 13 and 14
-open-by-means : {S : Meaning} {r : Reading} {g : ℕ} {c : Coming} → ComingMeans S r g c → Rest S r (opening g) 3 (openBy r c)
-open-by-means {S} {r} {g} {c} m =
-    asked-no (Rest S r (opening g) 4) (eqb (c .of .0) noType) (λ h o. m .none (eqb→eq (c .of .0) noType h) (o .0) (o .1))
-    (λ n. let l = below n in (
-      (c .of .0, m .some l),
-      asked-no (Rest S r (opening g) 5) (leb mostLevels (r .depth)) (λ h d. omega (arith, leb→le mostLevels (r .depth) h))
-          (λ h. (
-            not-leb mostLevels (r .depth) h,
-            record {
-              type = c .of .0;
-              can-open = m .some l;
-              smallest = m .smallest;
-              kept = c .kept;
-              kept-below = m .kept-below;
-              keeps = m .keeps l;
-              next = refl;
-            },
-          )),
-    ))
-  where
-    below : ¬ T (eqb (c .of .0) noType) → c .of .0 < noType
-    below n =
-        let d : ¬ (c .of .0 ≡ noType) = λ e. n (rw e (eqb-refl noType)) in
-        omega (arith, m .most)
+open-by-means : {S : Meaning} {r : Reading} {g : ℕ} (c : Coming) → ComingMeans S r g c → Rest S r (opening g) 3 (openBy r c)
+open-by-means Nothing m = inl (λ o. m (o .0) (o .1), refl)
+open-by-means {S} {r} {g} (OfType j kept) m =
+    inr (
+      (j .0, m .can-open),
+      asked-no (Rest S r (opening g) 5) (leb mostLevels (r .depth)) (λ h d. omega (arith, leb→le mostLevels (r .depth) h)) (λ h. (
+        not-leb mostLevels (r .depth) h,
+        record {
+          type = j .0;
+          can-open = m .can-open;
+          smallest = m .smallest;
+          kept = kept;
+          kept-below = m .kept-below;
+          keeps = m .keeps;
+          next = refl;
+        },
+      )),
+    )
 
 -- 18
 pub finish-step-means : {S : Meaning} {r : Reading} → Within S r → CallMeans S r finish (finishStep r)
@@ -116,18 +95,22 @@ finish-step-means {S} {r} w =
 pub stands-steady : (v : Schema) {r : Reading} → Within (meaning v) r → Steady r
 stands-steady v {r} w = record { depth = w .reading .depth; inner = inner-most v r w }
 
+-- the tables of the layout, and the schema's count of tags
+abbrev pub tablesOf : Schema → Layout → StepTables
+tablesOf v l = stepTables (l .moves) (l .blocks) (l .opens) (v .tags)
+
 module _ {v : Schema} {r : Reading} (fits : Fits v) (within : Within (meaning v) r) where
-  tags-below : (g : ℕ) → g < v .tags → g < noTag
-  tags-below g l = omega (arith, tags-of v, within .schema .tags-most)
+  tags-most : v .tags ≤ mostTags
+  tags-most = omega (arith, tags-of v, within .schema .tags-most)
 
   -- 10 to 12
   tag-asked : (P : Next → Type 0) (g : ℕ) {n : Next} → (g < v .tags → P n)
-      → Ordered (ask r 10 (Within (meaning v) r) ∷ ask r 11 (r .finished ≡ false) ∷ ask r 12 (g < meaning v .tags) ∷ []) P
+      → Ordered (ask (refuses r 10) (Within (meaning v) r) ∷ ask (refuses r 11) (r .finished ≡ false) ∷ ask (refuses r 12) (g < meaning v .tags) ∷ []) P
       (cond (r .finished) (gives (Refused 11) r) (cond (leb (v .tags) g) (gives (Refused 12) r) n))
   tag-asked P g next =
       inr (
         within,
-        asked-no (Ordered (ask r 12 (g < meaning v .tags) ∷ []) P) (r .finished) (λ h. not-both (is-true (r .finished) h)) (λ n. (
+        asked-no (Ordered (ask (refuses r 12) (g < meaning v .tags) ∷ []) P) (r .finished) (λ h. not-both (is-true (r .finished) h)) (λ n. (
           is-false (r .finished) n,
           asked-no P (leb (v .tags) g) (λ h l. omega (arith, leb→le (v .tags) g h, tags-of v))
               (λ h. let l = not-leb (v .tags) g h in (rw (tags-of v) l, next l)),
@@ -139,51 +122,73 @@ module _ {v : Schema} {r : Reading} (fits : Fits v) (within : Within (meaning v)
       let d : ¬ (r .depth ≡ 0) = λ e. n (rw e tt) in
       omega arith
 
-  module _ {root : ℕ} {start label : List ℕ} (found : Found v root start label) where
+  module _ {l : Layout} (laid : LaidOut v l) where
+    -- the blocks' entries of the innermost type
+    inner-row : 0 < r .depth
+        → innerRow (l .blocks) r
+        ≡ row (getD (v .tag) (innerType r) 0) (getD (v .accepting) (innerType r) 0) (offset (v .steps) (innerType r)) (getD (v .steps) (innerType r) 0)
+    inner-row d = laid .blocks (innerType r) (inner-below v r within d)
+
     -- with no element open, and inside one
-    pub coming-at-means : (g : ℕ) → g < v .tags → ComingMeans (meaning v) r g (comingAt (tablesOf v root start label) r g)
+    pub coming-at-means : (g : ℕ) → g < v .tags → ComingMeans (meaning v) r g (comingAt (l .moves) (l .blocks) (l .opens) r g)
     unfolding comingAt
-    coming-at-means g l =
+    coming-at-means g m =
         cond-either (ComingMeans (meaning v) r g) (eqb (r .depth) 0)
-        (λ h. rw (found .root-label, root-same (member 0 (getD (found .live) (v .root .0) 0)) (getD (v .tag) (v .root .0) 0) g (tags-below g l))
-        (root-means v (found .live) r (found .exact) (eqb→eq (r .depth) 0 h) g within))
+        (λ h. root-means (meaning v) r (eqb→eq (r .depth) 0 h) g (l .opens) (laid .opens g (omega (arith, tags-most))))
         (λ n.
         let inside = some-open n in
-        let a = inner-below v r within inside in
-        inside-means fits within {live = found .live} inside (found .exact) l
-        (record { label = label; labelled = found .labels (innerType r) a; is = rw (found .starts (innerType r) a) }))
+        rw (ap (λ (x : Row). x .start) (inner-row inside), ap (λ (x : Row). x .count) (inner-row inside))
+        (inside-means fits within (l .moves) (laid .bears) (laid .live) inside (laid .bears-exact) (laid .live-exact) (laid .moves (innerType r) (inner-below v r within inside)) m))
 
-    pub open-step-means : (g : ℕ) → CallMeans (meaning v) r (opening g) (openStep (tablesOf v root start label) r g)
+    pub open-step-means : (g : ℕ) → CallMeans (meaning v) r (opening g) (openStep (tablesOf v l) r g)
     unfolding openStep
-    open-step-means g = tag-asked (Rest (meaning v) r (opening g) 3) g (λ l. open-by-means (coming-at-means g l))
+    open-step-means g = tag-asked (Rest (meaning v) r (opening g) 3) g (λ m. open-by-means (comingAt (l .moves) (l .blocks) (l .opens) r g) (coming-at-means g m))
 
     -- what the code of an opening asks for
-    pub stands-inside : length label ≡ mostSteps → Inside (tablesOf v root start label) r
-    stands-inside long = record { steady = stands-steady v within; long = long; room = room }
+    pub stands-fit : (v .tags ≤ mostTags) × InnerFits (l .blocks) r
+    stands-fit = (tags-most, record { steady = stands-steady v within; tag = tag; room = room })
       where
-        room : 0 < r .depth → getD start (innerType r) 0 + getD (v .steps) (innerType r) 0 ≤ mostSteps
-        room d =
-            let most = rw add-one at (inside-room fits within d .1) in
-            rw (found .starts (innerType r) (inner-below v r within d)) (omega (arith, offset-step (v .steps) (innerType r)))
+        tag : 0 < r .depth → innerRow (l .blocks) r .tag < mostTags
+        tag d = rw (ap (λ (x : Row). x .tag) (inner-row d)) (tag-below v (within .schema) (innerType r) (inner-below v r within d))
 
-  module _ (sets : (n : ℕ) → getD (r .sets) n 0 < 2 ^ 32) where
+        room : 0 < r .depth → innerRow (l .blocks) r .start + innerRow (l .blocks) r .count ≤ mostSteps
+        room d =
+            rw (ap (λ (x : Row). x .start) (inner-row d), ap (λ (x : Row). x .count) (inner-row d)) (inside-room fits within d)
+
+  module _ (sets : (n : ℕ) → getD (r .sets) n 0 < 2 ^ mostStates) where
     -- 17
     ends : (d : 0 < r .depth) → Ends (meaning v) r ↔ T (meet (innerSet r) (getD (v .accepting) (innerType r) 0))
     ends d = ends-meets v r within d (sets _) (fits .accepting-below _)
 
-    pub close-step-means : (g : ℕ) → CallMeans (meaning v) r (closing g) (closeStep (v .tag) (v .accepting) (v .tags) r g)
+    -- a closing by the innermost element's own tag and accepting states
+    close-means : (own : Inner) → (0 < r .depth → own ≡ inner (getD (v .tag) (innerType r) 0) (getD (v .accepting) (innerType r) 0))
+        → (g : ℕ) → CallMeans (meaning v) r (closing g) (closeStep own (v .tags) r g)
     unfolding closeStep
-    close-step-means g =
+    close-means own is g =
         tag-asked (Rest (meaning v) r (closing g) 3) g (λ l.
         asked-no (Rest (meaning v) r (closing g) 4) (eqb (r .depth) 0) (λ h d. omega (arith, eqb→eq (r .depth) 0 h)) (λ n.
         let d = some-open n in (
           d,
-          asked-yes (Rest (meaning v) r (closing g) 5) (eqb (getD (v .tag) (innerType r) 0) g)
+          rw (is d) (
+              asked-yes (Rest (meaning v) r (closing g) 5) (eqb (getD (v .tag) (innerType r) 0) g)
               (λ h. (
                 inner-tag v r within d ∙ eqb→eq (getD (v .tag) (innerType r) 0) g h,
                 asked-yes (Rest (meaning v) r (closing g) 6) (meet (innerSet r) (getD (v .accepting) (innerType r) 0))
                     (λ m. (ends d .1 m, refl))
                     (λ z e. z (ends d .0 e)),
               ))
-              (λ z e. z (rw (sym (inner-tag v r within d) ∙ e) (eqb-refl g))),
+              (λ z e. z (rw (sym (inner-tag v r within d) ∙ e) (eqb-refl g)))
+              ),
         )))
+
+    -- with an element open, the choice is its own
+    chosen : (x y : Inner) → 0 < r .depth → cond (eqb (r .depth) 0) x y ≡ y
+    chosen x y d = rw (ne-eqb (r .depth) 0 (λ e. omega arith))
+
+    pub close-step-means : (g : ℕ) → CallMeans (meaning v) r (closing g) (closeStep (innerOf (v .tag) (v .accepting) r) (v .tags) r g)
+    unfolding innerOf
+    close-step-means g = close-means _ (λ d. chosen _ _ d) g
+
+    pub close-in-means : {l : Layout} → LaidOut v l → (g : ℕ) → CallMeans (meaning v) r (closing g) (closeStepIn (l .blocks) (v .tags) r g)
+    unfolding closeStepIn
+    close-in-means laid g = close-means _ (λ d. chosen _ _ d ∙ ap (λ (x : Row). inner (x .tag) (x .accepting)) (inner-row laid d)) g

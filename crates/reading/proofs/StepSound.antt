@@ -1,129 +1,158 @@
 -- What is known of a walk over an event file, and that it holds after each event.
-use mathlib.Core.Path.{_≡_, refl, sym, subst}
-use mathlib.Core.Bool.{Bool, true, false, cond, true≢false, false≢true}
-use mathlib.Core.List.{List, [], _∷_, _++_, append-assoc, append-nil}
-use Prim.Native.Nat.{ℕ, suc, _+_, _-_, _≤_, _<_}
-use native.Mathlib.Omega.{arith}
-use borrow.Author.Tests.{ltb-true, ltb-false}
+use mathlib.Core.Path.{_≡_, refl, sym, subst, _∙_}
+use mathlib.Core.Bool.{true, false, true≢false, false≢true, cond}
+use mathlib.Core.List.{List, [], _∷_, _++_, append-assoc}
+use Prim.Native.Nat.{ℕ, _+_, _≤_, _<_}
+use borrow.Author.Tests.{lt-ltb, le-ltb}
 use lib.Dec.{ltb}
-use lib.ListN.{length, drop, set, length-append, length-drop}
-use lib.Seq.{drop-cons, set-append-seam}
+use lib.ListN.{length, getD, drop}
+use Rattle.sdtd.specs.Limits.{mostLevels}
 use Rattle.sdtd.specs.Schema.{Schema as Meaning}
 use Rattle.sdtd.specs.Document.{Event}
-use Rattle.sdtd.specs.declared.TypeNo.{TypeNo}
+use Rattle.sdtd.specs.Answer.{typed, taken, Verdict, refused-at}
+use Rattle.sdtd.specs.Calls.{IsTaken}
 use Rattle.reading.specs.declared.value.Reading.{Reading}
 use Rattle.reading.specs.declared.calls.EventAnswer.{EventAnswer}
 use Rattle.reading.specs.declared.calls.EventAnswer.the-variants.{Typed, Taken, Refused}
 use Rattle.reading.specs.declared.calls.Next.{Next}
 use Rattle.reading.specs.Levels.{fresh, Within}
-use Rattle.reading.specs.Questions.{CallMeans}
+use Rattle.reading.specs.Questions.{given, CallMeans}
 use Rattle.reading.specs.Calls.{answerOf}
-use Rattle.reading.specs.EventFile.{Events, event, eventsOf, sizeOf, Verdict, verdict, Follows, Walk}
-use Rattle.reading.specs.Turns.{State, stop, goOnTyped, turnBy}
+use Rattle.events.specs.Events.{Events, event, eventsOf, sizeOf}
+use Rattle.reading.specs.Passage.{TakenCall, takenCall, Passage, stops, before, Passes}
+use Rattle.reading.specs.EventFile.{byCalls, GivenType, typesGiven, numberOf, placeOf}
+use Rattle.reading.specs.Turns.{Walked, goOn, turnBy}
+use Rattle.reading.proofs.OneAnswer.{refused-unchanged}
+use Rattle.reading.proofs.DepthLaws.{DepthTells, depth-tells}
 use Rattle.reading.proofs.WithinKept.{within-kept}
 use Rattle.reading.proofs.SetsKept.{Below, sets-kept}
+use Rattle.reading.proofs.Passages.{follows-taken}
+use Rattle.reading.proofs.EventWalk.{next-given}
 
 -- a reading as the walk keeps it
 pub record Held (S : Meaning) (r : Reading) : Type 0 where
   pub within : Within S r
-  pub types-long : length (r .types) ≡ 64
-  pub sets-long : length (r .sets) ≡ 64
+  pub types-long : length (r .types) ≡ mostLevels
+  pub sets-long : length (r .sets) ≡ mostLevels
   pub below : Below (r .sets)
 
--- What is known of a walk: the types given so far stand in the buffer; while it goes on, the walk from here is the rest of the whole; once it
--- has stopped, the whole walk answers its number at its place.
-pub record Sound (S : Meaning) (file was : List ℕ) (s : State) : Type 0 where
-  pub given : List ℕ
-  pub out : s .out ≡ given ++ drop (length given) was
-  pub count : s .count ≡ length given
-  pub room : length given ≤ length was
-  pub place : s .at ≤ length file
-  pub reading : Held S (s .reading)
-  pub goes : s .going ≡ true → (v : Verdict) (ts : List ℕ)
-      → Walk S (s .reading) (length was - s .count) (s .at) (eventsOf (drop (s .at) file)) v ts
-      → Walk S fresh (length was) 0 (eventsOf file) v (given ++ ts)
-  pub stopped : s .going ≡ false → Walk S fresh (length was) 0 (eventsOf file) (verdict (s .number) (s .at)) given
+-- the passage that has the calls before the passage's own
+abbrev pub beforeAll : List TakenCall → Passage Reading → Passage Reading
+beforeAll cs p = record { verdict = p .verdict; calls = cs ++ p .calls; last = p .last }
 
--- one type more in the buffer
-put-type : (given was : List ℕ) (j : ℕ) → length given < length was
-    → set (given ++ drop (length given) was) (length given) j ≡ (given ++ (j ∷ [])) ++ drop (length (given ++ (j ∷ []))) was
-put-type given was j h =
-    let long : length (given ++ (j ∷ [])) ≡ suc (length given) = rw length-append (omega arith) in
-    rw (long, append-assoc, drop-cons was (length given) 0 h, set-append-seam)
+-- the walk over the whole file comes to the passage
+abbrev pub WholePasses : Meaning → List ℕ → Passage Reading → Type 0
+WholePasses S file p = Passes (byCalls S) fresh 0 (eventsOf file) p
 
--- the buffer keeps its length
-pub out-long : {S : Meaning} {file was : List ℕ} {s : State} → Sound S file was s → length (s .out) ≡ length was
-out-long k = rw (k .out, length-append, length-drop) (let r = k .room in omega arith)
+-- what a walk that has stopped says: the whole passage has its number and place, the calls, and its reading
+pub record WalkStopped (S : Meaning) (file : List ℕ) (cs : List TakenCall) (w : Walked) : Type 0 where
+  pub verdict : Verdict
+  pub number : w .number ≡ numberOf verdict
+  pub place : w .at ≡ placeOf (length file) verdict
+  pub passes : WholePasses S file (record { verdict = verdict; calls = cs; last = w .reading })
 
-module _ {S : Meaning} {file was : List ℕ} {s : State} (k : Sound S file was s) (going : s .going ≡ true) where
+-- What is known of a walk that has taken the calls: while it goes on, the passage from here is the rest of the whole; once it has stopped, it
+-- is the whole.
+pub record WalkSound (S : Meaning) (file : List ℕ) (cs : List TakenCall) (w : Walked) : Type 0 where
+  pub place : w .at ≤ length file
+  pub reading : Held S (w .reading)
+  pub goes : w .going ≡ true → (p : Passage Reading) → Passes (byCalls S) (w .reading) (w .at) (eventsOf (drop (w .at) file)) p
+      → WholePasses S file (beforeAll cs p)
+  pub stopped : w .going ≡ false → WalkStopped S file cs w
+
+-- what the event between the two walks was given: the type at the new level, where there is one
+abbrev pub givenBetween : Walked → Walked → List GivenType
+givenBetween w v =
+    cond (ltb (w .reading .depth) (v .reading .depth)) (record { place = w .at; type = getD (v .reading .types) (w .reading .depth) 0 } ∷ []) []
+
+given-none : (w v : Walked) → v .reading .depth ≤ w .reading .depth → [] ≡ givenBetween w v
+given-none w v l = rw (le-ltb (w .reading .depth) (v .reading .depth) l)
+
+given-type : (w v : Walked) (j : ℕ) → w .reading .depth < v .reading .depth → getD (v .reading .types) (w .reading .depth) 0 ≡ j
+    → _≡_ {A = List GivenType} (record { place = w .at; type = j } ∷ []) (givenBetween w v)
+given-type w v j l e = rw (lt-ltb (w .reading .depth) (v .reading .depth) l, e)
+
+-- What is known after a turn from the walk w to v: it has taken more calls, which give what the levels say.
+pub record TurnSound (S : Meaning) (file : List ℕ) (cs : List TakenCall) (w v : Walked) : Type 0 where
+  pub more : List TakenCall
+  pub sound : WalkSound S file (cs ++ more) v
+  pub gave : typesGiven more ≡ givenBetween w v
+
+-- where no level is added, the walk has taken no opening more
+pub nothing-given : {S : Meaning} {file : List ℕ} {cs : List TakenCall} {w v : Walked} (more : List TakenCall) → typesGiven more ≡ []
+    → v .reading .depth ≤ w .reading .depth → WalkSound S file (cs ++ more) v → TurnSound S file cs w v
+nothing-given {w = w} {v} more e l sound = record { more = more; sound = sound; gave = e ∙ given-none w v l }
+
+module _ {S : Meaning} {file : List ℕ} {cs : List TakenCall} {w : Walked} (k : WalkSound S file cs w) (going : w .going ≡ true) where
   -- the event x stands at the place, and the call of it gives m
-  module _ (x : Event) (m : Next) (means : CallMeans S (s .reading) x m)
-      (stands : eventsOf (drop (s .at) file) ≡ event x (eventsOf (drop (s .at + sizeOf x) file)))
-      (inside : s .at + sizeOf x ≤ length file) where
+  module _ (x : Event) (m : Next) (means : CallMeans S (w .reading) x m)
+      (stands : eventsOf (drop (w .at) file) ≡ event x (eventsOf (drop (w .at + sizeOf x) file)))
+      (inside : w .at + sizeOf x ≤ length file) where
     held : Held S (m .reading)
     held =
         let r = k .reading in
-        let w = within-kept S (s .reading) x m (r .within) (r .types-long) (r .sets-long) means in
-        record { within = w .0; types-long = w .1; sets-long = w .2; below = sets-kept S (s .reading) x m (r .below) means }
+        let n = within-kept S (w .reading) x m (r .within) (r .types-long) (r .sets-long) means in
+        record { within = n .0; types-long = n .1; sets-long = n .2; below = sets-kept S (w .reading) x m (r .below) means }
 
-    -- by the answer and the room left, the whole walk
-    from-here : (a : EventAnswer) → m .answer ≡ a → (room : ℕ) → length was - s .count ≡ room → (v : Verdict) (ts : List ℕ)
-        → Follows (answerOf a) room (s .at) v ts
-        (λ left us. Walk S (m .reading) left (s .at + sizeOf x) (eventsOf (drop (s .at + sizeOf x) file)) v us)
-        → Walk S fresh (length was) 0 (eventsOf file) v (k .given ++ ts)
-    from-here a e room q v ts f =
-        k .goes going v ts
-        (subst (λ (es : Events). Walk S (s .reading) (length was - s .count) (s .at) es v ts) (sym stands) (m, means, rw (e, q) f))
+    called : (a : EventAnswer) → m .answer ≡ a → CallMeans S (w .reading) x (given (answerOf a) (m .reading))
+    called a e =
+        subst (λ (b : EventAnswer). CallMeans S (w .reading) x (given (answerOf b) (m .reading))) e
+        (subst (CallMeans S (w .reading) x) (sym (next-given m)) means)
 
-    -- the walk stops at the event with the number n
-    stops : (n : ℕ) → Walk S fresh (length was) 0 (eventsOf file) (verdict n (s .at)) (k .given ++ [])
-        → Sound S file was (stop s n (m .reading))
-    stops n w =
+    -- the whole passage, by the passage from here
+    from-here : (p : Passage Reading)
+        → Passes (byCalls S) (w .reading) (w .at) (event x (eventsOf (drop (w .at + sizeOf x) file))) p → WholePasses S file (beforeAll cs p)
+    from-here p f = k .goes going p (subst (λ (es : Events). Passes (byCalls S) (w .reading) (w .at) es p) (sym stands) f)
+
+    -- the event is taken with the answer, and the walk goes on
+    takes : (a : EventAnswer) → m .answer ≡ a → IsTaken (answerOf a)
+        → WalkSound S file (cs ++ (takenCall (w .at) x (answerOf a) ∷ [])) (goOn w (w .at + sizeOf x) (m .reading))
+    takes a e t =
+        let c = takenCall (w .at) x (answerOf a) in
         record {
-          given = k .given;
-          out = k .out;
-          count = k .count;
-          room = k .room;
-          place = k .place;
-          reading = held;
-          goes = λ e. absurd (false≢true e);
-          stopped = λ e. rw append-nil at w;
-        }
-
-    -- an opening taken needs a byte of the buffer
-    typed : (j : TypeNo) → m .answer ≡ Typed j → (b : Bool) → ltb (s .count) (length (s .out)) ≡ b
-        → Sound S file was (cond b (goOnTyped s (s .at + sizeOf x) (j .0) (m .reading)) (stop s 20 (m .reading)))
-    typed j e true q =
-        let l : s .count < length was = omega (arith, ltb-true (s .count) (length (s .out)) q, out-long k) in
-        let c = k .count in
-        let more : length (k .given ++ (j .0 ∷ [])) ≡ length (k .given) + 1 = rw length-append refl in
-        record {
-          given = k .given ++ (j .0 ∷ []);
-          out = rw (c, k .out) (put-type (k .given) was (j .0) (omega arith));
-          count = omega arith;
-          room = omega arith;
           place = inside;
           reading = held;
-          goes = λ g v ts w. rw append-assoc (from-here (Typed j) e (suc (length was - (s .count + 1))) (omega arith) v (j .0 ∷ ts) (ts, refl, w));
+          goes =
+              λ g p f.
+              subst (λ (ds : List TakenCall). WholePasses S file (record { verdict = p .verdict; calls = ds; last = p .last }))
+              (sym (append-assoc cs (c ∷ []) (p .calls)))
+              (from-here (before c p)
+              (answerOf a, m .reading, called a e, follows-taken (w .reading) (w .at) x (answerOf a) _ p t f));
           stopped = λ g. absurd (true≢false g);
         }
-    typed j e false q =
-        let l : length was ≤ s .count = omega (arith, ltb-false (s .count) (length (s .out)) q, out-long k) in
-        stops 20 (from-here (Typed j) e 0 (omega arith) (verdict 20 (s .at)) [] (refl, refl))
 
     -- after the event, by its answer
-    pub answered : (a : EventAnswer) → m .answer ≡ a → Sound S file was (turnBy s (s .at + sizeOf x) a (m .reading))
+    -- the depth after it
+    tells : (a : EventAnswer) → m .answer ≡ a → DepthTells (w .reading) a (m .reading)
+    tells a e =
+        subst (λ (b : EventAnswer). DepthTells (w .reading) b (m .reading)) e (depth-tells (w .reading) (k .reading .types-long) S x m means)
+
+    pub answered : (a : EventAnswer) → m .answer ≡ a → TurnSound S file cs w (turnBy w (w .at + sizeOf x) a (m .reading))
     unfolding turnBy
-    answered (Refused n) e = stops n (from-here (Refused n) e _ refl (verdict n (s .at)) [] (refl, refl))
-    answered (Typed j) e = typed j e (ltb (s .count) (length (s .out))) refl
-    answered Taken e =
+    answered (Typed j) e =
+        let d = tells (Typed j) e in
         record {
-          given = k .given;
-          out = k .out;
-          count = k .count;
-          room = k .room;
-          place = inside;
-          reading = held;
-          goes = λ g v ts w. from-here Taken e _ refl v ts w;
-          stopped = λ g. absurd (true≢false g);
+          more = takenCall (w .at) x (typed (j .0)) ∷ [];
+          sound = takes (Typed j) e tt;
+          gave = given-type w (goOn w (w .at + sizeOf x) (m .reading)) (j .0) (d .0) (d .1);
         }
+    answered Taken e = nothing-given (takenCall (w .at) x taken ∷ []) refl (tells Taken e) (takes Taken e tt)
+    answered (Refused n) e =
+        nothing-given [] refl (tells (Refused n) e) (
+        record {
+          place = k .place;
+          reading = held;
+          goes = λ g. absurd (false≢true g);
+          stopped =
+              λ g.
+              record {
+                verdict = refused-at n (w .at);
+                number = refl;
+                place = refl;
+                passes =
+                    subst (λ (r : Reading). WholePasses S file (beforeAll cs (stops (refused-at n (w .at)) r)))
+                    (sym (refused-unchanged S (w .reading) x means e))
+                    (from-here (stops (refused-at n (w .at)) (w .reading)) (answerOf (Refused n), m .reading, called (Refused n) e, refl));
+              };
+        }
+        )

@@ -1,18 +1,19 @@
--- The turns of a walk over an event file: from the first on each leaves the walk sound and nearer to the end, and the last one's state answers.
+-- The turns of a walk over an event file: from the first on each leaves the walk sound and nearer to the end.
 use mathlib.Core.Path.{_≡_, refl, sym, subst, _∙_}
 use mathlib.Core.Bool.{Bool, true, false, cond, _&&_, and-true, and-false, true≢false, false≢true}
-use mathlib.Core.Logic.{inl}
-use mathlib.Core.List.{List, [], append-nil}
-use Prim.Native.Nat.{ℕ, zero, suc, _+_, _-_, _≤_, _<_}
+use mathlib.Core.Logic.{inl, inr}
+use mathlib.Core.List.{List, [], _++_}
+use Prim.Native.Nat.{ℕ, zero, suc, _-_, _≤_, _<_}
 use native.Mathlib.Decide.{decLe}
 use native.Mathlib.Omega.{arith}
 use borrow.Author.Tests.{le-leb, lt-leb}
-use lib.Dec.{leb, ltb}
+use lib.Dec.{leb}
 use lib.ListN.{length, drop, replicate, length-replicate}
 use Rattle.sdtd.specs.Limits.{mostLevels}
 use Rattle.sdtd.specs.Schema.{Schema as Meaning}
 use Rattle.sdtd.specs.Schema.{WithinLimits}
 use Rattle.sdtd.specs.Document.{opening, closing, finish}
+use Rattle.sdtd.specs.Answer.{Verdict, fine, refused-at}
 use Rattle.schema.specs.Value.{meaning}
 use Rattle.schema.specs.declared.value.Schema.{Schema}
 use Rattle.schema.proofs.FirstTables.{Fits}
@@ -20,38 +21,34 @@ use Rattle.reading.specs.declared.value.Reading.{Reading}
 use Rattle.reading.specs.declared.calls.EventAnswer.{EventAnswer}
 use Rattle.reading.specs.declared.calls.EventAnswer.the-variants.{Typed, Taken, Refused}
 use Rattle.reading.specs.declared.calls.Next.{Next}
-use Rattle.reading.specs.declared.events.FileEvent.{FileEvent}
-use Rattle.reading.specs.declared.events.FileEvent.the-variants.{Open, Close, Finish, NoEvent}
-use Rattle.reading.specs.declared.event_file.EventFile.{EventFile}
+use Rattle.reading.specs.declared.layout.Layout.{Layout}
+use Rattle.events.specs.declared.decoder.FileEvent.{FileEvent}
+use Rattle.events.specs.declared.decoder.FileEvent.the-variants.{Open, Close, Finish, NoEvent}
 use Rattle.reading.specs.Levels.{fresh}
-use Rattle.reading.specs.Questions.{gives}
-use Rattle.reading.specs.Events.{size, eventAt}
-use Rattle.reading.specs.EventFile.{eventsOf, verdict, Walk, EventsMean}
-use Rattle.reading.specs.Examined.{Tables as Found}
-use Rattle.reading.specs.Steps.{Tables, openStep, closeStep, finishStep}
-use Rattle.reading.specs.Turns.{State, stop, goOnTyped, turnBy, turnTo, turnEnd, turnOn, turnOf, outsideNumber}
-use Rattle.reading.proofs.StepLaws.{tablesOf, open-step-means, close-step-means, finish-step-means}
-use Rattle.reading.proofs.EventLaws.{Ends, event-ends}
-use Rattle.reading.proofs.EventPlaces.{Stands, event-stands}
+use Rattle.events.specs.Events.{Events, ends, stray, eventAt, eventsOf}
+use Rattle.reading.specs.Passage.{TakenCall, stops, Passes}
+use Rattle.reading.specs.EventFile.{byCalls, numberOf, placeOf}
+use Rattle.reading.specs.Examined.{LaidOut}
+use Rattle.reading.specs.Steps.{StepTables, openStep, closeStepIn, finishStep}
+use Rattle.reading.specs.Turns.{Walked, stop, turnBy, turnTo, turnEnd, turnOn, turnOf}
+use Rattle.reading.proofs.StepLaws.{tablesOf, open-step-means, close-in-means, finish-step-means}
+use Rattle.events.proofs.EventLaws.{Ends, event-ends}
+use Rattle.events.proofs.EventPlaces.{Stands, event-stands}
 use Rattle.reading.proofs.SetsKept.{Below}
-use Rattle.reading.proofs.StepSound.{Sound, answered}
+use Rattle.reading.proofs.StepSound.{WalkStopped, WalkSound, TurnSound, nothing-given, answered}
 
--- the state before the first turn
-abbrev pub firstState : ℕ → List ℕ → State
-firstState n was = record { going = true; number = n; at = 0; count = 0; reading = fresh; out = was }
+-- the walk before the first turn
+abbrev pub firstWalk : ℕ → Walked
+firstWalk n = record { going = true; number = n; at = 0; reading = fresh }
 
 zeros-below : (n : ℕ) → Below (replicate n 0)
 zeros-below zero i = omega arith
 zeros-below (suc n) zero = omega arith
 zeros-below (suc n) (suc i) = zeros-below n i
 
-pub first-sound : {S : Meaning} → WithinLimits S → (file was : List ℕ) (n : ℕ) → Sound S file was (firstState n was)
-first-sound {S} within file was n =
+pub first-sound : {S : Meaning} → WithinLimits S → (file : List ℕ) (n : ℕ) → WalkSound S file [] (firstWalk n)
+first-sound {S} within file n =
     record {
-      given = [];
-      out = refl;
-      count = refl;
-      room = omega arith;
       place = omega arith;
       reading =
           record {
@@ -60,119 +57,94 @@ first-sound {S} within file was n =
             sets-long = length-replicate {A = ℕ} mostLevels 0;
             below = zeros-below mostLevels;
           };
-      goes =
-          λ e v ts w.
-          let all : length was - 0 ≡ length was = omega arith in
-          subst (λ (room : ℕ). Walk S fresh room 0 (eventsOf file) v ts) all w;
+      goes = λ e p f. f;
       stopped = λ e. absurd (true≢false e);
     }
 
 -- where no event stands, the file ends or stray bytes follow
-end-verdict : (b : Bool) (at : ℕ) → verdict (cond b 0 19) at ≡ cond b (verdict 0 at) (verdict 19 at)
-end-verdict true at = refl
-end-verdict false at = refl
-
-module _ {S : Meaning} {file was : List ℕ} {s : State} (k : Sound S file was s) (going : s .going ≡ true) where
-  end-walk : Stands file (s .at) NoEvent
-      → Walk S (s .reading) (length was - s .count) (s .at) (eventsOf (drop (s .at) file))
-      (verdict (cond (s .reading .finished && leb (length file) (s .at)) 0 19) (s .at)) []
-  end-walk stands =
-      elim (decLe (length file) (s .at)) [
-        | yes h ↦
-            let p = k .place in
-            rw (stands .0 (omega arith), le-leb (length file) (s .at) h, and-true) (end-verdict (s .reading .finished) (s .at), refl)
-        | no h ↦ rw (stands .1 (omega arith), lt-leb (length file) (s .at) (omega arith), and-false) (refl, refl)
-      ]
-
-  end-sound : Stands file (s .at) NoEvent → Sound S file was (turnEnd (length file) s)
-  end-sound stands =
+module _ {S : Meaning} {file : List ℕ} {cs : List TakenCall} {w : Walked} (k : WalkSound S file cs w) (going : w .going ≡ true) where
+  end-stops : (v : Verdict) (n : ℕ) → n ≡ numberOf v → w .at ≡ placeOf (length file) v → (es : Events) → eventsOf (drop (w .at) file) ≡ es
+      → Passes (byCalls S) (w .reading) (w .at) es (stops v (w .reading)) → WalkStopped S file (cs ++ []) (stop w n (w .reading))
+  end-stops v n e q es stands f =
       record {
-        given = k .given;
-        out = k .out;
-        count = k .count;
-        room = k .room;
-        place = k .place;
-        reading = k .reading;
-        goes = λ e. absurd (false≢true e);
-        stopped = λ e. rw append-nil at (k .goes going _ [] (end-walk stands));
+        verdict = v;
+        number = e;
+        place = q;
+        passes =
+            k .goes going (stops v (w .reading))
+            (subst (λ (l : Events). Passes (byCalls S) (w .reading) (w .at) l (stops v (w .reading))) (sym stands) f);
       }
 
-module _ {v : Schema} (fits : Fits v) {root : ℕ} {start label : List ℕ} (found : Found v root start label) {file was : List ℕ} {s : State}
-    (k : Sound (meaning v) file was s) (going : s .going ≡ true) where
+  -- at the file's end, by the reading's mark
+  at-end : (b : Bool) → w .reading .finished ≡ b → w .at ≡ length file → eventsOf (drop (w .at) file) ≡ ends
+      → WalkStopped S file (cs ++ []) (stop w (cond b 0 19) (w .reading))
+  at-end true q e stands = end-stops fine 0 refl e ends stands (inr (q, refl))
+  at-end false q e stands = end-stops (refused-at 19 (w .at)) 19 refl refl ends stands (inl (λ f. true≢false (sym f ∙ q), refl))
+
+  end-stopped : Stands file (w .at) NoEvent
+      → WalkStopped S file (cs ++ []) (stop w (cond (w .reading .finished && leb (length file) (w .at)) 0 19) (w .reading))
+  end-stopped stands =
+      elim (decLe (length file) (w .at)) [
+        | yes h ↦
+            let e : w .at ≡ length file = omega (arith, k .place) in
+            rw (le-leb (length file) (w .at) h, and-true) (at-end (w .reading .finished) refl e (stands .0 e))
+        | no h ↦
+            rw (lt-leb (length file) (w .at) (omega arith), and-false)
+            (end-stops (refused-at 19 (w .at)) 19 refl refl stray (stands .1 (omega arith)) refl)
+      ]
+
+  end-sound : Stands file (w .at) NoEvent → TurnSound S file cs w (turnEnd (length file) w)
+  end-sound stands =
+      nothing-given [] refl (omega arith)
+      (record { place = k .place; reading = k .reading; goes = λ e. absurd (false≢true e); stopped = λ e. end-stopped stands })
+
+module _ {v : Schema} (fits : Fits v) {l : Layout} (laid : LaidOut v l) {file : List ℕ}
+    {cs : List TakenCall} {w : Walked} (k : WalkSound (meaning v) file cs w) (going : w .going ≡ true) where
   -- by what stands at the place
-  by-event : (e : FileEvent) → Stands file (s .at) e → Ends file (s .at) e
-      → Sound (meaning v) file was (turnOn (tablesOf v root start label) (v .tag) (v .accepting) (length file) s e (s .at + size e))
+  by-event : (e : FileEvent) → Stands file (w .at) e → Ends file (w .at) e
+      → TurnSound (meaning v) file cs w (turnOn (tablesOf v l) (length file) w e)
   by-event (Open g) stands inside =
-      answered k going (opening (g .0)) (openStep (tablesOf v root start label) (s .reading) (g .0))
-      (open-step-means fits (k .reading .within) found (g .0)) stands inside _ refl
+      answered k going (opening (g .0)) (openStep (tablesOf v l) (w .reading) (g .0))
+      (open-step-means fits (k .reading .within) laid (g .0)) stands inside _ refl
   by-event (Close g) stands inside =
-      answered k going (closing (g .0)) (closeStep (v .tag) (v .accepting) (v .tags) (s .reading) (g .0))
-      (close-step-means fits (k .reading .within) (k .reading .below) (g .0)) stands inside _ refl
+      answered k going (closing (g .0)) (closeStepIn (l .blocks) (v .tags) (w .reading) (g .0))
+      (close-in-means fits (k .reading .within) (k .reading .below) laid (g .0)) stands inside _ refl
   by-event Finish stands inside =
-      answered k going finish (finishStep (s .reading)) (finish-step-means (k .reading .within)) stands inside _ refl
+      answered k going finish (finishStep (w .reading)) (finish-step-means (k .reading .within)) stands inside _ refl
   by-event NoEvent stands inside = end-sound k going stands
 
   -- after a turn the walk is sound
-  pub turn-sound : {s′ : State} → s′ ≡ turnOf (tablesOf v root start label) (v .tag) (v .accepting) file s → Sound (meaning v) file was s′
+  pub turn-sound : {u : Walked} → u ≡ turnOf (tablesOf v l) file w → TurnSound (meaning v) file cs w u
   unfolding turnOf
   turn-sound e =
-      subst (Sound (meaning v) file was) (sym e)
-      (by-event (eventAt file (s .at)) (event-stands file (s .at) (k .place)) (event-ends file (s .at)))
+      subst (TurnSound (meaning v) file cs w) (sym e)
+      (by-event (eventAt file (w .at)) (event-stands file (w .at) (k .place)) (event-ends file (w .at)))
 
 -- how far the walk is from its end
-abbrev pub toGo : List ℕ → State → ℕ
-toGo file s = cond (s .going) (suc (length file - s .at)) 0
+abbrev pub toGo : List ℕ → Walked → ℕ
+toGo file w = cond (w .going) (suc (length file - w .at)) 0
 
-module _ (t : Tables) (tag accepting file : List ℕ) (s : State) (going : s .going ≡ true) where
+module _ (t : StepTables) (file : List ℕ) (w : Walked) (going : w .going ≡ true) where
   -- after an event inside the file, with `past` the place past it
-  step-less : (past : ℕ) (r : Reading) → s .at < past → past ≤ length file → (a : EventAnswer) → toGo file (turnBy s past a r) < toGo file s
+  step-less : (past : ℕ) (r : Reading) → w .at < past → past ≤ length file → (a : EventAnswer)
+      → toGo file (turnBy w past a r) < toGo file w
   unfolding turnBy
   step-less past r h l (Refused k) = rw going (omega arith)
-  step-less past r h l (Typed j) = typed-less (ltb (s .count) (length (s .out)))
-    where
-      typed-less : (b : Bool) → toGo file (cond b (goOnTyped s past (j .0) r) (stop s 20 r)) < toGo file s
-      typed-less true = rw going (omega arith)
-      typed-less false = rw going (omega arith)
+  step-less past r h l (Typed j) = rw going (omega arith)
   step-less past r h l Taken = rw going (omega arith)
 
-  next-less : (past : ℕ) (x : Next) → s .at < past → past ≤ length file → toGo file (turnTo s past x) < toGo file s
+  next-less : (past : ℕ) (x : Next) → w .at < past → past ≤ length file → toGo file (turnTo w past x) < toGo file w
   next-less past x h l = step-less past (x .reading) h l (x .answer)
 
-  event-less : (e : FileEvent) → Ends file (s .at) e → toGo file (turnOn t tag accepting (length file) s e (s .at + size e)) < toGo file s
-  event-less (Open g) l = next-less _ (openStep t (s .reading) (g .0)) (omega arith) l
-  event-less (Close g) l = next-less _ (closeStep tag accepting (t .tags) (s .reading) (g .0)) (omega arith) l
-  event-less Finish l = next-less _ (finishStep (s .reading)) (omega arith) l
+  event-less : (e : FileEvent) → Ends file (w .at) e
+      → toGo file (turnOn t (length file) w e) < toGo file w
+  event-less (Open g) l = next-less _ (openStep t (w .reading) (g .0)) (omega arith) l
+  event-less (Close g) l = next-less _ (closeStepIn (t .blocks) (t .tags) (w .reading) (g .0)) (omega arith) l
+  event-less Finish l = next-less _ (finishStep (w .reading)) (omega arith) l
   event-less NoEvent l = rw going (omega arith)
 
   -- a turn comes nearer to the end of the file, or stops
-  pub turn-less : {s′ : State} → s′ ≡ turnOf t tag accepting file s → toGo file s′ < toGo file s
+  pub turn-less : {u : Walked} → u ≡ turnOf t file w → toGo file u < toGo file w
   unfolding turnOf
-  turn-less e = subst (λ (r : State). toGo file r < toGo file s) (sym e) (event-less (eventAt file (s .at)) (event-ends file (s .at)))
-
--- what a walk that has stopped answers
-pub last-means : {S : Meaning} {file was : List ℕ} {s : State} → Sound S file was s → s .going ≡ false → (r : EventFile)
-    → r .number ≡ s .number → r .place ≡ s .at → r .count ≡ s .count → EventsMean S file was (s .out) r
-last-means k done r n p c =
-    record { types = k .given; walk = rw (n, p) (k .stopped done); count = c ∙ k .count; buffer = k .out }
-
--- under a schema outside the limits the first event gets 10, and stray bytes or an empty file 19
-outside-walk : {S : Meaning} → ¬ WithinLimits S → (file : List ℕ) (room : ℕ) (e : FileEvent) → Stands file 0 e
-    → Walk S fresh room 0 (eventsOf file) (verdict (outsideNumber e) 0) []
-outside-walk out file room (Open g) stands = rw stands (gives (Refused 10) fresh, inl (λ w. out (w .schema), refl), (refl, refl))
-outside-walk out file room (Close g) stands = rw stands (gives (Refused 10) fresh, inl (λ w. out (w .schema), refl), (refl, refl))
-outside-walk out file room Finish stands = rw stands (gives (Refused 10) fresh, inl (λ w. out (w .schema), refl), (refl, refl))
-outside-walk out file room NoEvent stands =
-    elim (decLe (length file) 0) [
-      | yes h ↦ rw (stands .0 (omega arith)) (refl, refl)
-      | no h ↦ rw (stands .1 (omega arith)) (refl, refl)
-    ]
-
-pub outside-means : {S : Meaning} → ¬ WithinLimits S → (file was : List ℕ) (r : EventFile) → r .number ≡ outsideNumber (eventAt file 0)
-    → r .place ≡ 0 → r .count ≡ 0 → EventsMean S file was was r
-outside-means out file was r n p c =
-    record {
-      types = [];
-      walk = rw (n, p) (outside-walk out file (length was) (eventAt file 0) (event-stands file 0 (omega arith)));
-      count = c;
-      buffer = refl;
-    }
+  turn-less e =
+      subst (λ (u : Walked). toGo file u < toGo file w) (sym e) (event-less (eventAt file (w .at)) (event-ends file (w .at)))

@@ -20,12 +20,12 @@ use Rattle.reading.specs.declared.value.Reading.{Reading}
 use Rattle.reading.specs.declared.calls.EventAnswer.the-variants.{Refused}
 use Rattle.reading.specs.declared.calls.Next.{Next}
 use Rattle.reading.specs.Levels.{innerType, LevelWithin, Within}
-use Rattle.reading.specs.Questions.{gives, setsAfter, closed, ended, OpeningTaken, CallMeans}
+use Rattle.reading.specs.Questions.{gives, setsAfter, closed, afterFinish, OpeningTaken, CallMeans}
 use Rattle.reading.proofs.Keeping.{Sized, opened-sized, closed-sized}
 
--- a reading inside the limits, whose two lists have 64 levels
+-- a reading inside the limits, whose two lists have `mostLevels` levels
 abbrev Kept : Meaning → Reading → Type 0
-Kept S r = Within S r × (length (r .types) ≡ 64) × (length (r .sets) ≡ 64)
+Kept S r = Within S r × (length (r .types) ≡ mostLevels) × (length (r .sets) ≡ mostLevels)
 
 -- a level by numbers equal to its own
 same-level : {S : Meaning} {a b set set′ : ℕ} → b ≡ a → set′ ≡ set → LevelWithin S a set → LevelWithin S b set′
@@ -99,7 +99,7 @@ module _ {S : Meaning} {r : Reading} (k : Kept S r) where
         k .2,
       )
 
-  ended-kept : Kept S (ended r)
+  ended-kept : Kept S (afterFinish r)
   ended-kept = (record { schema = k .0 .schema; reading = record { depth = k .0 .reading .depth; levels = k .0 .reading .levels } }, k .1, k .2)
 
   -- a question that is answered no leaves the reading
@@ -113,8 +113,8 @@ by-equal : {S : Meaning} {m n : Next} → Kept S (m .reading) → n ≡ m → Ke
 by-equal {S} h e = subst (λ (m : Next). Kept S (m .reading)) (sym e) h
 
 -- Whatever call is made, a reading inside the limits stays inside.
-pub within-kept : (S : Meaning) (r : Reading) (x : Event) (n : Next) → Within S r → length (r .types) ≡ 64 → length (r .sets) ≡ 64
-    → CallMeans S r x n → Within S (n .reading) × (length (n .reading .types) ≡ 64) × (length (n .reading .sets) ≡ 64)
+pub within-kept : (S : Meaning) (r : Reading) (x : Event) (n : Next) → Within S r → length (r .types) ≡ mostLevels → length (r .sets) ≡ 64
+    → CallMeans S r x n → Within S (n .reading) × (length (n .reading .types) ≡ mostLevels) × (length (n .reading .sets) ≡ mostLevels)
 within-kept S r (opening g) n w t s =
     let k : Kept S r = (w, t, s) in
     asked k (λ a. asked k (λ b. asked k (λ c. asked k (λ d. asked k (λ e. opening-kept k e)))))

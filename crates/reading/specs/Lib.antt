@@ -1,11 +1,12 @@
--- Readings and event files: document 01's sections "A reading" and "The event file". `Coming`, `Examined`, `Steps` and `Turns` say what the
--- private steps compute; no public promise cites them.
+-- Readings and event files: document 01's sections "A reading" and "The event file". `Layout`, `Coming`, `Examined`, `Steps` and `Turns` say
+-- what the private steps compute; no public promise cites them.
 pub mod Levels
 pub mod Questions
 pub mod Calls
-pub mod Events
+pub mod Passage
 pub mod EventFile
 pub mod EventMeaning
+pub mod Layout
 pub mod Coming
 pub mod Examined
 pub mod Steps

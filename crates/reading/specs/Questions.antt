@@ -12,7 +12,7 @@ use Rattle.sdtd.specs.Schema.{Schema, blockOf, tagOf}
 use Rattle.sdtd.specs.Tree.{IsRoot}
 use Rattle.sdtd.specs.Document.{Event, opening, closing, finish}
 use Rattle.sdtd.specs.Trim.{Bears, Live}
-use Rattle.sdtd.specs.Answer.{Question, Ordered, Answer, refused, typed, taken}
+use Rattle.sdtd.specs.Answer.{Question, ask, Ordered, Answer, refused, typed, taken}
 use Rattle.schema.specs.States.{member, onlyStart}
 use Rattle.reading.specs.declared.value.Reading.{Reading}
 use Rattle.reading.specs.declared.calls.EventAnswer.{EventAnswer}
@@ -35,9 +35,9 @@ answerIn taken = Taken
 abbrev pub given : Answer → Reading → Next
 given a r = gives (answerIn a) r
 
--- The question that is answered n where it does not hold: "A refusal answers its number alone and the reading is unchanged."
-abbrev pub ask : Reading → ℕ → Type 0 → Question Next
-ask r n holds = record { holds = holds; refusal = given (refused n) r }
+-- "A refusal answers its number alone and the reading is unchanged."
+abbrev pub refuses : Reading → ℕ → Next
+refuses r n = given (refused n) r
 
 -- the type j leads from the innermost set to the live state q
 pub record LeadsTo (S : Schema) (r : Reading) (j q : ℕ) : Type 0 where
@@ -51,8 +51,8 @@ pub record LeadsTo (S : Schema) (r : Reading) (j q : ℕ) : Type 0 where
 pub record CanOpen (S : Schema) (r : Reading) (g j : ℕ) : Type 0 where
   pub bears : Bears S j
   pub tag : tagOf S j ≡ g
-  pub inside : 0 < r .depth → (q : ℕ) × LeadsTo S r j q
-  pub outside : r .depth ≡ 0 → IsRoot S j × (r .rooted ≡ false)
+  pub some-open : 0 < r .depth → (q : ℕ) × LeadsTo S r j q
+  pub none-open : r .depth ≡ 0 → IsRoot S j × (r .rooted ≡ false)
 
 -- the state sets after an opening at the depth n: the innermost element's is the one kept, and the new element's has only state 0
 abbrev pub setsAfter : List ℕ → ℕ → ℕ → List ℕ
@@ -91,8 +91,8 @@ abbrev pub closed : Reading → Reading
 closed r = record { depth = pred (r .depth); rooted = r .rooted; finished = r .finished; types = r .types; sets = r .sets }
 
 -- the reading after a finish
-abbrev pub ended : Reading → Reading
-ended r = record { depth = r .depth; rooted = r .rooted; finished = true; types = r .types; sets = r .sets }
+abbrev pub afterFinish : Reading → Reading
+afterFinish r = record { depth = r .depth; rooted = r .rooted; finished = true; types = r .types; sets = r .sets }
 
 -- 18: "has the root been opened and closed?"
 pub record RootOver (r : Reading) : Type 0 where
@@ -102,18 +102,18 @@ pub record RootOver (r : Reading) : Type 0 where
 -- The questions of a call, in order.
 abbrev pub questions : Schema → Reading → Event → List (Question Next)
 questions S r (opening g) =
-    ask r 10 (Within S r) ∷ ask r 11 (r .finished ≡ false) ∷ ask r 12 (g < S .tags) ∷ ask r 13 ((j : ℕ) × CanOpen S r g j)
-    ∷ ask r 14 (r .depth < mostLevels) ∷ []
+    ask (refuses r 10) (Within S r) ∷ ask (refuses r 11) (r .finished ≡ false) ∷ ask (refuses r 12) (g < S .tags) ∷ ask (refuses r 13) ((j : ℕ) × CanOpen S r g j)
+    ∷ ask (refuses r 14) (r .depth < mostLevels) ∷ []
 questions S r (closing g) =
-    ask r 10 (Within S r) ∷ ask r 11 (r .finished ≡ false) ∷ ask r 12 (g < S .tags) ∷ ask r 15 (0 < r .depth)
-    ∷ ask r 16 (tagOf S (innerType r) ≡ g) ∷ ask r 17 (Ends S r) ∷ []
-questions S r finish = ask r 10 (Within S r) ∷ ask r 11 (r .finished ≡ false) ∷ ask r 18 (RootOver r) ∷ []
+    ask (refuses r 10) (Within S r) ∷ ask (refuses r 11) (r .finished ≡ false) ∷ ask (refuses r 12) (g < S .tags) ∷ ask (refuses r 15) (0 < r .depth)
+    ∷ ask (refuses r 16) (tagOf S (innerType r) ≡ g) ∷ ask (refuses r 17) (Ends S r) ∷ []
+questions S r finish = ask (refuses r 10) (Within S r) ∷ ask (refuses r 11) (r .finished ≡ false) ∷ ask (refuses r 18) (RootOver r) ∷ []
 
 -- what a call that is taken answers and hands back
 abbrev pub TakenBy : Schema → Reading → Event → Next → Type 0
 TakenBy S r (opening g) n = OpeningTaken S r g n
 TakenBy S r (closing g) n = n ≡ given taken (closed r)
-TakenBy S r finish n = n ≡ given taken (ended r)
+TakenBy S r finish n = n ≡ given taken (afterFinish r)
 
 -- What the call x answers and hands back, for any schema and any reading.
 abbrev pub CallMeans : Schema → Reading → Event → Next → Type 0

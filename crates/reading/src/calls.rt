@@ -1,6 +1,8 @@
 // Opening, closing and finish: each takes a reading and hands back the one that follows, with the answer.
 use crate::examined::examine;
 use crate::levels::levels_within;
+use crate::steps::Inner;
+use crate::steps::NONE_OPEN;
 use crate::steps::Standing;
 use crate::steps::Stepped;
 use crate::steps::step_close;
@@ -10,6 +12,7 @@ use crate::value::LEVELS;
 use crate::value::Reading;
 use schema::Schema;
 use schema::StateSet;
+use schema::TYPES;
 use schema::within;
 use sdtd::Tag;
 use sdtd::TypeNo;
@@ -20,7 +23,7 @@ ghost use Rattle.sdtd.specs.Document.{opening, closing, finish};
 ghost use Rattle.schema.specs.Value.{meaning};
 ghost use Rattle.reading.specs.Levels.{Within, fresh};
 ghost use Rattle.reading.specs.Questions.{CallMeans, gives};
-ghost use Rattle.reading.specs.Steps.{nextOf};
+ghost use Rattle.reading.specs.Steps.{readingOf, nextOf, innerOf, Steady};
 
 // The answer to an event: an opening's type, taken for a closing or a finish, or a refusal's number.
 pub enum EventAnswer {
@@ -62,6 +65,29 @@ fn with_levels(s: Stepped, types: [u8; LEVELS], sets: [u32; LEVELS]) -> Next
     }
 }
 
+// The tag and the accepting states of the innermost type; where none is open, any will do.
+fn inner_of<'a>(
+    tag: &'a [u8; TYPES],
+    accepting: &'a [u32; TYPES],
+    types: &'a [u8; LEVELS],
+    sets: &'a [u32; LEVELS],
+    at: Standing,
+) -> Inner
+    requires { ⌜ Steady (readingOf at (now types) (now sets)) ⌝ }
+    ensures { λ r. ⌜ r ≡ innerOf (now (tag .entry)) (now (accepting .entry)) (readingOf at (now (types .entry)) (now (sets .entry))) ⌝ }
+{
+    if at.depth == 0 {
+        return NONE_OPEN;
+    }
+    let level = (at.depth - 1) as usize;
+    let inner = TypeNo(types[level]);
+    let a = inner.0 as usize;
+    Inner {
+        tag: Tag(tag[a]),
+        accepting: accepting[a],
+    }
+}
+
 // Question 10.
 fn both_within(schema: Schema, reading: Reading) -> bool
     ensures { λ r. ⌜ T r ↔ Within (meaning schema) reading ⌝ }
@@ -91,8 +117,8 @@ impl Reading {
     pub fn open(self, schema: Schema, tag: Tag) -> Next
         ensures { λ n. ⌜ CallMeans (meaning schema) self (opening (tag .0)) n ⌝ }
     {
-        let examined = examine(schema);
-        if !examined.inside {
+        let layout = examine(schema);
+        if !layout.inside {
             return refused(10, self);
         }
         let states = schema.states;
@@ -106,18 +132,11 @@ impl Reading {
         };
         let mut types = self.types;
         let mut sets = self.sets;
-        let root = schema.root;
-        let opens = examined.opens;
         let step = step_open(
-            &schema.from,
-            &schema.by,
-            &schema.to,
-            &examined.label,
-            &examined.start,
-            &schema.steps,
+            &layout.moves,
+            &layout.blocks,
+            &layout.opens,
             schema.tags,
-            root,
-            opens,
             &mut types,
             &mut sets,
             at,
@@ -140,15 +159,8 @@ impl Reading {
         };
         let types = self.types;
         let sets = self.sets;
-        let step = step_close(
-            &schema.tag,
-            &schema.accepting,
-            schema.tags,
-            &types,
-            &sets,
-            at,
-            tag,
-        );
+        let own = inner_of(&schema.tag, &schema.accepting, &types, &sets, at);
+        let step = step_close(own, schema.tags, &sets, at, tag);
         with_levels(step, types, sets)
     }
 

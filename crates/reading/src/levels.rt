@@ -15,11 +15,11 @@ fn level_within(a: TypeNo, set: u32, types: u8, states: [u8; TYPES]) -> bool
     if types <= a.0 {
         return false;
     }
-    let own = states[(a.0 % 64) as usize];
+    let own = states[a.0 as usize % TYPES];
     StateSet(set).below(own)
 }
 
-// Are the open levels at most 64, and each of them inside the counts?
+// Are the open levels at most LEVELS, and each of them inside the counts?
 pub(crate) fn levels_within(reading: Reading, types: u8, states: [u8; TYPES]) -> bool
     ensures { λ r. ⌜ T r ↔ LevelsFit types states reading ⌝ }
 {

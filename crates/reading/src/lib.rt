@@ -2,24 +2,19 @@
 mod calls;
 mod coming;
 mod event_file;
-mod events;
 mod examined;
+mod layout;
 mod lent;
 mod levels;
 mod steps;
 mod value;
-mod walker;
 
 pub use calls::EventAnswer;
 pub use calls::Next;
 pub use event_file::EventFile;
 pub use event_file::read_events;
-pub use events::FileEvent;
 pub use lent::close_lent;
 pub use lent::finish_lent;
 pub use lent::open_lent;
 pub use value::LEVELS;
 pub use value::Reading;
-pub use walker::PassedEvent;
-pub use walker::Walker;
-pub use walker::walk_to;

@@ -2,20 +2,28 @@
 // asked before.
 use crate::calls::EventAnswer;
 use crate::coming::Coming;
-use crate::coming::NO_TYPE;
 use crate::coming::coming_from;
+use crate::layout::BLOCKS;
+use crate::layout::MOVES;
+use crate::layout::OPENS;
+use crate::layout::block_accepting;
+use crate::layout::block_count;
+use crate::layout::block_start;
+use crate::layout::block_tag;
+use crate::layout::opens_flag;
+use crate::layout::opens_type;
 use crate::value::LEVELS;
-use schema::STEPS;
 use schema::StateSet;
-use schema::TYPES;
 use sdtd::Tag;
 use sdtd::TypeNo;
 ghost use mathlib.Core.Path.{_≡_};
 ghost use mathlib.Core.Bool.{true};
-ghost use Prim.Native.Nat.{_+_, _<_};
+ghost use Prim.Native.Nat.{_+_, _≤_, _<_};
 ghost use lib.ListN.{set};
+ghost use Rattle.sdtd.specs.Limits.{mostTags, mostLevels};
 ghost use Rattle.reading.specs.Questions.{setsAfter};
-ghost use Rattle.reading.specs.Steps.{tables, readingOf, nextOf, comingAt, openStep, closeStep, Finishes, Steady, Inside};
+ghost use Rattle.reading.specs.Layout.{opensUnder};
+ghost use Rattle.reading.specs.Steps.{stepTables, readingOf, nextOf, comingAt, openStep, Closes, closeStepIn, Finishes, InnerFits};
 
 // A reading without its levels.
 pub(crate) struct Standing {
@@ -47,7 +55,7 @@ fn descend<'a>(
     j: TypeNo,
     kept: u32,
 ) -> Stepped
-    requires { ⌜ at .depth < 64 ⌝ }
+    requires { ⌜ at .depth < mostLevels ⌝ }
     ensures { λ r. ⌜ (now (types .exit) ≡ set (now (types .entry)) (at .depth) (j .0))
         × (now (sets .exit) ≡ setsAfter (now (sets .entry)) (at .depth) kept)
         × (r .answer ≡ EventAnswer.Typed j)
@@ -69,54 +77,44 @@ fn descend<'a>(
     }
 }
 
+// What opens under the tag g at the outermost level.
+fn opens_under(opens: &[u8; OPENS], g: Tag) -> Coming
+    requires { ⌜ g .0 < mostTags ⌝ }
+    ensures { λ r. ⌜ r ≡ opensUnder (now (opens .entry)) (g .0) ⌝ }
+{
+    if opens[opens_flag(g)] == 0 {
+        return Coming::Nothing;
+    }
+    Coming::OfType(TypeNo(opens[opens_type(g)]), StateSet::NONE.0)
+}
+
 // What comes next under the tag g.
 fn coming_at<'a>(
-    from: &'a [u8; STEPS],
-    by: &'a [u8; STEPS],
-    to: &'a [u8; STEPS],
-    label: &'a [u8; STEPS],
-    start: &'a [u16; TYPES],
-    steps: &'a [u16; TYPES],
-    tags: u8,
-    root: TypeNo,
-    opens: Tag,
+    moves: &'a [u8; MOVES],
+    blocks: &'a [u32; BLOCKS],
+    opens: &'a [u8; OPENS],
     types: &'a [u8; LEVELS],
     sets: &'a [u32; LEVELS],
     at: Standing,
     g: Tag,
 ) -> Coming
-    requires { ⌜ Inside (tables (now from) (now by) (now to) (now label) (now start) (now steps) tags (root .0) (opens .0))
-        (readingOf at (now types) (now sets)) ⌝ }
-    ensures { λ r. ⌜ r ≡ comingAt
-        (tables (now (from .entry)) (now (by .entry)) (now (to .entry)) (now (label .entry)) (now (start .entry)) (now (steps .entry)) tags (root .0) (opens .0))
+    requires { ⌜ (g .0 < mostTags) × InnerFits (now blocks) (readingOf at (now types) (now sets)) ⌝ }
+    ensures { λ r. ⌜ r ≡ comingAt (now (moves .entry)) (now (blocks .entry)) (now (opens .entry))
         (readingOf at (now (types .entry)) (now (sets .entry))) (g .0) ⌝ }
 {
-    let none = Coming {
-        of: NO_TYPE,
-        kept: StateSet::NONE.0,
-    };
     let depth = at.depth as usize;
     if depth == 0 {
         if at.rooted {
-            return none;
+            return Coming::Nothing;
         }
-        if !opens.same(g) {
-            return none;
-        }
-        return Coming {
-            of: root,
-            kept: StateSet::NONE.0,
-        };
+        return opens_under(opens, g);
     }
     let inner = TypeNo(types[depth - 1]);
     let a = inner.0 as usize;
     coming_from(
-        from,
-        by,
-        to,
-        label,
-        start[a] as usize,
-        steps[a] as usize,
+        moves,
+        blocks[block_start(a)] as usize,
+        blocks[block_count(a)] as usize,
         sets[depth - 1],
         g,
     )
@@ -124,24 +122,18 @@ fn coming_at<'a>(
 
 // An opening of the tag g.
 pub(crate) fn step_open<'a>(
-    from: &'a [u8; STEPS],
-    by: &'a [u8; STEPS],
-    to: &'a [u8; STEPS],
-    label: &'a [u8; STEPS],
-    start: &'a [u16; TYPES],
-    steps: &'a [u16; TYPES],
+    moves: &'a [u8; MOVES],
+    blocks: &'a [u32; BLOCKS],
+    opens: &'a [u8; OPENS],
     tags: u8,
-    root: TypeNo,
-    opens: Tag,
     types: &'a mut [u8; LEVELS],
     sets: &'a mut [u32; LEVELS],
     at: Standing,
     g: Tag,
 ) -> Stepped
-    requires { ⌜ Inside (tables (now from) (now by) (now to) (now label) (now start) (now steps) tags (root .0) (opens .0))
-        (readingOf at (now types) (now sets)) ⌝ }
-    ensures { λ r. ⌜ nextOf r (now (types .exit)) (now (sets .exit)) ≡ openStep
-        (tables (now (from .entry)) (now (by .entry)) (now (to .entry)) (now (label .entry)) (now (start .entry)) (now (steps .entry)) tags (root .0) (opens .0))
+    requires { ⌜ (tags ≤ mostTags) × InnerFits (now blocks) (readingOf at (now types) (now sets)) ⌝ }
+    ensures { λ r. ⌜ nextOf r (now (types .exit)) (now (sets .exit))
+        ≡ openStep (stepTables (now (moves .entry)) (now (blocks .entry)) (now (opens .entry)) tags)
         (readingOf at (now (types .entry)) (now (sets .entry))) (g .0) ⌝ }
 {
     if at.finished {
@@ -150,44 +142,40 @@ pub(crate) fn step_open<'a>(
     if tags <= g.0 {
         return stays(12, at);
     }
-    let next = coming_at(
-        from,
-        by,
-        to,
-        label,
-        start,
-        steps,
-        tags,
-        root,
-        opens,
-        types,
-        sets,
-        at,
-        g,
-    );
-    let j = next.of;
-    if j.same(NO_TYPE) {
-        return stays(13, at);
+    let next = coming_at(moves, blocks, opens, types, sets, at, g);
+    match next {
+        Coming::Nothing => stays(13, at),
+        Coming::OfType(j, kept) => {
+            if LEVELS <= at.depth as usize {
+                return stays(14, at);
+            }
+            descend(types, sets, at, j, kept)
+        }
     }
-    if LEVELS <= at.depth as usize {
-        return stays(14, at);
-    }
-    descend(types, sets, at, j, next.kept)
 }
 
-// A closing of the tag g.
-pub(crate) fn step_close<'a>(
-    tag: &'a [u8; TYPES],
-    accepting: &'a [u32; TYPES],
+// The tag and the accepting states of the innermost element.
+pub(crate) struct Inner {
+    pub tag: Tag,
+    pub accepting: u32,
+}
+
+// Where no element is open, any will do.
+pub(crate) const NONE_OPEN: Inner = Inner {
+    tag: Tag(0),
+    accepting: 0,
+};
+
+// A closing of the tag g, where the innermost element, if one is open, has its own tag and accepting states.
+pub(crate) fn step_close(
+    own: Inner,
     tags: u8,
-    types: &'a [u8; LEVELS],
-    sets: &'a [u32; LEVELS],
+    sets: &[u32; LEVELS],
     at: Standing,
     g: Tag,
 ) -> Stepped
-    requires { ⌜ Steady (readingOf at (now types) (now sets)) ⌝ }
-    ensures { λ r. ⌜ nextOf r (now (types .entry)) (now (sets .entry))
-        ≡ closeStep (now (tag .entry)) (now (accepting .entry)) tags (readingOf at (now (types .entry)) (now (sets .entry))) (g .0) ⌝ }
+    requires { ⌜ at .depth ≤ mostLevels ⌝ }
+    ensures { λ r. ⌜ Closes own tags (now (sets .entry)) at (g .0) r ⌝ }
 {
     if at.finished {
         return stays(11, at);
@@ -198,13 +186,12 @@ pub(crate) fn step_close<'a>(
     if at.depth == 0 {
         return stays(15, at);
     }
-    let level = (at.depth - 1) as usize;
-    let inner = TypeNo(types[level]);
-    let a = inner.0 as usize;
-    if !Tag(tag[a]).same(g) {
+    let tag = own.tag;
+    if !tag.same(g) {
         return stays(16, at);
     }
-    if !StateSet(sets[level]).meets(StateSet(accepting[a])) {
+    let level = (at.depth - 1) as usize;
+    if !StateSet(sets[level]).meets(StateSet(own.accepting)) {
         return stays(17, at);
     }
     Stepped {
@@ -215,6 +202,32 @@ pub(crate) fn step_close<'a>(
             finished: at.finished,
         },
     }
+}
+
+// The same, by the blocks.
+pub(crate) fn step_close_in<'a>(
+    blocks: &'a [u32; BLOCKS],
+    tags: u8,
+    types: &'a [u8; LEVELS],
+    sets: &'a [u32; LEVELS],
+    at: Standing,
+    g: Tag,
+) -> Stepped
+    requires { ⌜ InnerFits (now blocks) (readingOf at (now types) (now sets)) ⌝ }
+    ensures { λ r. ⌜ nextOf r (now (types .entry)) (now (sets .entry))
+        ≡ closeStepIn (now (blocks .entry)) tags (readingOf at (now (types .entry)) (now (sets .entry))) (g .0) ⌝ }
+{
+    if at.depth == 0 {
+        return step_close(NONE_OPEN, tags, sets, at, g);
+    }
+    let level = (at.depth - 1) as usize;
+    let inner = TypeNo(types[level]);
+    let a = inner.0 as usize;
+    let own = Inner {
+        tag: Tag(blocks[block_tag(a)] as u8),
+        accepting: blocks[block_accepting(a)],
+    };
+    step_close(own, tags, sets, at, g)
 }
 
 // A finish, which leaves the levels as they are.

@@ -8,7 +8,7 @@ use schema::STEPS;
 use schema::Schema;
 use schema::TYPES;
 use sdtd::TypeNo;
-ghost use Prim.Native.Nat.{_<_};
+ghost use Prim.Native.Nat.{_^_, _<_};
 
 const TAGS_COUNT: u8 = 0x10;
 
@@ -47,13 +47,13 @@ pub(crate) struct Held {
 }
 
 pub(crate) fn two(low: u8, high: u8) -> usize
-    ensures { λ r. ⌜ r < 65536 ⌝ }
+    ensures { λ r. ⌜ r < 2 ^ 16 ⌝ }
 {
     low as usize + 256 * (high as usize)
 }
 
 fn four(a: u8, b: u8, c: u8, d: u8) -> u32 {
-    a as u32 + 256 * (b as u32) + 65536 * (c as u32) + 16777216 * (d as u32)
+    a as u32 + 256 * (b as u32 + 256 * (c as u32 + 256 * (d as u32)))
 }
 
 fn byte(n: u32) -> u8 {
@@ -61,7 +61,7 @@ fn byte(n: u32) -> u8 {
 }
 
 fn half(n: u32) -> u16 {
-    (n % 65536) as u16
+    (n % 0x10000) as u16
 }
 
 fn with_count(schema: Schema, field: u8, value: u32) -> Schema {

@@ -17,15 +17,23 @@ use crate::show::number;
 use crate::show::show_changes;
 use crate::show::show_event;
 use crate::show::text;
+use competition::LEAST_WITNESS;
 use reading::Next;
 use reading::Reading;
 use schema::Schema;
-use schema_file::FileAnswer;
+use schema_file::MOST_BYTES;
 use schema_file::SchemaFile;
 use sdtd::Tag;
+use sdtd::Verdict;
+
+// The most cases.
+const CASES: u32 = 0x10000;
+
+// The length that ends the cases.
+const END: usize = 0xffff;
 
 // The longest file of a case.
-const FILE: usize = 8389;
+const FILE: usize = MOST_BYTES;
 
 const OPENING: u8 = 0;
 
@@ -102,15 +110,15 @@ fn run_items(schema: Schema, items: usize) {
 
 // Reads the file of a case; beside a refusal stands the value of no schema.
 fn read_schema(file: &mut [u8]) -> SchemaFile {
-    let mut witness = [0u8; 532];
+    let mut witness = [0u8; LEAST_WITNESS];
     let got = io::read_full(INPUT, file);
     schema_file::read(&file[..got], &mut witness)
 }
 
-fn show_file(answer: FileAnswer) {
+fn show_file(answer: Verdict) {
     match answer {
-        FileAnswer::Accepted => text(b"accepted"),
-        FileAnswer::Refused(n, p) => {
+        Verdict::Fine => text(b"accepted"),
+        Verdict::RefusedAt(n, p) => {
             text(b"refused ");
             number(n as u64);
             text(b" at ");
@@ -140,7 +148,7 @@ fn next_case() -> bool {
     let got = io::read_full(INPUT, &mut head);
     let file_length = two(head[0], head[1]);
     let items = two(head[2], head[3]);
-    if got == 4 && file_length == 65535 && items == 65535 {
+    if got == 4 && file_length == END && items == END {
         text(b"end\n");
         return false;
     }
@@ -153,7 +161,7 @@ fn next_case() -> bool {
 
 fn main() {
     let mut case: u32 = 0;
-    while case < 65536 && next_case() {
+    while case < CASES && next_case() {
         case += 1;
     }
 }

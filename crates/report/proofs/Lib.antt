@@ -1,6 +1,5 @@
--- Laws of laying texts, numbers and lines, and of the text printed.
-pub mod LaidLaws
-pub mod DecimalLaws
+-- Laws of laying lines, and of the text printed.
+pub mod LineLaws
 pub mod OpeningLaws
 pub mod ReportLaws
 pub mod TextLengths

@@ -1,8 +1,8 @@
 -- Texts that are printed for the same files, and the texts of document 01.
 use mathlib.Core.Path.{_≡_, refl, sym, ap, subst, _∙_}
 use mathlib.Core.Logic.{_≢_}
-use mathlib.Core.List.{List, [], _∷_, _++_}
-use Prim.Native.Nat.{ℕ, _≤_, _<_}
+use mathlib.Core.List.{List, _++_}
+use Prim.Native.Nat.{ℕ, _≤_}
 use native.Mathlib.Decide.{decLe}
 use native.Mathlib.Omega.{arith}
 use borrow.Author.Tests.{ne-eqb}
@@ -11,20 +11,21 @@ use lib.Seq.{take-all, length-take-le}
 use Rattle.sdtd.specs.Limits.{leastWitness}
 use Rattle.schema_file.specs.Answer.{AnswerIs}
 use Rattle.schema_file.specs.Samples.{FileSample, fileR, fileChoice}
-use Rattle.schema_file.specs.declared.file.FileAnswer.{FileAnswer}
-use Rattle.schema_file.specs.declared.file.FileAnswer.the-variants.{Accepted, Refused}
+use Rattle.sdtd.specs.declared.Verdict.{Verdict}
+use Rattle.sdtd.specs.declared.Verdict.the-variants.{Fine, RefusedAt}
 use Rattle.reading.specs.declared.event_file.EventFile.{EventFile}
-use Rattle.reading.specs.EventFile.{eventsOf}
+use Rattle.events.specs.Events.{eventsOf}
 use Rattle.typing.specs.Job.{JobMeans}
-use Rattle.typing.specs.Outline.{outline}
-use Rattle.typing.specs.Samples.{EventSample, SchemaGets, EventsGet, gets, first, second}
+use Rattle.events.specs.Outline.{outline}
+use Rattle.typing.specs.Samples.{EventSample, SchemaGets, EventsGet, first, second}
 use Rattle.typing.specs.declared.job.Job.{Job}
 use Rattle.typing.specs.declared.job.Job.the-variants.{SchemaRefused, EventsRead}
-use Rattle.typing.proofs.Jobs.{one-job, job-lines, job-enough}
+use Rattle.typing.proofs.Jobs.{one-job, job-meets, job-lines, job-enough}
 use Rattle.typing.proofs.SamplesHold.{samples-hold}
-use Rattle.report.specs.Text.{decimal, refusalLine, rivals, witnessLine, openingLine, lastLine, textOf}
+use Rattle.text.specs.Decimal.{decimal}
+use Rattle.report.specs.Text.{refusalLine, rivals, witnessLine, openingLine, lastLine, textOf}
 use Rattle.report.specs.Report.{mostSchema, mostEvents, typesHeld, JobPrinted, Printed}
-use Rattle.report.specs.Samples.{Prints, textR, textSecond, textChoice, PrintedSamples}
+use Rattle.report.specs.Samples.{PrintedSamples}
 
 -- only a refusal with 9 prints of the witness
 by-types : (events types v w : List ℕ) (job : Job) → ((p : ℕ) → ¬ (job ≡ SchemaRefused 9 p))
@@ -36,22 +37,22 @@ by-types events types v w (SchemaRefused n p) h =
 
 -- a job that refuses the schema has the schema file's answer
 job-answer : {file events wasWitness isWitness wasTypes isTypes : List ℕ} {n p : ℕ}
-    → JobMeans file events wasWitness isWitness wasTypes isTypes (SchemaRefused n p) → AnswerIs file wasWitness (Refused n p)
+    → JobMeans file events wasWitness isWitness wasTypes isTypes (SchemaRefused n p) → AnswerIs file wasWitness (RefusedAt n p)
 job-answer {file} {wasWitness = was} {n = n} {p} j = by (j .file .answer) refl
   where
-    by : (a : FileAnswer) → j .file .answer ≡ a → AnswerIs file was (Refused n p)
-    by (Refused k l) q =
+    by : (a : Verdict) → j .file .answer ≡ a → AnswerIs file was (RefusedAt n p)
+    by (RefusedAt k l) q =
         let s = j .refused k l q .0 in
         let x : k ≡ n = cc in
         let y : l ≡ p = cc in
-        subst (AnswerIs file was) (q ∙ (λ i. Refused (x i) (y i))) (j .schema-file .answer)
-    by Accepted q =
+        subst (AnswerIs file was) (q ∙ (λ i. RefusedAt (x i) (y i))) (j .schema-file .answer)
+    by Fine q =
         let (e, s, m) = j .accepted q in
         let z : _≡_ {A = ℕ} 0 1 = cc in absurd (omega arith)
 
 -- Two texts that are printed for the same files are one, unless the schema file is answered 9.
 pub one-text : {schema events s t : List ℕ} → Printed schema events s → Printed schema events t
-    → ((p : ℕ) → ¬ AnswerIs (take mostSchema schema) (replicate leastWitness 0) (Refused 9 p)) → s ≡ t
+    → ((p : ℕ) → ¬ AnswerIs (take mostSchema schema) (replicate leastWitness 0) (RefusedAt 9 p)) → s ≡ t
 one-text {schema} {events} x y h =
     elim (decLe (length events) mostEvents) [
       | yes k ↦
@@ -70,17 +71,10 @@ one-text {schema} {events} x y h =
 -- the types buffer holds a type for each opening that the count counts
 held : {file events wasWitness isWitness wasTypes isTypes : List ℕ} {e : EventFile}
     → JobMeans file events wasWitness isWitness wasTypes isTypes (EventsRead e) → e .count ≤ length isTypes
-held {wasTypes = was} {isTypes = is} {e = e} j = by (j .file .answer) refl
-  where
-    by : (a : FileAnswer) → j .file .answer ≡ a → e .count ≤ length is
-    by (Refused n p) q =
-        let s = j .refused n p q .0 in
-        let z : _≡_ {A = ℕ} 0 1 = cc in absurd (omega arith)
-    by Accepted q =
-        let (d, s, n) = j .accepted q in
-        let same : d ≡ e = cc in
-        let long = ap length (n .buffer) ∙ length-append (n .types) (drop (length (n .types)) was) in
-        omega (arith, ap (λ (x : EventFile). x .count) same, n .count, long)
+held {wasTypes = was} j =
+    let m = job-meets j in
+    let long = ap length (m .told .buffer) ∙ length-append (m .types) (drop (length (m .types)) was) in
+    omega (arith, m .told .count, long)
 
 -- Each opening taken has its line: there is a type and an opening of the events for each that the count counts.
 pub every-line : {schema events text : List ℕ} {e : EventFile} (a : JobPrinted schema events text) → a .job ≡ EventsRead e
@@ -104,25 +98,26 @@ never-20 long a q =
     job-enough (subst (JobMeans _ _ _ (a .witness) _ (a .types)) q (a .means)) (omega (arith, long-enough typesHeld))
 
 -- the text of a sample whose schema is accepted
-read-prints : (file : List ℕ) (s : EventSample) → SchemaGets (gets file Accepted []) × EventsGet file s → length file ≤ mostSchema
-    → length (s .bytes) ≤ mostEvents → length (s .types) ≤ typesHeld → {text : List ℕ} → Printed file (s .bytes) text
+read-prints : (file : FileSample) (s : EventSample) → file .answer ≡ Fine → SchemaGets file × EventsGet file s
+    → length (file .bytes) ≤ mostSchema → length (s .bytes) ≤ mostEvents → length (s .types) ≤ typesHeld → {text : List ℕ}
+    → Printed (file .bytes) (s .bytes) text
     → (w : List ℕ) × (text ≡ textOf (s .bytes) w (s .types ++ drop (length (s .types)) (replicate typesHeld 0))
     (EventsRead (record { number = s .number; place = s .place; count = length (s .types) })))
-read-prints file s (schema, events) short long room x =
+read-prints file s fine (schema, events) short long room x =
     let a = short-job short long x in
     let j = a .means in
-    let accepted = schema _ _ _ (long-enough leastWitness) (j .schema-file) .0 in
+    let accepted = schema _ _ _ (long-enough leastWitness) (j .schema-file) .0 ∙ fine in
     let (e, q, m) = j .accepted accepted in
     let held : length (s .types) ≤ length (replicate {A = ℕ} typesHeld 0) = omega (arith, long-enough typesHeld) in
     let got = events _ _ _ (long-enough leastWitness) (j .schema-file) _ _ e held m in
     (a .witness, a .prints ∙ (λ i. textOf (s .bytes) (a .witness) (got .1 i) ((q ∙ ap EventsRead (got .0)) i)))
 
 -- the text of a sample whose schema is refused
-refused-prints : (s : FileSample) (n p : ℕ) → s .answer ≡ Refused n p → SchemaGets s → length (s .bytes) ≤ mostSchema → {events : List ℕ}
-    → length events ≤ mostEvents → {text : List ℕ} → Printed (s .bytes) events text
+refused-prints : (file : FileSample) (n p : ℕ) → file .answer ≡ RefusedAt n p → SchemaGets file → length (file .bytes) ≤ mostSchema
+    → {events : List ℕ} → length events ≤ mostEvents → {text : List ℕ} → Printed (file .bytes) events text
     → (types : List ℕ)
-    × (text ≡ textOf events (s .witness ++ drop (length (s .witness)) (replicate leastWitness 0)) types (SchemaRefused n p))
-refused-prints s n p answer schema short {events} long x =
+    × (text ≡ textOf events (file .witness ++ drop (length (file .witness)) (replicate leastWitness 0)) types (SchemaRefused n p))
+refused-prints file n p answer schema short {events} long x =
     let a = short-job short long x in
     let j = a .means in
     let got = schema _ _ _ (long-enough leastWitness) (j .schema-file) in
@@ -132,7 +127,7 @@ refused-prints s n p answer schema short {events} long x =
 pub printed-samples : PrintedSamples
 unfolding decimal refusalLine rivals witnessLine openingLine lastLine textOf
 printed-samples = (
-  λ other x. read-prints fileR first (samples-hold .0) (omega arith) (omega arith) (omega arith) x .1,
-  λ other x. read-prints fileR second (samples-hold .1 .0) (omega arith) (omega arith) (omega arith) x .1,
-  λ events long other x. refused-prints (gets fileChoice (Refused 9 0) (0 ∷ 1 ∷ 2 ∷ 0 ∷ 0 ∷ [])) 9 0 refl (samples-hold .1 .1 .1 .0) (omega arith) long x .1,
+  λ other x. read-prints fileR first refl (samples-hold .0) (omega arith) (omega arith) (omega arith) x .1,
+  λ other x. read-prints fileR second refl (samples-hold .1 .0) (omega arith) (omega arith) (omega arith) x .1,
+  λ events long other x. refused-prints fileChoice 9 0 refl (samples-hold .1 .1 .1 .0) (omega arith) long x .1,
 )

@@ -1,36 +1,24 @@
 -- No text is longer than `mostText`.
-use mathlib.Core.Path.{_≡_, refl, sym, ap, _∙_}
+use mathlib.Core.Path.{_≡_}
 use mathlib.Core.Bool.{Bool, true, false, cond}
 use mathlib.Core.List.{List, [], _∷_, _++_}
-use Prim.Native.Nat.{ℕ, zero, suc, _+_, _*_, _^_, _/_, _%_, _-_, _≤_, _<_}
-use native.Mathlib.Decide.{decLe}
+use Prim.Native.Nat.{ℕ, zero, suc, _+_, _*_, _^_, _-_, _≤_, _<_}
 use native.Mathlib.Omega.{arith}
+use borrow.Author.Tests.{ne-eqb}
 use lib.Dec.{eqb}
 use lib.ListN.{length, take, getD, length-append, length-take}
+use Rattle.sdtd.proofs.Basics.{cond-both}
+use Rattle.competition.specs.Witness.{headOf}
+use Rattle.competition.specs.declared.witness.WitnessHead.{WitnessHead}
 use Rattle.sdtd.specs.Document.{opening, closing, finish}
-use Rattle.reading.specs.EventFile.{Events, ends, stray, event, eventsOf}
+use Rattle.events.specs.Events.{Events, ends, stray, event, eventsOf}
 use Rattle.reading.specs.declared.event_file.EventFile.{EventFile}
-use Rattle.typing.specs.Outline.{Line, outline}
+use Rattle.events.specs.Outline.{Line, outline}
 use Rattle.typing.specs.declared.job.Job.the-variants.{SchemaRefused, EventsRead}
 use Rattle.report.specs.Words.{header, schemaRefused, refused, accepted, lineEnd}
-use Rattle.report.specs.Text.{decimal, numbered, refusalLine, rivals, witnessLine, openingLine, openingLines, lastLine, textOf}
-use Rattle.report.specs.Report.{mostEvents, typesHeld, mostText}
-use Rattle.report.proofs.DecimalLaws.{decimal-one, decimal-more}
-
--- the numbers of at most k + 1 digits
-abbrev tens : ℕ → ℕ
-tens zero = 10
-tens (suc k) = 10 * tens k
-
-decimal-long : (k n : ℕ) → n < tens k → length (decimal n) ≤ suc k
-decimal-long zero n h = omega (arith, ap length (decimal-one n h))
-decimal-long (suc k) n h =
-    elim (decLe 10 n) [
-      | yes t ↦
-          let less = decimal-long k (n / 10) (omega arith) in
-          omega (arith, ap length (decimal-more n t), length-append (decimal (n / 10)) ((0x30 + n % 10) ∷ []))
-      | no t ↦ omega (arith, ap length (decimal-one n (omega arith)))
-    ]
+use Rattle.report.specs.Text.{numbered, refusalLine, rivals, witnessLine, openingLine, openingLines, lastLine, textOf}
+use Rattle.report.specs.Report.{mostEvents, typesHeld, mostLine, mostLast, mostText}
+use Rattle.text.proofs.DecimalLaws.{decimal-long}
 
 -- every byte of a list
 abbrev Bytes : List ℕ → Type 0
@@ -55,26 +43,22 @@ module _ (m : ℕ) where
   abbrev Outlined : ℕ → Events → Type 0
   Outlined n es = (level : ℕ) → level + n ≤ m → Lines m (outline level es)
 
-  either : (n : ℕ) (c : Bool) (x y : Events) → Outlined n x → Outlined n y → Outlined n (cond c x y)
-  either n true x y p q = p
-  either n false x y p q = q
-
   outlined : (file : List ℕ) → Bytes file → Outlined (length file) (eventsOf file)
   outlined [] k = λ level h. tt
-  outlined (b ∷ []) k = either 1 (eqb b 0x2f) (event finish ends) stray (λ level h. tt) (λ level h. tt)
+  outlined (b ∷ []) k = cond-both (Outlined 1) (eqb b 0x2f) (event finish ends) stray (λ level h. tt) (λ level h. tt)
   outlined (b ∷ (g ∷ rest)) (k, (l, more)) =
       let n = suc (suc (length rest)) in
       let opens = event (opening g) (eventsOf rest) in
       let closes = event (closing g) (eventsOf rest) in
       let ended = event finish (eventsOf (g ∷ rest)) in
       let third = cond (eqb b 0x2f) ended stray in
-      either n (eqb b 0x21) opens (cond (eqb b 0x22) closes third)
+      cond-both (Outlined n) (eqb b 0x21) opens (cond (eqb b 0x22) closes third)
       (λ level h. (omega arith, l, outlined rest more (suc level) (omega arith)))
-      (either n (eqb b 0x22) closes third (λ level h. outlined rest more (level - 1) (omega arith))
-      (either n (eqb b 0x2f) ended stray (λ level h. outlined (g ∷ rest) (l, more) level (omega arith)) (λ level h. tt)))
+      (cond-both (Outlined n) (eqb b 0x22) closes third (λ level h. outlined rest more (level - 1) (omega arith))
+      (cond-both (Outlined n) (eqb b 0x2f) ended stray (λ level h. outlined (g ∷ rest) (l, more) level (omega arith)) (λ level h. tt)))
 
--- a line has at most 14 bytes
-line-long : (level tag type : ℕ) → level ≤ mostEvents → tag < 256 → type < 256 → length (openingLine level tag type) ≤ 14
+-- an opening's line
+line-long : (level tag type : ℕ) → level ≤ mostEvents → tag < 256 → type < 256 → length (openingLine level tag type) ≤ mostLine
 unfolding openingLine
 line-long level tag type h k l =
     let a = decimal-long 4 level (omega arith) in
@@ -82,7 +66,7 @@ line-long level tag type h k l =
     let c = decimal-long 2 type (omega arith) in
     simp length-append (omega arith)
 
-lines-long : (js : List ℕ) (ls : List Line) → Bytes js → Lines mostEvents ls → length (openingLines js ls) ≤ 14 * length js
+lines-long : (js : List ℕ) (ls : List Line) → Bytes js → Lines mostEvents ls → length (openingLines js ls) ≤ mostLine * length js
 lines-long [] ls h k = omega arith
 lines-long (j ∷ js) [] h k = omega arith
 lines-long (j ∷ js) (l ∷ ls) (h, hs) (k, g, ks) =
@@ -97,37 +81,50 @@ refusal-long words n p h k =
     let b = decimal-long 19 p (omega arith) in
     simp length-append (omega arith)
 
-last-long : (e : EventFile) → e .number < 256 → e .place < 2 ^ 64 → e .count < 2 ^ 64 → length (lastLine e) ≤ 36
+last-long : (e : EventFile) → e .number < 256 → e .place < 2 ^ 64 → e .count < 2 ^ 64 → length (lastLine e) ≤ mostLast
 unfolding lastLine
 last-long e h k l = by (eqb (e .number) 0)
   where
-    by : (c : Bool) → length (cond c (numbered accepted (e .count) ++ lineEnd) (refusalLine refused (e .number) (e .place))) ≤ 36
+    by : (c : Bool) → length (cond c (numbered accepted (e .count) ++ lineEnd) (refusalLine refused (e .number) (e .place))) ≤ mostLast
     by true = let a = decimal-long 19 (e .count) (omega arith) in simp length-append (omega arith)
     by false = omega (arith, refusal-long refused (e .number) (e .place) h k)
 
-witness-long : (witness : List ℕ) → ((i : ℕ) → getD witness i 0 < 256) → length (witnessLine witness) ≤ 38
+witness-long : (h : WitnessHead) → h .of .0 < 256 → h .first .0 < 256 → h .second .0 < 256 → h .word < 2 ^ 64
+    → length (witnessLine h) ≤ 53
 unfolding rivals witnessLine
-witness-long witness h =
-    let a = decimal-long 2 (getD witness 0 0) (omega (arith, h 0)) in
-    let b = decimal-long 2 (getD witness 1 0) (omega (arith, h 1)) in
-    let c = decimal-long 2 (getD witness 2 0) (omega (arith, h 2)) in
-    let d = decimal-long 4 (getD witness 3 0 + 256 * getD witness 4 0) (omega (arith, h 3, h 4)) in
+witness-long h of first second word =
+    let a = decimal-long 2 (h .of .0) (omega arith) in
+    let b = decimal-long 2 (h .first .0) (omega arith) in
+    let c = decimal-long 2 (h .second .0) (omega arith) in
+    let d = decimal-long 19 (h .word) (omega arith) in
     simp length-append (omega arith)
 
-pub refused-short : (events witness types : List ℕ) (n p : ℕ) → ((i : ℕ) → getD witness i 0 < 256) → n < 256 → p < 2 ^ 64
+-- the text of a schema that is refused with 9, from the head of the witness
+pub nine-short : (events witness types : List ℕ) {h : WitnessHead} {n p : ℕ} → h ≡ headOf witness → h .of .0 < 256
+    → h .first .0 < 256 → h .second .0 < 256 → h .word < 2 ^ 64 → n < 256 → p < 2 ^ 64
     → length (textOf events witness types (SchemaRefused n p)) ≤ mostText
 unfolding textOf
-refused-short events witness types n p h k l = by (eqb n 9)
+nine-short events witness types {h} {n} {p} q of first second word k l = by (eqb n 9)
   where
-    by : (c : Bool) → length (refusalLine schemaRefused n p ++ cond c (witnessLine witness) []) ≤ mostText
+    line : length (witnessLine (headOf witness)) ≤ 53
+    line = rw q at (witness-long h of first second word)
+
+    by : (c : Bool) → length (refusalLine schemaRefused n p ++ cond c (witnessLine (headOf witness)) []) ≤ mostText
     by true =
         omega (
           arith,
-          length-append (refusalLine schemaRefused n p) (witnessLine witness),
+          length-append (refusalLine schemaRefused n p) (witnessLine (headOf witness)),
           refusal-long schemaRefused n p k l,
-          witness-long witness h,
+          line,
         )
     by false = omega (arith, length-append (refusalLine schemaRefused n p) [], refusal-long schemaRefused n p k l)
+
+-- that of a schema that is refused with another number
+pub refused-short : (events witness types : List ℕ) {n p : ℕ} → ¬ (n ≡ 9) → n < 256 → p < 2 ^ 64
+    → length (textOf events witness types (SchemaRefused n p)) ≤ mostText
+unfolding textOf
+refused-short events witness types {n} {p} d k l =
+    rw (ne-eqb n 9 d) (omega (arith, length-append (refusalLine schemaRefused n p) [], refusal-long schemaRefused n p k l))
 
 pub read-short : (events witness types : List ℕ) (e : EventFile) → ((i : ℕ) → getD events i 0 < 256) → ((i : ℕ) → getD types i 0 < 256)
     → length events ≤ mostEvents → length types ≤ typesHeld → e .number < 256 → e .place < 2 ^ 64 → e .count < 2 ^ 64

@@ -1,5 +1,5 @@
 -- The text of a schema that is answered 9: its second line is that of a witness of the schema that the file states.
-use mathlib.Core.Path.{_≡_, refl, sym, ap, subst, _∙_}
+use mathlib.Core.Path.{_≡_, refl, ap, subst, _∙_}
 use mathlib.Core.Logic.{inl, inr}
 use mathlib.Core.List.{List, [], _++_}
 use Prim.Native.Nat.{ℕ, _≤_}
@@ -8,13 +8,15 @@ use lib.ListN.{length, take, drop, replicate}
 use Rattle.sdtd.specs.Limits.{leastWitness}
 use Rattle.sdtd.specs.Schema.{Schema as Meaning}
 use Rattle.sdtd.specs.Competition.{Witness}
+use Rattle.sdtd.proofs.Verdicts.{verdictNumber, verdictPlace, refused-not-fine}
+use Rattle.competition.specs.Witness.{headOf}
 use Rattle.competition.specs.Search.{Written}
+use Rattle.competition.proofs.Answers.{head-written}
 use Rattle.commands.specs.File.{Stated, Commands, stopped, states, commands, schemaBy, unknown, StatesSchema}
 use Rattle.commands.proofs.Passing.{stopped-most}
 use Rattle.schema_file.specs.Answer.{AnswerBy, AnswerIs, OfStated}
-use Rattle.schema_file.specs.declared.file.FileAnswer.{FileAnswer}
-use Rattle.schema_file.specs.declared.file.FileAnswer.the-variants.{Accepted, Refused}
-use Rattle.schema_file.proofs.FileAnswers.{file-unique, refused-accepted}
+use Rattle.sdtd.specs.declared.Verdict.the-variants.{RefusedAt}
+use Rattle.schema_file.proofs.FileAnswers.{file-unique}
 use Rattle.typing.specs.declared.job.Job.the-variants.{SchemaRefused}
 use Rattle.report.specs.Words.{schemaRefused, after, lineEnd}
 use Rattle.report.specs.Text.{numbered, refusalLine, rivals, witnessLine, textOf}
@@ -34,11 +36,9 @@ pub record NinePrinted (file text : List ℕ) : Type 0 where
   pub prints : text ≡ refusalLine schemaRefused 9 0 ++ lineOf witness
 
 -- the line of the witness's bytes, whatever follows them
-line-written : {S : Meaning} {bytes : List ℕ} (w : Witness S bytes) (rest : List ℕ) → witnessLine (bytes ++ rest) ≡ lineOf w
+line-written : {S : Meaning} {bytes : List ℕ} (w : Witness S bytes) (rest : List ℕ) → witnessLine (headOf (bytes ++ rest)) ≡ lineOf w
 unfolding witnessLine
-line-written w rest =
-    subst (λ (l : List ℕ). witnessLine (l ++ rest) ≡ lineOf w) (sym (w .written))
-    (ap (λ (n : ℕ). rivals (w .type) (w .first) (w .second) ++ (numbered after n ++ lineEnd)) (omega arith))
+line-written w rest = ap witnessLine (head-written w rest)
 
 -- a file that is answered 9: the place is 0, and it passes questions 2 to 7
 record Nine (file : List ℕ) (place : ℕ) : Type 0 where
@@ -47,29 +47,20 @@ record Nine (file : List ℕ) (place : ℕ) : Type 0 where
   pub passes : commands file ≡ states stated
   pub known : unknown stated ≡ []
 
--- a refusal's number and place
-abbrev number : FileAnswer → ℕ
-number Accepted = 0
-number (Refused n p) = n
+nine-by : (file : List ℕ) {p : ℕ} (k : Commands) → commands file ≡ k → AnswerBy k (RefusedAt 9 p) → Nine file p
+nine-by file (stopped n l) e r = absurd (omega (arith, ap verdictNumber r, stopped-most file e))
+nine-by file (states g) e (inl o) = absurd (omega (arith, ap verdictNumber (o .1)))
+nine-by file (states g) e (inr (k, inl o)) = absurd (omega (arith, ap verdictNumber (o .1)))
+nine-by file (states g) e (inr (k, inr (b, inl o))) = record { first-place = ap verdictPlace (o .1); stated = g; passes = e; known = k }
+nine-by file (states g) e (inr (k, inr (b, inr (n, o)))) = refused-not-fine refl o
 
-abbrev place : FileAnswer → ℕ
-place Accepted = 0
-place (Refused n p) = p
-
-nine-by : (file : List ℕ) {p : ℕ} (k : Commands) → commands file ≡ k → AnswerBy k (Refused 9 p) → Nine file p
-nine-by file (stopped n l) e r = absurd (omega (arith, ap number r, stopped-most file e))
-nine-by file (states g) e (inl o) = absurd (omega (arith, ap number (o .1)))
-nine-by file (states g) e (inr (k, inl o)) = absurd (omega (arith, ap number (o .1)))
-nine-by file (states g) e (inr (k, inr (b, inl o))) = record { first-place = ap place (o .1); stated = g; passes = e; known = k }
-nine-by file (states g) e (inr (k, inr (b, inr (n, o)))) = refused-accepted refl o
-
-nine : (file was : List ℕ) {p : ℕ} → AnswerIs file was (Refused 9 p) → Nine file p
-nine file was (inl o) = absurd (omega (arith, ap number (o .1)))
+nine : (file was : List ℕ) {p : ℕ} → AnswerIs file was (RefusedAt 9 p) → Nine file p
+nine file was (inl o) = absurd (omega (arith, ap verdictNumber (o .1)))
 nine file was (inr o) = nine-by file (commands file) refl (o .1)
 
 -- Where the schema file is answered 9, the second line printed is that of a witness of the schema that the file states.
 pub nine-line : {schema events text : List ℕ} {p : ℕ} → Printed schema events text → length events ≤ mostEvents
-    → AnswerIs (take mostSchema schema) (replicate leastWitness 0) (Refused 9 p) → NinePrinted (take mostSchema schema) text
+    → AnswerIs (take mostSchema schema) (replicate leastWitness 0) (RefusedAt 9 p) → NinePrinted (take mostSchema schema) text
 unfolding textOf
 nine-line {schema} {events} x long r =
     let file = take mostSchema schema in
@@ -77,8 +68,8 @@ nine-line {schema} {events} x long r =
     let a = x .answered long in
     let j = a .means in
     let k = nine file was r in
-    let answer : j .file .answer ≡ Refused 9 0 =
-    file-unique file was (j .schema-file .answer) r ∙ ap (λ (l : ℕ). Refused 9 l) (k .first-place) in
+    let answer : j .file .answer ≡ RefusedAt 9 0 =
+    file-unique file was (j .schema-file .answer) r ∙ ap (λ (l : ℕ). RefusedAt 9 l) (k .first-place) in
     let w : Written (schemaBy (k .stated)) was (a .witness) =
     subst (λ (c : Commands). OfStated c (λ g. Written (schemaBy g) was (a .witness))) (k .passes)
     (j .schema-file .buffer .0 answer) in
@@ -92,5 +83,5 @@ nine-line {schema} {events} x long r =
           a .prints
           ∙ ap (textOf events (a .witness) (a .types)) job
           ∙ ap (λ (l : List ℕ). refusalLine schemaRefused 9 0 ++ l)
-          (ap witnessLine (w .filled) ∙ line-written (w .witness) (drop (length (w .bytes)) was));
+          (ap (λ (l : List ℕ). witnessLine (headOf l)) (w .filled) ∙ line-written (w .witness) (drop (length (w .bytes)) was));
     }

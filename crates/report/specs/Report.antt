@@ -6,7 +6,7 @@ use lib.ListN.{length, take, drop, replicate}
 use Rattle.sdtd.specs.Limits.{leastWitness}
 use Rattle.typing.specs.Job.{JobMeans}
 use Rattle.typing.specs.declared.job.Job.{Job}
-use Rattle.report.specs.Words.{tooLong}
+use Rattle.report.specs.Words.{header, tooLong}
 use Rattle.report.specs.Text.{textOf}
 
 -- "`schema.tab` (its first 16,384 bytes; none if it is missing)"
@@ -21,10 +21,17 @@ mostEvents = 32768
 abbrev pub typesHeld : ℕ
 typesHeld = 16384
 
--- No text is longer: the first line has 15 bytes; a line for each type that the buffer holds, a level of at most 5 digits, a tag and a type of
--- at most 3, two spaces and its end; the last line has at most 36, a number of at most 3 digits and a place of at most 20 among them.
+-- the most bytes of an opening's line: a level of at most 5 digits, a tag and a type of at most 3, two spaces and its end
+abbrev pub mostLine : ℕ
+mostLine = 14
+
+-- the most bytes of the last line: a number of at most 3 digits and a place of at most 20 among them
+abbrev pub mostLast : ℕ
+mostLast = 36
+
+-- No text is longer: the first line, a line for each type that the buffer holds, and the last.
 abbrev pub mostText : ℕ
-mostText = 15 + 14 * typesHeld + 36
+mostText = length header + mostLine * typesHeld + mostLast
 
 -- The text of a job on the schema's bytes and the events, from buffers of zeros. J, K and w are the program's choice, so the witness
 -- line is one of those that the job's promise leaves; all else is fixed by the two files (`one-text`).

@@ -37,5 +37,5 @@ textChoice =
 -- The three, from the bytes of their files; the events of a refused schema are not read.
 abbrev pub PrintedSamples : Type 0
 PrintedSamples =
-    Prints fileR (first .bytes) textR × Prints fileR (second .bytes) textSecond
-    × ((events : List ℕ) → length events ≤ mostEvents → Prints fileChoice events textChoice)
+    Prints (fileR .bytes) (first .bytes) textR × Prints (fileR .bytes) (second .bytes) textSecond
+    × ((events : List ℕ) → length events ≤ mostEvents → Prints (fileChoice .bytes) events textChoice)

@@ -1,24 +1,19 @@
 -- The text that the program prints: document 01, "The event file", second paragraph.
 use mathlib.Core.Bool.{cond}
 use mathlib.Core.List.{List, [], _∷_, _++_}
-use Prim.Native.Nat.{ℕ, zero, suc, _+_, _*_, _/_, _%_}
-use lib.Dec.{eqb, ltb}
-use lib.ListN.{getD, take}
-use Rattle.reading.specs.EventFile.{eventsOf}
+use Prim.Native.Nat.{ℕ}
+use lib.Dec.{eqb}
+use lib.ListN.{take}
+use Rattle.text.specs.Decimal.{decimal}
+use Rattle.events.specs.Events.{eventsOf}
+use Rattle.competition.specs.Witness.{headOf}
+use Rattle.competition.specs.declared.witness.WitnessHead.{WitnessHead}
+use Rattle.reading.specs.EventFile.{storedTypes}
 use Rattle.reading.specs.declared.event_file.EventFile.{EventFile}
-use Rattle.typing.specs.Outline.{Line, outline}
+use Rattle.events.specs.Outline.{Line, outline}
 use Rattle.typing.specs.declared.job.Job.{Job}
 use Rattle.typing.specs.declared.job.Job.the-variants.{SchemaRefused, EventsRead}
 use Rattle.report.specs.Words.{header, schemaRefused, refused, atPlace, typeOf, gives, orElse, after, accepted, space, lineEnd}
-
--- The digits of a number, the most significant first, where it has at most k of them.
-abbrev pub digits : ℕ → ℕ → List ℕ
-digits zero n = []
-digits (suc k) n = cond (ltb n 10) ((0x30 + n) ∷ []) (digits k (n / 10) ++ ((0x30 + n % 10) ∷ []))
-
--- A number in decimal digits, with no zero in front: no number has more digits than one more than itself.
-unfoldable pub decimal : ℕ → List ℕ
-decimal n = digits (suc n) n
 
 -- words, and a number after them
 abbrev pub numbered : List ℕ → ℕ → List ℕ
@@ -32,11 +27,9 @@ refusalLine words n p = numbered words n ++ (numbered atPlace p ++ lineEnd)
 unfoldable pub rivals : ℕ → ℕ → ℕ → List ℕ
 rivals a j k = numbered typeOf a ++ (numbered gives j ++ numbered orElse k)
 
--- "for 9, a line `type A gives J or K after n`": the witness has byte A, byte J, byte K, the length n of w in two bytes, low byte first.
-unfoldable pub witnessLine : List ℕ → List ℕ
-witnessLine witness =
-    rivals (getD witness 0 0) (getD witness 1 0) (getD witness 2 0)
-    ++ (numbered after (getD witness 3 0 + 256 * getD witness 4 0) ++ lineEnd)
+-- "for 9, a line `type A gives J or K after n`", from the head of the witness
+unfoldable pub witnessLine : WitnessHead → List ℕ
+witnessLine h = rivals (h .of .0) (h .first .0) (h .second .0) ++ (numbered after (h .word) ++ lineEnd)
 
 -- "Each middle line has the opening's level, tag and type".
 unfoldable pub openingLine : ℕ → ℕ → ℕ → List ℕ
@@ -56,6 +49,6 @@ lastLine e = cond (eqb (e .number) 0) (numbered accepted (e .count) ++ lineEnd) 
 -- "A refused schema prints only `schema refused N at P` and, for 9, a line" from the witness buffer. Under an accepted one: the first line, a
 -- line for each opening taken, its type from the types buffer, and the last line.
 unfoldable pub textOf : List ℕ → List ℕ → List ℕ → Job → List ℕ
-textOf events witness types (SchemaRefused n p) = refusalLine schemaRefused n p ++ cond (eqb n 9) (witnessLine witness) []
+textOf events witness types (SchemaRefused n p) = refusalLine schemaRefused n p ++ cond (eqb n 9) (witnessLine (headOf witness)) []
 textOf events witness types (EventsRead e) =
-    header ++ (openingLines (take (e .count) types) (outline 0 (eventsOf events)) ++ lastLine e)
+    header ++ (openingLines (take (e .count) (storedTypes types)) (outline 0 (eventsOf events)) ++ lastLine e)

@@ -1,9 +1,7 @@
 // What the program prints for a schema file and an event file, on slices: everything but the reading and the writing.
 mod lines;
-mod number;
 mod openings;
 mod program;
-mod text;
 
 pub use program::MOST_EVENTS;
 pub use program::MOST_SCHEMA;

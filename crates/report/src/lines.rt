@@ -1,14 +1,13 @@
 // The lines of the text.
-use crate::number::put_number;
-use crate::text::put;
-use crate::text::put_text;
+use competition::WitnessHead;
 use reading::EventFile;
 use sdtd::Tag;
 use sdtd::TypeNo;
+use text::put_byte;
+use text::put_bytes;
+use text::put_decimal;
 ghost use mathlib.Core.Path.{_≡_};
-ghost use Prim.Native.Nat.{_+_, _*_, _≤_};
-ghost use lib.ListN.{length};
-ghost use Rattle.report.specs.Laid.{Laid};
+ghost use Rattle.text.specs.Laid.{Laid};
 ghost use Rattle.report.specs.Text.{numbered, refusalLine, rivals, witnessLine, openingLine, lastLine};
 
 const END: u8 = 0x0a;
@@ -19,19 +18,12 @@ fn wide(byte: u8) -> usize
     byte as usize
 }
 
-// Two bytes as a number, the low one first.
-fn two(low: u8, high: u8) -> usize
-    ensures { λ r. ⌜ r ≡ low + 256 * high ⌝ }
-{
-    low as usize + 256 * (high as usize)
-}
-
 // Puts words and a number after them.
 fn put_numbered(out: &mut [u8], at: usize, words: &[u8], n: usize) -> usize
     ensures { λ r. ⌜ Laid (now (out .entry)) at (numbered (now (words .entry)) n) (now (out .exit)) r ⌝ }
 {
-    let place = put_text(out, at, words);
-    put_number(out, place, n)
+    let place = put_bytes(out, at, words);
+    put_decimal(out, place, n)
 }
 
 // `N at P` after the words.
@@ -46,7 +38,7 @@ pub(crate) fn put_refusal(
 {
     let first = put_numbered(out, at, words, wide(number));
     let second = put_numbered(out, first, b" at ", place);
-    put(out, second, END)
+    put_byte(out, second, END)
 }
 
 // `type A gives J or K`.
@@ -58,20 +50,13 @@ fn put_rivals(out: &mut [u8], at: usize, a: TypeNo, j: TypeNo, k: TypeNo) -> usi
     put_numbered(out, second, b" or ", wide(k.0))
 }
 
-// `type A gives J or K after n`, from the bytes of a witness.
-pub(crate) fn put_witness(out: &mut [u8], at: usize, witness: &[u8]) -> usize
-    requires { ⌜ 5 ≤ length (now witness) ⌝ }
-    ensures { λ r. ⌜ Laid (now (out .entry)) at (witnessLine (now (witness .entry))) (now (out .exit)) r ⌝ }
+// `type A gives J or K after n`, from the head of a witness.
+pub(crate) fn put_witness(out: &mut [u8], at: usize, head: WitnessHead) -> usize
+    ensures { λ r. ⌜ Laid (now (out .entry)) at (witnessLine head) (now (out .exit)) r ⌝ }
 {
-    let first = put_rivals(
-        out,
-        at,
-        TypeNo(witness[0]),
-        TypeNo(witness[1]),
-        TypeNo(witness[2]),
-    );
-    let last = put_numbered(out, first, b" after ", two(witness[3], witness[4]));
-    put(out, last, END)
+    let first = put_rivals(out, at, head.of, head.first, head.second);
+    let last = put_numbered(out, first, b" after ", head.word);
+    put_byte(out, last, END)
 }
 
 // An opening's level, tag and type.
@@ -84,10 +69,10 @@ pub(crate) fn put_opening(
 ) -> usize
     ensures { λ r. ⌜ Laid (now (out .entry)) at (openingLine level (tag .0) («type_no» .0)) (now (out .exit)) r ⌝ }
 {
-    let first = put_number(out, at, level);
+    let first = put_decimal(out, at, level);
     let second = put_numbered(out, first, b" ", wide(tag.0));
     let third = put_numbered(out, second, b" ", wide(type_no.0));
-    put(out, third, END)
+    put_byte(out, third, END)
 }
 
 // `accepted` with the count of openings, or `refused N at P`.
@@ -96,7 +81,7 @@ pub(crate) fn put_last(out: &mut [u8], at: usize, e: EventFile) -> usize
 {
     if e.number == 0 {
         let place = put_numbered(out, at, b"accepted ", e.count);
-        put(out, place, END)
+        put_byte(out, place, END)
     } else {
         put_refusal(out, at, b"refused ", e.number, e.place)
     }

@@ -1,15 +1,18 @@
 // The lines of the openings taken.
 use crate::lines::put_opening;
+use events::Cursor;
+use events::NextOpening;
+use events::next_opening;
 use sdtd::TypeNo;
-use typing::Cursor;
-use typing::Found;
-use typing::next_opening;
+ghost use mathlib.Core.Path.{_≡_};
 ghost use Prim.Native.Nat.{_<_};
 ghost use lib.ListN.{length};
-ghost use Rattle.reading.specs.EventFile.{eventsOf};
-ghost use Rattle.typing.specs.Outline.{outline, found};
-ghost use Rattle.report.specs.Laid.{Laid, NextPut};
+ghost use Rattle.text.specs.Laid.{Laid};
+ghost use Rattle.events.specs.Events.{eventsOf};
+ghost use Rattle.events.specs.Outline.{outline, nextOpening};
+ghost use Rattle.reading.specs.EventFile.{storedType};
 ghost use Rattle.report.specs.Text.{openingLines};
+ghost use Rattle.report.specs.Steps.{NextPut};
 
 // How far the lines have come: a place in the buffer, a cursor in the events, and how many types have their line.
 pub(crate) struct Printing {
@@ -18,24 +21,32 @@ pub(crate) struct Printing {
     pub done: usize,
 }
 
+// The type at a place of the types' buffer.
+fn stored_type(types: &[u8], i: usize) -> TypeNo
+    requires { ⌜ i < length (now types) ⌝ }
+    ensures { λ r. ⌜ r .0 ≡ storedType (now (types .entry)) i ⌝ }
+{
+    TypeNo(types[i])
+}
+
 // Puts the line of the next opening; where the events have no other, no line is left.
 fn put_next(out: &mut [u8], events: &[u8], types: &[u8], p: Printing) -> Printing
     requires { ⌜ p .done < length (now types) ⌝ }
-    ensures { λ r. ⌜ NextPut (now (types .entry)) (found (now (events .entry)) (p .cursor)) p (now (out .entry)) (now (out .exit)) r ⌝ }
+    ensures { λ r. ⌜ NextPut (now (types .entry)) (nextOpening (now (events .entry)) (p .cursor)) p (now (out .entry)) (now (out .exit)) r ⌝ }
 {
     let cursor = p.cursor;
     let done = p.done;
     let next = next_opening(events, cursor);
     match next {
-        Found::Opening(g, c) => {
-            let at = put_opening(out, p.at, c.level, g, TypeNo(types[done]));
+        NextOpening::Opening(g, c) => {
+            let at = put_opening(out, p.at, c.level, g, stored_type(types, done));
             Printing {
                 at: at,
                 cursor: c,
                 done: done + 1,
             }
         }
-        Found::NoOpening => Printing {
+        NextOpening::NoOpening => Printing {
             at: p.at,
             cursor: cursor,
             done: types.len(),

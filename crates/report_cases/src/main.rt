@@ -5,15 +5,21 @@
 use libc::STDOUT_FILENO;
 use report::OUTPUT;
 use report::report;
-ghost use Prim.Native.Nat.{_≤_};
+ghost use Prim.Native.Nat.{_^_, _<_};
+
+// The most cases.
+const CASES: u32 = 0x10000;
+
+// The length that ends the cases.
+const END: usize = 0xffff;
 
 // The longest schema file and event file of a case.
-const FILE: usize = 65535;
+const FILE: usize = END;
 
 const INPUT: i32 = 0;
 
 fn two(low: u8, high: u8) -> usize
-    ensures { λ r. ⌜ r ≤ 65535 ⌝ }
+    ensures { λ r. ⌜ r < 2 ^ 16 ⌝ }
 {
     low as usize + 256 * (high as usize)
 }
@@ -52,7 +58,7 @@ fn next_case() -> bool {
     let got = io::read_full(INPUT, &mut head);
     let schema_length = two(head[0], head[1]);
     let events_length = two(head[2], head[3]);
-    if got == 4 && schema_length == 65535 && events_length == 65535 {
+    if got == 4 && schema_length == END && events_length == END {
         text(b"end\n");
         return false;
     }
@@ -65,7 +71,7 @@ fn next_case() -> bool {
 
 fn main() {
     let mut case: u32 = 0;
-    while case < 65536 && next_case() {
+    while case < CASES && next_case() {
         case += 1;
     }
 }

@@ -2,7 +2,7 @@
 use mathlib.Core.Path.{_≡_, refl, _∙_, ap}
 use mathlib.Core.Logic.{_↔_}
 use mathlib.Core.Bool.{Bool, true, false}
-use mathlib.Core.List.{List, [], _∷_, _++_, List·Memᴰ, List·Memᴰ·head, List·Memᴰ·tail, List·Memᴰ·not-nil}
+use mathlib.Core.List.{List, [], _∷_, _++_, List·Memᴰ, List·Memᴰ·not-nil}
 use Prim.Native.Nat.{ℕ, zero, suc, _-_, _%_, _^_, _≤_, _<_}
 use native.Mathlib.Decide.{ℕ-discrete, decLt}
 use native.Mathlib.Omega.{arith}
@@ -11,25 +11,22 @@ use lib.Dec.{T, lit<}
 use lib.ListN.{length, getD, set, take, replicate, length-append, length-take, length-replicate}
 use lib.ListN.{getD-replicate, List·getD-append}
 use lib.Seq.{getD-take, getD-set-same, getD-set-other}
-use Rattle.sdtd.specs.Schema.{Step, Block, noBlock, blockOf, WithinLimits}
+use Rattle.sdtd.specs.Limits.{mostTypes, mostStates}
+use Rattle.sdtd.specs.Schema.{Step, blockOf, WithinLimits}
 use Rattle.schema.specs.States.{member}
 use Rattle.schema.specs.Value.{stepsOf, offset, blockAt, meaning}
 use Rattle.schema.specs.Spread.{firstSets}
 use Rattle.schema.specs.declared.value.Schema.{Schema}
 use Rattle.schema.proofs.Bits.{member-none, member-start, mem-members}
 use Rattle.schema.proofs.Values.{steps-mem, types-count, block-of, no-block-of}
+use Rattle.schema.proofs.LimitLaws.{own-within, within-room}
 use Rattle.schema.proofs.SpreadLaws.{own}
 
--- The value's tables are as long as their arrays, and a set of states is a number of 32 bits.
+-- The value's tables are as long as their arrays, and its sets have only states.
 pub record Fits (v : Schema) : Type 0 where
-  pub accepting-long : length (v .accepting) ≡ 64
-  pub steps-long : length (v .steps) ≡ 64
-  pub accepting-below : (a : ℕ) → getD (v .accepting) a 0 < 2 ^ 32
-
-block-mem : (bs : List Block) (a : ℕ) → a < length bs → List·Memᴰ (getD bs a noBlock) bs
-block-mem [] a l = absurd (omega arith)
-block-mem (b ∷ bs) zero l = List·Memᴰ·head refl
-block-mem (b ∷ bs) (suc a) l = List·Memᴰ·tail (block-mem bs a (omega arith))
+  pub accepting-long : length (v .accepting) ≡ mostTypes
+  pub steps-long : length (v .steps) ≡ mostTypes
+  pub accepting-below : (a : ℕ) → getD (v .accepting) a 0 < 2 ^ mostStates
 
 -- a step the other way round
 abbrev pub back : Step → Step
@@ -43,14 +40,14 @@ own-back from by to steps a x m =
     steps-mem to by from (offset steps a) (getD steps a 0) (back x) .1
     (record { place = p .place; least = p .least; most = p .most; is = ap back (p .is) })
 
--- a table with the same everywhere
-same : {A : Type 0} (d : A) (n a : ℕ) → getD (replicate n d) a d ≡ d
-same d zero a = refl
-same d (suc n) zero = refl
-same d (suc n) (suc a) = same d n a
+-- a table with the same everywhere, past its end too
+pub same-everywhere : {A : Type 0} (d : A) (n a : ℕ) → getD (replicate n d) a d ≡ d
+same-everywhere d zero a = refl
+same-everywhere d (suc n) zero = refl
+same-everywhere d (suc n) (suc a) = same-everywhere d n a
 
 past-take : (n m : ℕ) (xs : List ℕ) (a : ℕ) → n ≤ length xs → n ≤ a → getD (take n xs ++ replicate m 0) a 0 ≡ 0
-past-take zero m xs a l h = same 0 m a
+past-take zero m xs a l h = same-everywhere 0 m a
 past-take (suc n) m [] a l h = absurd (omega arith)
 past-take (suc n) m (x ∷ xs) zero l h = absurd (omega arith)
 past-take (suc n) m (x ∷ xs) (suc a) l h = past-take n m xs a (omega arith) (omega arith)
@@ -58,7 +55,7 @@ past-take (suc n) m (x ∷ xs) (suc a) l h = past-take n m xs a (omega arith) (o
 -- the table with one entry marked
 pub one-only : (n r a : ℕ) → T (getD (set (replicate n false) r true) a false) → a ≡ r
 one-only n r a m =
-    elim (ℕ-discrete a r) [ yes e ↦ e | no d ↦ absurd (rw (getD-set-other (replicate n false) r a true false d, same false n a) at m) ]
+    elim (ℕ-discrete a r) [ yes e ↦ e | no d ↦ absurd (rw (getD-set-other (replicate n false) r a true false d, same-everywhere false n a) at m) ]
 
 pub one-in : (n r : ℕ) → r < n → T (getD (set (replicate n false) r true) r false)
 one-in n r l = rw (getD-set-same (replicate n false) r true false (rw length-replicate l)) tt
@@ -68,11 +65,6 @@ pub start-only : (n a q : ℕ) → T (member q (getD (replicate n 1) a 0)) → q
 start-only zero a q m = absurd (member-none q m)
 start-only (suc n) zero q m = member-start q .0 m
 start-only (suc n) (suc a) q m = start-only n a q m
-
-pub start-below : (n a : ℕ) → getD (replicate n 1) a 0 < 2 ^ 32
-start-below zero a = lit< tt
-start-below (suc n) zero = lit< tt
-start-below (suc n) (suc a) = start-below n a
 
 pub start-in : (n a : ℕ) → a < n → T (member 0 (getD (replicate n 1) a 0))
 start-in n a l = rw (getD-replicate {A = ℕ} n a 1 0 l) (member-start 0 .1 refl)
@@ -89,7 +81,7 @@ abbrev pub firstLive : Schema → List ℕ
 firstLive v = firstSets (v .types) (v .accepting)
 
 abbrev pub firstReached : Schema → List Bool
-firstReached v = set (replicate 64 false) (v .root .0) true
+firstReached v = set (replicate mostTypes false) (v .root .0) true
 
 pub root-is : (v : Schema) → meaning v .root ≡ v .root .0
 unfolding meaning
@@ -99,13 +91,13 @@ root-is v = refl
 pub record OwnStep (v : Schema) (a : ℕ) (s : Step) : Type 0 where
   pub type : a < v .types
   pub given : List·Memᴰ s (own (v .steps) (forth v) a)
-  pub from : s .from < 32
-  pub by : s .by % 64 ≡ s .by
-  pub to : s .to < 32
+  pub from : s .from < mostStates
+  pub by : s .by % mostTypes ≡ s .by
+  pub to : s .to < mostStates
 
 module _ {v : Schema} (fits : Fits v) (within : WithinLimits (meaning v)) where
-  pub types-most : v .types ≤ 64
-  types-most = rw types-count at (within .types-most)
+  pub types-most : v .types ≤ mostTypes
+  types-most = within-room v within .types
 
   -- the steps of a type's block are those that the rounds take
   pub own-steps : (a : ℕ) → a < v .types → blockOf (meaning v) a .steps ≡ own (v .steps) (forth v) a
@@ -121,16 +113,14 @@ module _ {v : Schema} (fits : Fits v) (within : WithinLimits (meaning v)) where
   pub own-step : (a : ℕ) (s : Step) → List·Memᴰ s (blockOf (meaning v) a .steps) → OwnStep v a s
   own-step a s m =
       let l = own-type a s m in
-      let b = within .blocks (blockOf (meaning v) a) (block-mem (meaning v .blocks) a (rw types-count l)) in
-      let w = b .steps s m in
-      let most = b .states-most in
+      let w = own-within (meaning v) a within (rw types-count l) s m in
       let types = within .types-most in
       record {
         type = l;
         given = rw (own-steps a l) at m;
-        from = omega (arith, w .from);
+        from = w .from;
         by = mod-eq-of-lt (omega (arith, w .by));
-        to = omega (arith, w .to);
+        to = w .to;
       }
 
   -- the first table has each type's accepting states, and nothing past the types
@@ -138,12 +128,12 @@ module _ {v : Schema} (fits : Fits v) (within : WithinLimits (meaning v)) where
   unfolding firstSets
   first-own a l =
       let n = types-most in
-      List·getD-append (take (v .types) (v .accepting)) (replicate (64 - v .types) 0) 0 a
+      List·getD-append (take (v .types) (v .accepting)) (replicate (mostTypes - v .types) 0) 0 a
       (rw (length-take, fits .accepting-long) (omega arith)) ∙ getD-take (v .types) (v .accepting) a 0 l
 
   first-other : (a : ℕ) → v .types ≤ a → getD (firstLive v) a 0 ≡ 0
   unfolding firstSets
-  first-other a l = past-take (v .types) (64 - v .types) (v .accepting) a (omega (arith, fits .accepting-long, types-most)) l
+  first-other a l = past-take (v .types) (mostTypes - v .types) (v .accepting) a (omega (arith, fits .accepting-long, types-most)) l
 
   pub accepts : (a q : ℕ) → List·Memᴰ q (blockOf (meaning v) a .accepting) ↔ T (member q (getD (firstLive v) a 0))
   unfolding blockAt
@@ -155,18 +145,18 @@ module _ {v : Schema} (fits : Fits v) (within : WithinLimits (meaning v)) where
             (λ m. absurd (List·Memᴰ·not-nil m), λ m. absurd (member-none q m))
       ]
 
-  pub first-long : length (firstLive v) ≡ 64
+  pub first-long : length (firstLive v) ≡ mostTypes
   unfolding firstSets
   first-long =
       let n = types-most in
       simp (length-append, length-take, length-replicate, fits .accepting-long) (omega arith)
 
-  pub first-below : (a : ℕ) → getD (firstLive v) a 0 < 2 ^ 32
+  pub first-below : (a : ℕ) → getD (firstLive v) a 0 < 2 ^ mostStates
   first-below a =
       elim (decLt a (v .types)) [
         | yes l ↦ rw (first-own a l) (fits .accepting-below a)
         | no l ↦ rw (first-other a (omega arith)) (lit< tt)
       ]
 
-  pub root-below : v .root .0 < 64
-  root-below = omega (arith, root-is v, types-count v, within .root, types-most)
+  pub root-below : v .root .0 < mostTypes
+  root-below = within-room v within .root

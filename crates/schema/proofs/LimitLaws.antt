@@ -9,9 +9,11 @@ use native.Mathlib.Numerals.{add-one}
 use native.Mathlib.Omega.{arith}
 use borrow.Author.Tests.{not-false}
 use lib.Dec.{T, T-not}
-use lib.ListN.{getD}
+use lib.ListN.{length, getD}
 use Rattle.sdtd.specs.Limits.{mostTags, mostTypes, mostStates, mostSteps}
-use Rattle.sdtd.specs.Schema.{Step, Block, StepWithin, BlockWithin, WithinLimits, stepsIn}
+use Rattle.sdtd.specs.Schema.{Step, Block, noBlock, blockOf, StepWithin, BlockWithin, WithinLimits, stepsIn}
+use Rattle.sdtd.specs.Schema.{Schema as Meaning}
+use Rattle.sdtd.proofs.Basics.{getD-member}
 use Rattle.schema.specs.States.{members}
 use Rattle.schema.specs.Value.{upFrom, stepAt, stepsOf, offset, blockAt, meaning}
 use Rattle.schema.specs.Limits.{StepsWithin, BlockFits, BlocksFit}
@@ -82,6 +84,15 @@ module _ (tag states accepting steps : List ℕ) (part : ℕ → ℕ → List St
         let l : types - a ≡ suc (types - suc a) = omega arith in
         rw (count, add-one, l) (λ f. (λ w. (w .1, w .2), λ w. (f, w .0, w .1)))
 
+-- the steps of a type of a schema inside the limits
+pub own-within : (S : Meaning) (a : ℕ) → WithinLimits S → a < length (S .blocks)
+    → StepsWithin mostStates (length (S .blocks)) (blockOf S a .steps)
+own-within S a within l s m =
+    let b = within .blocks (blockOf S a) (getD-member (S .blocks) a noBlock l) in
+    let w = b .steps s m in
+    let most = b .states-most in
+    record { from = omega (arith, w .from); by = w .by; to = omega (arith, w .to) }
+
 -- what the checks ask of a value
 pub record Checked (v : Schema) : Type 0 where
   pub tags-least : 1 ≤ v .tags
@@ -91,7 +102,7 @@ pub record Checked (v : Schema) : Type 0 where
   pub blocks :
       BlocksFit (v .tag) (v .states) (v .accepting) (v .steps) (stepsOf (v .from) (v .by) (v .to)) (v .tags) (v .types) 0 0 (v .types)
 
-module _ (v : Schema) (sets : (a : ℕ) → getD (v .accepting) a 0 < 2 ^ 32) where
+module _ (v : Schema) (sets : (a : ℕ) → getD (v .accepting) a 0 < 2 ^ mostStates) where
   -- the accepting states are below the state count
   sets-mean : (a : ℕ)
       → getD (v .states) a 0 ≤ mostStates
@@ -183,7 +194,7 @@ module _ (v : Schema) (sets : (a : ℕ) → getD (v .accepting) a 0 < 2 ^ 32) wh
 -- the steps of the types are as many as their counts say
 steps-total : (v : Schema) (a n : ℕ) → offset (v .steps) a + stepsIn (map (blockAt v) (upFrom a n)) ≡ offset (v .steps) (a + n)
 unfolding upFrom blockAt
-steps-total v a zero = rw (add-zero, add-zero)
+steps-total v a zero = add-zero (offset (v .steps) a) ∙ sym (ap (offset (v .steps)) (add-zero a))
 steps-total v a (suc n) =
     let k = getD (v .steps) a 0 in
     omega (
@@ -196,9 +207,9 @@ steps-total v a (suc n) =
 
 -- what the loops ask of a value inside the limits
 pub record Room (v : Schema) : Type 0 where
-  pub types : v .types ≤ 64
-  pub steps : offset (v .steps) (v .types) ≤ 1024
-  pub root : v .root .0 < 64
+  pub types : v .types ≤ mostTypes
+  pub steps : offset (v .steps) (v .types) ≤ mostSteps
+  pub root : v .root .0 < mostTypes
 
 pub within-room : (v : Schema) → WithinLimits (meaning v) → Room v
 unfolding meaning
@@ -213,3 +224,7 @@ within-room v w =
 -- the negated test was not taken, so what it tells holds
 pub passed : {A : Type 0} (r : Bool) → not r ≡ false → T r ↔ A → A
 passed r e t = t .0 (subst T (sym (not-false r e)) tt)
+
+-- the negated test was taken, so what it tells does not hold
+pub failed : {A : Type 0} (r : Bool) → not r ≡ true → T r ↔ A → ¬ A
+failed r e t w = T-not r (rw e tt) (t .1 w)

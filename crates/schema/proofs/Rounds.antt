@@ -5,17 +5,21 @@ use mathlib.Core.Bool.{Bool, true, false, cond, _&&_}
 use mathlib.Core.List.{List, [], _∷_, _++_, append-assoc}
 use Prim.Native.Nat.{ℕ, zero, suc, _+_, _-_, _%_, _^_, _≤_, _<_}
 use native.Mathlib.Numerals.{add-one}
+use native.Mathlib.Nat.{zero-add}
+use native.Mathlib.Decide.{decLt}
 use native.Mathlib.Omega.{arith}
 use lib.Dec.{T}
-use lib.ListN.{length, getD, set, take, replicate, length-set}
+use lib.ListN.{length, getD, set, take, replicate, length-set, length-map, List·getD-eq-default}
 use lib.Seq.{take-suc, set-at, length-take-le}
+use Rattle.sdtd.specs.Limits.{mostTypes, mostStates}
 use Rattle.sdtd.specs.Schema.{Step}
 use Rattle.sdtd.proofs.Rounds.{count, count-set, count-le, set-same}
-use Rattle.schema.specs.States.{member, insert}
-use Rattle.schema.specs.Value.{stepsOf, stepAt, offset}
-use Rattle.schema.specs.Spread.{spreadStep, spreadSet, spreadAll, reachStep, reachSteps, reachAll, iterate, Settled, startStates}
-use Rattle.schema.proofs.Bits.{insert-below, member-insert, absentIn, absent-in-falls}
-use Rattle.schema.proofs.Values.{steps-cons, offset-up}
+use Rattle.schema.specs.States.{member, bearsIn}
+use Rattle.schema.specs.Value.{upFrom, stepsOf, stepAt, offset}
+use Rattle.schema.specs.Spread.{spreadSet, spreadAll, reachStep, reachSteps, reachAll, iterate, Settled, startStates, bearing}
+use Rattle.schema.proofs.Bits.{absentIn, absent-in-falls}
+use Rattle.schema.proofs.Values.{steps-cons, offset-step, offset-up, up-count, map-up}
+use Rattle.schema.proofs.SpreadLaws.{Grown, stays, set-grown}
 
 -- the steps left are the one at i and those after it
 pub steps-left : (from by to : List ℕ) (i end : ℕ) → i < end
@@ -24,19 +28,13 @@ steps-left from by to i end l =
     let e : end - i ≡ suc (end - (i + 1)) = omega arith in
     rw (e, steps-cons, add-one i)
 
-offset-suc : (steps : List ℕ) (a : ℕ) → offset steps (suc a) ≡ offset steps a + getD steps a 0
-offset-suc [] zero = refl
-offset-suc [] (suc a) = refl
-offset-suc (n ∷ steps) zero = omega arith
-offset-suc (n ∷ steps) (suc a) = omega (arith, offset-suc steps a)
-
 -- the place of the next type's first step, also past the end of the counts
 pub offset-more : (steps : List ℕ) (a s : ℕ) → s ≡ offset steps a → s + getD steps a 0 ≡ offset steps (a + 1)
-offset-more steps a s e = rw (add-one, offset-suc, e)
+offset-more steps a s e = rw (add-one, offset-step, e)
 
 -- the steps of a type lie before the end of all
 pub steps-fit : (steps : List ℕ) (a types : ℕ) → a < types → offset steps a + getD steps a 0 ≤ offset steps types
-steps-fit steps a types l = omega (arith, offset-suc steps a, offset-up steps (suc a) types l)
+steps-fit steps a types l = omega (arith, offset-step steps a, offset-up steps (suc a) types l)
 
 -- one more entry of xs in front of the filler
 pub fill-next : {A : Type 0} (xs : List A) (i n : ℕ) (d e : A) → i < length xs → i < n
@@ -46,59 +44,49 @@ fill-next xs i n d e l m =
     let t : length (take i xs) ≡ i = length-take-le i xs (omega arith) in
     rw (q, set-at _ _ _ _ i t, add-one i, take-suc xs i e l, append-assoc)
 
--- A table of 64 sets of states.
-pub record Sets (t : List ℕ) : Type 0 where
-  pub long : length t ≡ 64
-  pub below : (a : ℕ) → getD t a 0 < 2 ^ 32
+-- the types that bear a tree, an entry each
+pub bearing-long : (table : List ℕ) → length (bearing table) ≡ mostTypes
+bearing-long table = length-map (upFrom 0 mostTypes) (bearsIn table) ∙ up-count 0 mostTypes
 
-start-below : (n a : ℕ) → getD (replicate n 1) a 0 < 2 ^ 32
+pub bearing-at : (table : List ℕ) → length table ≡ mostTypes → (a : ℕ) → getD (bearing table) a false ≡ bearsIn table a
+bearing-at table l a =
+    elim (decLt a mostTypes) [
+      | yes h ↦ map-up (bearsIn table) false 0 mostTypes a h ∙ ap (bearsIn table) (zero-add a)
+      | no h ↦
+          let past : mostTypes ≤ a = omega arith in
+          List·getD-eq-default (bearing table) false (rw (bearing-long table) past)
+          ∙ sym (ap (member 0) (List·getD-eq-default table 0 (rw l past)))
+    ]
+
+-- A table of sets of states, an entry for each type.
+pub record Sets (t : List ℕ) : Type 0 where
+  pub long : length t ≡ mostTypes
+  pub below : (a : ℕ) → getD t a 0 < 2 ^ mostStates
+
+start-below : (n a : ℕ) → getD (replicate n 1) a 0 < 2 ^ mostStates
 start-below zero a = omega arith
 start-below (suc n) zero = omega arith
 start-below (suc n) (suc a) = start-below n a
 
 pub start-sets : Sets startStates
-start-sets = record { long = refl; below = start-below 64 }
-
--- y is a set with the states of x
-record Grown (x y : ℕ) : Type 0 where
-  small : y < 2 ^ 32
-  more : (q : ℕ) → T (member q x) → T (member q y)
-
-grown-none : (x : ℕ) → x < 2 ^ 32 → Grown x x
-grown-none x b = record { small = b; more = λ q m. m }
-
-step-grown : (bears : List ℕ) (s : Step) (x : ℕ) → x < 2 ^ 32 → Grown x (spreadStep bears s x)
-unfolding spreadStep
-step-grown bears s x b = go (member 0 (getD bears (s .by % 64) 0) && member (s .to) x)
-  where
-    go : (t : Bool) → Grown x (cond t (insert (s .from) x) x)
-    go true = record { small = insert-below (s .from) x b; more = λ q m. member-insert (s .from) q x b .1 (inl m) }
-    go false = grown-none x b
-
-set-grown : (bears : List ℕ) (ss : List Step) (x : ℕ) → x < 2 ^ 32 → Grown x (spreadSet bears ss x)
-unfolding spreadSet
-set-grown bears [] x b = grown-none x b
-set-grown bears (s ∷ ss) x b =
-    let g = step-grown bears s x b in
-    let h = set-grown bears ss (spreadStep bears s x) (g .small) in
-    record { small = h .small; more = λ q m. h .more q (g .more q m) }
+start-sets = record { long = refl; below = start-below mostTypes }
 
 -- u is a table of sets with the states of t
 pub record Growth (t u : List ℕ) : Type 0 where
   pub sets : Sets u
   pub more : (a q : ℕ) → T (member q (getD t a 0)) → T (member q (getD u a 0))
 
-entry-grown : (t : List ℕ) (a k y : ℕ) → Grown (getD t a 0) y → getD t k 0 < 2 ^ 32 → Grown (getD t k 0) (getD (set t a y) k 0)
-entry-grown [] a k y g b = grown-none 0 b
+entry-grown : (t : List ℕ) (a k y : ℕ) → Grown (getD t a 0) y → getD t k 0 < 2 ^ mostStates → Grown (getD t k 0) (getD (set t a y) k 0)
+entry-grown [] a k y g b = stays 0 b
 entry-grown (x ∷ t) zero zero y g b = g
-entry-grown (x ∷ t) zero (suc k) y g b = grown-none (getD t k 0) b
-entry-grown (x ∷ t) (suc a) zero y g b = grown-none x b
+entry-grown (x ∷ t) zero (suc k) y g b = stays (getD t k 0) b
+entry-grown (x ∷ t) (suc a) zero y g b = stays x b
 entry-grown (x ∷ t) (suc a) (suc k) y g b = entry-grown t a k y g b
 
 one-growth : (t : List ℕ) (a y : ℕ) → Sets t → Grown (getD t a 0) y → Growth t (set t a y)
 one-growth t a y h g = record {
-  sets = record { long = length-set t a y ∙ h .long; below = λ k. entry-grown t a k y g (h .below k) .small };
-  more = λ k. entry-grown t a k y g (h .below k) .more;
+  sets = record { long = length-set t a y ∙ h .long; below = λ k. entry-grown t a k y g (h .below k) .below };
+  more = λ k. entry-grown t a k y g (h .below k) .grown;
 }
 
 -- a round keeps tables of sets, and only adds states
@@ -175,37 +163,37 @@ marked-one t i l = record { long = length-set t i true; more = go (getD t i fals
     go true e = inl (set-same t i e)
     go false e = inr (omega (arith, count-set t i l e))
 
-step-marked : (live : List ℕ) (forward own : ℕ) (s : Step) (t : List Bool) → length t ≡ 64 → Marked t (reachStep live forward own s t)
+step-marked : (bears : List ℕ) (forward live : ℕ) (s : Step) (t : List Bool) → length t ≡ mostTypes → Marked t (reachStep bears forward live s t)
 unfolding reachStep
-step-marked live forward own s t h =
-    go (member (s .from) forward && member 0 (getD live (s .by % 64) 0) && member (s .to) own)
+step-marked bears forward live s t h =
+    go (member (s .from) forward && bearsIn bears (s .by % mostTypes) && member (s .to) live)
   where
-    go : (b : Bool) → Marked t (cond b (set t (s .by % 64) true) t)
-    go true = marked-one t (s .by % 64) (omega arith)
+    go : (b : Bool) → Marked t (cond b (set t (s .by % mostTypes) true) t)
+    go true = marked-one t (s .by % mostTypes) (omega arith)
     go false = marked-none t
 
-steps-marked : (live : List ℕ) (forward own : ℕ) (ss : List Step) (t : List Bool) → length t ≡ 64
-    → Marked t (reachSteps live forward own ss t)
+steps-marked : (bears : List ℕ) (forward live : ℕ) (ss : List Step) (t : List Bool) → length t ≡ mostTypes
+    → Marked t (reachSteps bears forward live ss t)
 unfolding reachSteps
-steps-marked live forward own [] t h = marked-none t
-steps-marked live forward own (s ∷ ss) t h =
-    let u = reachStep live forward own s t in
-    let g = step-marked live forward own s t h in
-    marked-trans t u _ g (steps-marked live forward own ss u (g .long ∙ h))
+steps-marked bears forward live [] t h = marked-none t
+steps-marked bears forward live (s ∷ ss) t h =
+    let u = reachStep bears forward live s t in
+    let g = step-marked bears forward live s t h in
+    marked-trans t u _ g (steps-marked bears forward live ss u (g .long ∙ h))
 
 -- a round over the reached types changes nothing, or marks more
-pub all-marked : (steps : List ℕ) (part : ℕ → ℕ → List Step) (live forward : List ℕ) (a s n : ℕ) (t : List Bool) → length t ≡ 64
-    → Marked t (reachAll steps part live forward a s n t)
+pub all-marked : (steps : List ℕ) (part : ℕ → ℕ → List Step) (bears forward live : List ℕ) (a s n : ℕ) (t : List Bool) → length t ≡ mostTypes
+    → Marked t (reachAll steps part bears forward live a s n t)
 unfolding reachAll
-all-marked steps part live forward a s zero t h = marked-none t
-all-marked steps part live forward a s (suc n) t h =
+all-marked steps part bears forward live a s zero t h = marked-none t
+all-marked steps part bears forward live a s (suc n) t h =
     let g = go (getD t a false) in
-    marked-trans t _ _ g (all-marked steps part live forward (suc a) (s + getD steps a 0) n _ (g .long ∙ h))
+    marked-trans t _ _ g (all-marked steps part bears forward live (suc a) (s + getD steps a 0) n _ (g .long ∙ h))
   where
-    go : (b : Bool) → Marked t (cond b (reachSteps live (getD forward a 0) (getD live a 0) (part s (getD steps a 0)) t) t)
-    go true = steps-marked live (getD forward a 0) (getD live a 0) (part s (getD steps a 0)) t h
+    go : (b : Bool) → Marked t (cond b (reachSteps bears (getD forward a 0) (getD live a 0) (part s (getD steps a 0)) t) t)
+    go true = steps-marked bears (getD forward a 0) (getD live a 0) (part s (getD steps a 0)) t h
     go false = marked-none t
 
 -- a table that changed has fewer entries without a mark
-pub marked-falls : (t u : List Bool) → length t ≡ 64 → Marked t u → u ≢ t → 64 - count u < 64 - count t
+pub marked-falls : (t u : List Bool) → length t ≡ mostTypes → Marked t u → u ≢ t → mostTypes - count u < mostTypes - count t
 marked-falls t u h g d = ⊎-elim (λ e. absurd (d e)) (λ l. omega (arith, count-le u, g .long)) (g .more)

@@ -1,7 +1,7 @@
 -- Laws of a round over a table of sets of states: what its entries are, what they keep, and what they take in.
 use mathlib.Core.Path.{_≡_, refl, sym, _∙_, ap}
 use mathlib.Core.Logic.{inl, inr, ⊎-elim, _≢_}
-use mathlib.Core.Bool.{Bool, true, false, cond, _&&_}
+use mathlib.Core.Bool.{Bool, _&&_}
 use mathlib.Core.List.{List, [], _∷_, List·Memᴰ, List·Memᴰ·head, List·Memᴰ·tail}
 use Prim.Native.Nat.{ℕ, zero, suc, _+_, _%_, _^_, _≤_, _<_}
 use native.Mathlib.Decide.{ℕ-discrete, decLt}
@@ -9,24 +9,14 @@ use native.Mathlib.Omega.{arith}
 use lib.Dec.{T}
 use lib.ListN.{length, getD, set, length-set}
 use lib.Seq.{getD-set-same, getD-set-other}
+use Rattle.sdtd.specs.Limits.{mostTypes, mostStates}
 use Rattle.sdtd.specs.Schema.{Step}
-use Rattle.schema.specs.States.{member}
+use Rattle.sdtd.proofs.Basics.{cond-either, and-parts, and-both}
+use Rattle.schema.specs.States.{member, bearsIn}
 use Rattle.schema.specs.Value.{offset}
 use Rattle.schema.specs.Spread.{spreadStep, spreadSet, spreadAll, iterate, Settled}
 use Rattle.schema.proofs.Bits.{insert-below, member-insert}
-use Rattle.schema.proofs.Values.{offset-next}
-
-pub cond-either : {A : Type 0} (P : A → Type 0) (c : Bool) {x y : A} → (T c → P x) → ((T c → ⊥) → P y) → P (cond c x y)
-cond-either P true f g = f tt
-cond-either P false f g = g (λ h. h)
-
-pub and-parts : (a b : Bool) → T (a && b) → T a × T b
-and-parts true b h = (tt, h)
-and-parts false b h = absurd h
-
-pub and-both : (a b : Bool) → T a → T b → T (a && b)
-and-both true b h k = k
-and-both false b h k = absurd h
+use Rattle.schema.proofs.Values.{offset-step}
 
 iterate-keeps :
     {A : Type 0} (I : A → Type 0) {round : A → A} → ((t : A) → I t → I (round t)) → (n : ℕ) (t : A) → I t → I (iterate round n t)
@@ -40,25 +30,28 @@ pub settled-keeps :
     → Settled round first last → I last
 settled-keeps I {first = first} keeps i s = rw (s .after) (iterate-keeps I keeps (s .rounds) first i)
 
--- y has the states of x
-record Grown (x y : ℕ) : Type 0 where
-  below : y < 2 ^ 32
-  grown : (q : ℕ) → T (member q x) → T (member q y)
+-- y is a set with the states of x
+pub record Grown (x y : ℕ) : Type 0 where
+  pub below : y < 2 ^ mostStates
+  pub grown : (q : ℕ) → T (member q x) → T (member q y)
+
+pub stays : (x : ℕ) → x < 2 ^ mostStates → Grown x x
+stays x b = record { below = b; grown = λ q m. m }
 
 -- the type of the step bears a tree
 abbrev pub byBearing : List ℕ → Step → Bool
-byBearing bears s = member 0 (getD bears (s .by % 64) 0)
+byBearing bears s = bearsIn bears (s .by % mostTypes)
 
 module _ (bears : List ℕ) where
-  step-grown : (s : Step) (x : ℕ) → x < 2 ^ 32 → Grown x (spreadStep bears s x)
+  step-grown : (s : Step) (x : ℕ) → x < 2 ^ mostStates → Grown x (spreadStep bears s x)
   unfolding spreadStep
   step-grown s x b =
       cond-either (Grown x) (byBearing bears s && member (s .to) x)
       (λ h. record { below = insert-below (s .from) x b; grown = λ q m. member-insert (s .from) q x b .1 (inl m) })
-      (λ h. record { below = b; grown = λ q m. m })
+      (λ h. stays x b)
 
   step-takes :
-      (s : Step) (x : ℕ) → x < 2 ^ 32 → s .from < 32 → T (byBearing bears s) → T (member (s .to) x)
+      (s : Step) (x : ℕ) → x < 2 ^ mostStates → s .from < mostStates → T (byBearing bears s) → T (member (s .to) x)
       → T (member (s .from) (spreadStep bears s x))
   unfolding spreadStep
   step-takes s x b f h m =
@@ -67,7 +60,7 @@ module _ (bears : List ℕ) where
       (λ n. absurd (n (and-both (byBearing bears s) (member (s .to) x) h m)))
 
   step-sound :
-      (P : ℕ → Type 0) (s : Step) (x : ℕ) → x < 2 ^ 32 → (T (byBearing bears s) → P (s .to) → P (s .from))
+      (P : ℕ → Type 0) (s : Step) (x : ℕ) → x < 2 ^ mostStates → (T (byBearing bears s) → P (s .to) → P (s .from))
       → ((q : ℕ) → T (member q x) → P q) → (q : ℕ) → T (member q (spreadStep bears s x)) → P q
   unfolding spreadStep
   step-sound P s x b rule sound q =
@@ -77,9 +70,9 @@ module _ (bears : List ℕ) where
       ⊎-elim (sound q) (λ e. rw (e .0) (rule (c .0) (sound (s .to) (c .1)))) (member-insert (s .from) q x b .0 m))
       (λ n. sound q)
 
-  set-grown : (ss : List Step) (x : ℕ) → x < 2 ^ 32 → Grown x (spreadSet bears ss x)
+  pub set-grown : (ss : List Step) (x : ℕ) → x < 2 ^ mostStates → Grown x (spreadSet bears ss x)
   unfolding spreadSet
-  set-grown [] x b = record { below = b; grown = λ q m. m }
+  set-grown [] x b = stays x b
   set-grown (s ∷ ss) x b =
       let g = step-grown s x b in
       let h = set-grown ss (spreadStep bears s x) (g .below) in
@@ -87,7 +80,7 @@ module _ (bears : List ℕ) where
 
   -- a step by a tree-bearing type with its state `to` in the set takes its state `from` in
   set-takes :
-      {ss : List Step} {s : Step} (x : ℕ) → x < 2 ^ 32 → List·Memᴰ s ss → s .from < 32 → T (byBearing bears s)
+      {ss : List Step} {s : Step} (x : ℕ) → x < 2 ^ mostStates → List·Memᴰ s ss → s .from < mostStates → T (byBearing bears s)
       → T (member (s .to) x) → T (member (s .from) (spreadSet bears ss x))
   unfolding spreadSet
   set-takes {s = s} x b (List·Memᴰ·head {x = r} {xs = ss} e) f h m =
@@ -97,9 +90,9 @@ module _ (bears : List ℕ) where
       let g = step-grown r x b in
       set-takes (spreadStep bears r x) (g .below) i f h (g .grown (s .to) m)
 
-  -- what the states of the set have, and the state `from` of each step that counts has with its `to`, the states taken in have
+  -- what the states of the set have, and the state `from` of each step by a tree-bearing type has with its `to`, the states taken in have
   set-sound :
-      (P : ℕ → Type 0) (ss : List Step) (x : ℕ) → x < 2 ^ 32
+      (P : ℕ → Type 0) (ss : List Step) (x : ℕ) → x < 2 ^ mostStates
       → ((s : Step) → List·Memᴰ s ss → T (byBearing bears s) → P (s .to) → P (s .from))
       → ((q : ℕ) → T (member q x) → P q) → (q : ℕ) → T (member q (spreadSet bears ss x)) → P q
   unfolding spreadSet
@@ -131,7 +124,7 @@ module _ (steps : List ℕ) (part : ℕ → ℕ → List Step) (bears : List ℕ
   spread-own zero a s t b e m l least most = absurd (omega arith)
   spread-own (suc n) a s t b e m l least most =
       let x : ℕ = spreadSet bears (part s (getD steps a 0)) (getD t a 0) in
-      let f : s + getD steps a 0 ≡ offset steps (suc a) = omega (arith, offset-next steps a (omega arith)) in
+      let f : s + getD steps a 0 ≡ offset steps (suc a) = omega (arith, offset-step steps a) in
       elim (ℕ-discrete b a) [
         | yes d ↦
             rw d
@@ -146,8 +139,8 @@ module _ (steps : List ℕ) (part : ℕ → ℕ → List Step) (bears : List ℕ
 
 -- What each table on the way has: sets of states, the states of the first table, and only such as have P.
 pub record Table (first : List ℕ) (P : ℕ → ℕ → Type 0) (t : List ℕ) : Type 0 where
-  pub long : length t ≡ 64
-  pub below : (a : ℕ) → getD t a 0 < 2 ^ 32
+  pub long : length t ≡ mostTypes
+  pub below : (a : ℕ) → getD t a 0 < 2 ^ mostStates
   pub grown : (a q : ℕ) → T (member q (getD first a 0)) → T (member q (getD t a 0))
   pub sound : (a q : ℕ) → T (member q (getD t a 0)) → P a q
 
@@ -155,15 +148,15 @@ pub record Table (first : List ℕ) (P : ℕ → ℕ → Type 0) (t : List ℕ) 
 abbrev pub own : List ℕ → (ℕ → ℕ → List Step) → ℕ → List Step
 own steps part a = part (offset steps a) (getD steps a 0)
 
-module _ (steps : List ℕ) (part : ℕ → ℕ → List Step) (n : ℕ) (long : length steps ≡ 64) (most : n ≤ 64) (bears : List ℕ) where
+module _ (steps : List ℕ) (part : ℕ → ℕ → List Step) (n : ℕ) (long : length steps ≡ mostTypes) (most : n ≤ mostTypes) (bears : List ℕ) where
   own-entry :
-      (t : List ℕ) → length t ≡ 64 → (a : ℕ) → a < n
+      (t : List ℕ) → length t ≡ mostTypes → (a : ℕ) → a < n
       → getD (spreadAll steps part bears 0 0 n t) a 0 ≡ spreadSet bears (own steps part a) (getD t a 0)
   own-entry t l a h = spread-own steps part bears n 0 0 t a refl (omega arith) (omega arith) (omega arith) (omega arith)
 
   -- an entry is the old one, or one that took in what the steps of its type say
   entry-either :
-      (Q : ℕ → Type 0) (t : List ℕ) → length t ≡ 64 → (a : ℕ)
+      (Q : ℕ → Type 0) (t : List ℕ) → length t ≡ mostTypes → (a : ℕ)
       → (a < n → Q (spreadSet bears (own steps part a) (getD t a 0))) → Q (getD t a 0) → Q (getD (spreadAll steps part bears 0 0 n t) a 0)
   entry-either Q t l a f g =
       elim (decLt a n) [
@@ -179,7 +172,7 @@ module _ (steps : List ℕ) (part : ℕ → ℕ → List Step) (n : ℕ) (long :
   round-keeps {first} {P} {t} k rule =
       record {
         long = spread-length steps part bears n 0 0 t ∙ k .long;
-        below = λ a. either (λ (y : ℕ). y < 2 ^ 32) a (λ h. new a .below) (k .below a);
+        below = λ a. either (λ (y : ℕ). y < 2 ^ mostStates) a (λ h. new a .below) (k .below a);
         grown = λ a q m. either (λ (y : ℕ). T (member q y)) a (λ h. new a .grown q (k .grown a q m)) (k .grown a q m);
         sound =
             λ a q.
@@ -194,10 +187,10 @@ module _ (steps : List ℕ) (part : ℕ → ℕ → List Step) (n : ℕ) (long :
       new : (a : ℕ) → Grown (getD t a 0) (spreadSet bears (own steps part a) (getD t a 0))
       new a = set-grown bears (own steps part a) (getD t a 0) (k .below a)
 
-  -- a table that a round does not change has the state `from` of each step that counts with its `to`
+  -- a table that a round does not change has the state `from` of each step by a tree-bearing type with its `to`
   pub settled-takes :
       {first : List ℕ} {P : ℕ → ℕ → Type 0} {t : List ℕ} → Table first P t → spreadAll steps part bears 0 0 n t ≡ t
-      → (a : ℕ) (s : Step) → a < n → List·Memᴰ s (own steps part a) → s .from < 32 → T (byBearing bears s)
+      → (a : ℕ) (s : Step) → a < n → List·Memᴰ s (own steps part a) → s .from < mostStates → T (byBearing bears s)
       → T (member (s .to) (getD t a 0)) → T (member (s .from) (getD t a 0))
   settled-takes {t = t} k e a s h i f b m =
       rw (sym (own-entry t (k .long) a h) ∙ ap (λ (u : List ℕ). getD u a 0) e) at

@@ -6,31 +6,38 @@ use mathlib.Core.List.{List, [], _∷_, _++_, List·Memᴰ}
 use Prim.Native.Nat.{ℕ, _%_, _<_}
 use native.Mathlib.Omega.{arith}
 use lib.Dec.{T}
-use lib.ListN.{getD, set, replicate, length-set, List·getD-map}
+use lib.ListN.{getD, set, replicate, length-set}
+use Rattle.sdtd.specs.Limits.{mostTypes}
 use Rattle.sdtd.specs.Schema.{Step, blockOf, WithinLimits, Leads, stay, go}
+use Rattle.sdtd.specs.Schema.{Schema as Meaning}
 use Rattle.sdtd.specs.Trim.{Bears, AllBear, none, both, Live, Reached}
 use Rattle.sdtd.proofs.Automata.{leads-append, all-append}
-use Rattle.sdtd.proofs.Fixpoint.{LiveClosed, live-closed, live-exact, bears-exact, Forward, ReachedClosed, reached-closed, reached-exact}
-use Rattle.schema.specs.States.{member}
+use Rattle.sdtd.proofs.Fixpoint.{LiveClosed, live-closed, live-exact, bears-live, Forward, ReachedClosed, reached-closed, reached-exact}
+use Rattle.schema.specs.States.{member, bearsIn}
 use Rattle.schema.specs.Value.{stepsOf, meaning}
-use Rattle.schema.specs.Trimming.{Exact}
+use Rattle.schema.specs.Trimming.{LiveExactly, Exact}
 use Rattle.schema.specs.Spread.{spreadAll, reachAll, Settled, firstSets, startStates, bearing}
 use Rattle.schema.specs.declared.value.Schema.{Schema}
+use Rattle.schema.proofs.Rounds.{bearing-at, start-sets}
 use Rattle.schema.proofs.SpreadLaws.{settled-keeps, byBearing, own, Table, round-keeps, settled-takes}
 use Rattle.schema.proofs.FirstTables.{Fits, OwnStep, back, forth, turned, firstLive, firstReached, types-most, root-is, root-below}
 use Rattle.schema.proofs.FirstTables.{own-steps, own-step, own-back, accepts, first-long, first-below}
-use Rattle.schema.proofs.FirstTables.{start-only, start-below, start-in, one-only, one-in}
-use Rattle.schema.proofs.ReachLaws.{Marks, CountsIn, reach-keeps, settled-reaches}
+use Rattle.schema.proofs.FirstTables.{start-only, start-in, one-only, one-in}
+use Rattle.schema.proofs.ReachLaws.{Marks, ReachesIn, reach-keeps, settled-reaches}
+
+-- a table of exactly the live states says which types bear a tree
+pub bears-in : (S : Meaning) (table : List ℕ) → LiveExactly S table → (j : ℕ) → T (bearsIn table j) ↔ Bears S j
+bears-in S table exact j = (λ m. bears-live .1 (exact j 0 .0 m), λ b. exact j 0 .1 (bears-live .0 b))
 
 -- the three rounds
 abbrev liveRound : Schema → List ℕ → List ℕ
 liveRound v t = spreadAll (v .steps) (forth v) t 0 0 (v .types) t
 
 abbrev forwardRound : Schema → List ℕ → List ℕ → List ℕ
-forwardRound v live t = spreadAll (v .steps) (turned v) live 0 0 (v .types) t
+forwardRound v bears t = spreadAll (v .steps) (turned v) bears 0 0 (v .types) t
 
-abbrev reachRound : Schema → List ℕ → List ℕ → List Bool → List Bool
-reachRound v live forward t = reachAll (v .steps) (forth v) live forward 0 0 (v .types) t
+abbrev reachRound : Schema → List ℕ → List ℕ → List ℕ → List Bool → List Bool
+reachRound v bears forward live t = reachAll (v .steps) (forth v) bears forward live 0 0 (v .types) t
 
 -- what the tables on the way have
 abbrev LiveTable : Schema → List ℕ → Type 0
@@ -81,17 +88,17 @@ module _
   live-is : (a q : ℕ) → Live (meaning v) a q ↔ T (member q (getD live a 0))
   live-is = live-exact live-rules (live-table .sound)
 
-  bears-is : (a : ℕ) → Bears (meaning v) a ↔ T (member 0 (getD live a 0))
-  bears-is = bears-exact live-rules (live-table .sound)
+  bears-is : (a : ℕ) → Bears (meaning v) a ↔ T (bearsIn live a)
+  bears-is a = let b = bears-in (meaning v) live (λ c q. (live-is c q .1, live-is c q .0)) a in (b .1, b .0)
 
   module _ {forward : List ℕ} (onward : Settled (forwardRound v live) startStates forward) where
     forward-first : ForwardTable v startStates
     forward-first =
         record {
           long = refl;
-          below = start-below 64;
+          below = start-sets .below;
           grown = λ a q m. m;
-          sound = λ a q m. rw (start-only 64 a q m) (record { word = []; leads = stay; bear = none });
+          sound = λ a q m. rw (start-only mostTypes a q m) (record { word = []; leads = stay; bear = none });
         }
 
     forward-rule :
@@ -128,12 +135,12 @@ module _
     forward-has : (a p : ℕ) → a < v .types → Forward (meaning v) a p → T (member p (getD forward a 0))
     forward-has a p l f =
         let n = types-most fits within in
-        along a (f .leads) (f .bear) (forward-table .grown a 0 (start-in 64 a (omega arith)))
+        along a (f .leads) (f .bear) (forward-table .grown a 0 (start-in mostTypes a (omega arith)))
 
-    module _ {reached : List Bool} (ended : Settled (reachRound v live forward) (firstReached v) reached) where
+    module _ {reached : List Bool} (ended : Settled (reachRound v live forward live) (firstReached v) reached) where
       reached-rule :
           (a : ℕ) (s : Step) → a < v .types → Reached (meaning v) a → List·Memᴰ s (own (v .steps) (forth v) a)
-          → CountsIn live forward a s → Reached (meaning v) (s .by % 64)
+          → ReachesIn live forward live a s → Reached (meaning v) (s .by % mostTypes)
       reached-rule a s l r i c =
           let m = rw (← own-steps fits within a l) at i in
           let e = own-step fits within a s m .by in
@@ -141,24 +148,24 @@ module _
           let b = bears-is (s .by) .1 (rw e at (c .by)) in
           rw e (reached-closed .step a s r m f b (live-is a (s .to) .1 (c .to)))
 
-      reached-round : (t : List Bool) → ReachedTable v t → ReachedTable v (reachRound v live forward t)
+      reached-round : (t : List Bool) → ReachedTable v t → ReachedTable v (reachRound v live forward live t)
       reached-round t k =
-          reach-keeps (v .steps) (forth v) live forward (v .types) (fits .steps-long) (types-most fits within) k reached-rule
+          reach-keeps (v .steps) (forth v) live forward live (v .types) (fits .steps-long) (types-most fits within) k reached-rule
 
       reached-first : ReachedTable v (firstReached v)
       reached-first =
           record {
-            long = length-set (replicate 64 false) (v .root .0) true;
+            long = length-set (replicate mostTypes false) (v .root .0) true;
             grown = λ a m. m;
-            sound = λ a m. reached-closed .root a (one-only 64 (v .root .0) a m ∙ sym (root-is v));
+            sound = λ a m. reached-closed .root a (one-only mostTypes (v .root .0) a m ∙ sym (root-is v));
           }
 
       reached-table : ReachedTable v reached
       reached-table = settled-keeps (ReachedTable v) reached-round reached-first ended
 
-      counts : (a : ℕ) (s : Step) → OwnStep v a s → Forward (meaning v) a (s .from) → Bears (meaning v) (s .by)
-          → Live (meaning v) a (s .to) → CountsIn live forward a s
-      counts a s o f b l =
+      reaches : (a : ℕ) (s : Step) → OwnStep v a s → Forward (meaning v) a (s .from) → Bears (meaning v) (s .by)
+          → Live (meaning v) a (s .to) → ReachesIn live forward live a s
+      reaches a s o f b l =
           record {
             from = forward-has a (s .from) (o .type) f;
             by = rw (o .by) (bears-is (s .by) .0 b);
@@ -166,26 +173,26 @@ module _
           }
 
       reached-takes :
-          (a : ℕ) (s : Step) (o : OwnStep v a s) → T (getD reached a false) → CountsIn live forward a s → T (getD reached (s .by) false)
+          (a : ℕ) (s : Step) (o : OwnStep v a s) → T (getD reached a false) → ReachesIn live forward live a s → T (getD reached (s .by) false)
       reached-takes a s o p c =
           let e = ended .settled in
           let n = types-most fits within in
           let l = fits .steps-long in
-          let m = settled-reaches (v .steps) (forth v) live forward (v .types) l n reached-table e a s (o .type) p (o .given) c in
+          let m = settled-reaches (v .steps) (forth v) live forward live (v .types) l n reached-table e a s (o .type) p (o .given) c in
           rw (o .by) at m
 
       reached-rules : ReachedClosed (meaning v) (λ a. T (getD reached a false))
       reached-rules =
           record {
-            root = λ a e. reached-table .grown a (rw (e ∙ root-is v) (one-in 64 (v .root .0) (root-below fits within)));
-            step = λ a s p m f b l. let o = own-step fits within a s m in reached-takes a s o p (counts a s o f b l);
+            root = λ a e. reached-table .grown a (rw (e ∙ root-is v) (one-in mostTypes (v .root .0) (root-below fits within)));
+            step = λ a s p m f b l. let o = own-step fits within a s m in reached-takes a s o p (reaches a s o f b l);
           }
 
-      exact : Exact (meaning v) (record { live = live; bears = bearing live; reached = reached })
+      exact : Exact (meaning v) (record { inside = true; live = live; bears = bearing live; reached = reached })
       exact =
           record {
             live = λ a q. (live-is a q .1, live-is a q .0);
-            bears = λ a. rw (List·getD-map (member 0) live a 0) (bears-is a .1, bears-is a .0);
+            bears = λ a. rw (bearing-at live (live-table .long) a) (bears-is a .1, bears-is a .0);
             reached = λ a. let e = reached-exact reached-rules (reached-table .sound) a in (e .1, e .0);
           }
 
@@ -194,14 +201,14 @@ pub tables-exact :
     {v : Schema} {live forward : List ℕ} {reached : List Bool} → Fits v → WithinLimits (meaning v)
     → Settled (λ t. spreadAll (v .steps) (stepsOf (v .from) (v .by) (v .to)) t 0 0 (v .types) t) (firstSets (v .types) (v .accepting)) live
     → Settled (λ t. spreadAll (v .steps) (stepsOf (v .to) (v .by) (v .from)) live 0 0 (v .types) t) startStates forward
-    → Settled (λ t. reachAll (v .steps) (stepsOf (v .from) (v .by) (v .to)) live forward 0 0 (v .types) t)
-    (set (replicate 64 false) (v .root .0) true) reached
-    → Exact (meaning v) (record { live = live; bears = bearing live; reached = reached })
+    → Settled (λ t. reachAll (v .steps) (stepsOf (v .from) (v .by) (v .to)) live forward live 0 0 (v .types) t)
+    (set (replicate mostTypes false) (v .root .0) true) reached
+    → Exact (meaning v) (record { inside = true; live = live; bears = bearing live; reached = reached })
 tables-exact fits within l f r = exact fits within l f r
 
 -- the table that the first loop settles at
 pub live-exactly :
     {v : Schema} {live : List ℕ} → Fits v → WithinLimits (meaning v)
     → Settled (λ t. spreadAll (v .steps) (stepsOf (v .from) (v .by) (v .to)) t 0 0 (v .types) t) (firstSets (v .types) (v .accepting)) live
-    → (a q : ℕ) → T (member q (getD live a 0)) ↔ Live (meaning v) a q
+    → LiveExactly (meaning v) live
 live-exactly fits within l a q = (live-is fits within l a q .1, live-is fits within l a q .0)

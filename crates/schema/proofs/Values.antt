@@ -7,7 +7,7 @@ use native.Mathlib.Nat.{le-of-suc-le-suc}
 use native.Mathlib.Decide.{ℕ-discrete}
 use native.Mathlib.Omega.{arith}
 use lib.ListN.{length, getD, length-map, List·getD-eq-default}
-use Rattle.sdtd.specs.Schema.{Step, noBlock, blockOf}
+use Rattle.sdtd.specs.Schema.{Step, Block, noBlock, blockOf, tagOf}
 use Rattle.schema.specs.Value.{upFrom, stepAt, stepsOf, offset, blockAt, meaning}
 use Rattle.schema.specs.declared.value.Schema.{Schema}
 
@@ -57,16 +57,13 @@ offset-step [] (suc a) = refl
 offset-step (n ∷ ns) zero = omega arith
 offset-step (n ∷ ns) (suc a) = omega (arith, offset-step ns a)
 
-pub offset-next : (steps : List ℕ) (a : ℕ) → a < length steps → offset steps (suc a) ≡ offset steps a + getD steps a 0
-offset-next steps a l = offset-step steps a
-
 pub offset-up : (steps : List ℕ) (a b : ℕ) → a ≤ b → offset steps a ≤ offset steps b
 offset-up steps zero b l = zero-le
 offset-up steps (suc a) zero l = absurd (omega arith)
 offset-up [] (suc a) (suc b) l = zero-le
 offset-up (n ∷ ns) (suc a) (suc b) l = omega (arith, offset-up ns a b (le-of-suc-le-suc l))
 
-up-count : (s n : ℕ) → length (upFrom s n) ≡ n
+pub up-count : (s n : ℕ) → length (upFrom s n) ≡ n
 unfolding upFrom
 up-count s zero = refl
 up-count s (suc n) = ap suc (up-count (suc s) n)
@@ -77,7 +74,7 @@ unfolding stepsOf
 steps-count from by to s n = length-map (upFrom s n) (stepAt from by to) ∙ up-count s n
 
 -- what a map over n numbers has at the place a
-map-up : {A : Type 0} (f : ℕ → A) (d : A) (s n a : ℕ) → a < n → getD (map f (upFrom s n)) a d ≡ f (s + a)
+pub map-up : {A : Type 0} (f : ℕ → A) (d : A) (s n a : ℕ) → a < n → getD (map f (upFrom s n)) a d ≡ f (s + a)
 unfolding upFrom
 map-up f d s zero a l = absurd (omega arith)
 map-up f d s (suc n) zero l = ap f (omega arith)
@@ -90,6 +87,11 @@ types-count v = length-map (upFrom 0 (v .types)) (blockAt v) ∙ up-count 0 (v .
 pub block-of : (v : Schema) (a : ℕ) → a < v .types → blockOf (meaning v) a ≡ blockAt v a
 unfolding meaning
 block-of v a l = map-up (blockAt v) noBlock 0 (v .types) a l ∙ ap (blockAt v) (omega arith)
+
+-- the tag of a type of the schema
+pub tag-of : (v : Schema) (a : ℕ) → a < v .types → tagOf (meaning v) a ≡ getD (v .tag) a 0
+unfolding blockAt
+tag-of v a l = ap (λ (b : Block). b .tag) (block-of v a l)
 
 pub no-block-of : (v : Schema) (a : ℕ) → v .types ≤ a → blockOf (meaning v) a ≡ noBlock
 no-block-of v a l = List·getD-eq-default (meaning v .blocks) noBlock (rw types-count l)

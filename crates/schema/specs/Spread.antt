@@ -4,12 +4,14 @@ use mathlib.Core.Path.{_≡_}
 use mathlib.Core.List.{List, [], _∷_, _++_, map}
 use Prim.Native.Nat.{ℕ, zero, suc, _+_, _-_, _%_}
 use lib.ListN.{getD, set, take, replicate}
+use Rattle.sdtd.specs.Limits.{mostTypes}
 use Rattle.sdtd.specs.Schema.{Step}
-use Rattle.schema.specs.States.{member, insert, noStates, onlyStart}
+use Rattle.schema.specs.States.{member, insert, bearsIn, noStates, onlyStart}
+use Rattle.schema.specs.Value.{upFrom}
 
 -- a step by a tree-bearing type with its state `to` in the set adds its state `from`
 unfoldable pub spreadStep : List ℕ → Step → ℕ → ℕ
-spreadStep bears s x = cond (member 0 (getD bears (s .by % 64) 0) && member (s .to) x) (insert (s .from) x) x
+spreadStep bears s x = cond (bearsIn bears (s .by % mostTypes) && member (s .to) x) (insert (s .from) x) x
 
 unfoldable pub spreadSet : List ℕ → List Step → ℕ → ℕ
 spreadSet bears [] x = x
@@ -24,18 +26,18 @@ spreadAll steps part bears a s (suc n) sets =
 -- a step from a state that children reach, by a tree-bearing type, to a live state reaches its type
 unfoldable pub reachStep : List ℕ → ℕ → ℕ → Step → List Bool → List Bool
 reachStep bears forward live s t =
-    cond (member (s .from) forward && member 0 (getD bears (s .by % 64) 0) && member (s .to) live) (set t (s .by % 64) true) t
+    cond (member (s .from) forward && bearsIn bears (s .by % mostTypes) && member (s .to) live) (set t (s .by % mostTypes) true) t
 
 unfoldable pub reachSteps : List ℕ → ℕ → ℕ → List Step → List Bool → List Bool
 reachSteps bears forward live [] t = t
 reachSteps bears forward live (s ∷ ss) t = reachSteps bears forward live ss (reachStep bears forward live s t)
 
 -- one round over n types from the type a on: the steps of those that are reached
-unfoldable pub reachAll : List ℕ → (ℕ → ℕ → List Step) → List ℕ → List ℕ → ℕ → ℕ → ℕ → List Bool → List Bool
-reachAll steps part live forward a s zero t = t
-reachAll steps part live forward a s (suc n) t =
-    reachAll steps part live forward (suc a) (s + getD steps a 0) n
-    (cond (getD t a false) (reachSteps live (getD forward a 0) (getD live a 0) (part s (getD steps a 0)) t) t)
+unfoldable pub reachAll : List ℕ → (ℕ → ℕ → List Step) → List ℕ → List ℕ → List ℕ → ℕ → ℕ → ℕ → List Bool → List Bool
+reachAll steps part bears forward live a s zero t = t
+reachAll steps part bears forward live a s (suc n) t =
+    reachAll steps part bears forward live (suc a) (s + getD steps a 0) n
+    (cond (getD t a false) (reachSteps bears (getD forward a 0) (getD live a 0) (part s (getD steps a 0)) t) t)
 
 -- the round, n times
 unfoldable pub iterate : {A : Type 0} → (A → A) → ℕ → A → A
@@ -50,12 +52,12 @@ pub record Settled {A : Type 0} (round : List A → List A) (first last : List A
 
 -- the first n entries, and nothing in the others
 unfoldable pub firstSets : ℕ → List ℕ → List ℕ
-firstSets n sets = take n sets ++ replicate (64 - n) noStates
+firstSets n sets = take n sets ++ replicate (mostTypes - n) noStates
 
 -- only state 0, for each type
 abbrev pub startStates : List ℕ
-startStates = replicate 64 onlyStart
+startStates = replicate mostTypes onlyStart
 
--- which types have a live start state
+-- which types bear a tree, by the table
 abbrev pub bearing : List ℕ → List Bool
-bearing live = map (member 0) live
+bearing table = map (bearsIn table) (upFrom 0 mostTypes)

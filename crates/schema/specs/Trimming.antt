@@ -2,6 +2,7 @@
 use mathlib.Core.Path.{_≡_}
 use mathlib.Core.Bool.{false}
 use mathlib.Core.Logic.{_↔_}
+use mathlib.Core.List.{List}
 use Prim.Native.Nat.{ℕ}
 use lib.Dec.{T}
 use lib.ListN.{getD, replicate}
@@ -12,9 +13,13 @@ use Rattle.schema.specs.States.{member, noStates}
 use Rattle.schema.specs.declared.tables.Trimming.{Trimming}
 use Rattle.schema.specs.declared.tables.LiveStates.{LiveStates}
 
+-- the table has exactly the live states
+abbrev pub LiveExactly : Schema → List ℕ → Type 0
+LiveExactly S table = (a q : ℕ) → T (member q (getD table a 0)) ↔ Live S a q
+
 -- each table is exactly the definition
 pub record Exact (S : Schema) (t : Trimming) : Type 0 where
-  pub live : (a q : ℕ) → T (member q (getD (t .live) a 0)) ↔ Live S a q
+  pub live : LiveExactly S (t .live)
   pub bears : (a : ℕ) → T (getD (t .bears) a false) ↔ Bears S a
   pub reached : (a : ℕ) → T (getD (t .reached) a false) ↔ Reached S a
 
@@ -30,17 +35,19 @@ trimmedByTables t S =
     })
     S
 
--- tables of nothing
+-- outside the limits: tables of nothing
 abbrev pub nothing : Trimming
-nothing = record { live = replicate mostTypes noStates; bears = replicate mostTypes false; reached = replicate mostTypes false }
+nothing =
+    record { inside = false; live = replicate mostTypes noStates; bears = replicate mostTypes false; reached = replicate mostTypes false }
 
 -- exactly the definitions inside the limits, and nothing outside them
 pub record TrimMeans (S : Schema) (t : Trimming) : Type 0 where
-  pub inside : WithinLimits S → Exact S t
+  pub inside : T (t .inside) ↔ WithinLimits S
+  pub exact : WithinLimits S → Exact S t
   pub outside : ¬ WithinLimits S → t ≡ nothing
 
 -- the live states of a schema inside the limits, and nothing outside them
 pub record LiveMeans (S : Schema) (r : LiveStates) : Type 0 where
   pub inside : T (r .inside) ↔ WithinLimits S
-  pub live : WithinLimits S → (a q : ℕ) → T (member q (getD (r .live) a 0)) ↔ Live S a q
+  pub live : WithinLimits S → LiveExactly S (r .live)
   pub outside : ¬ WithinLimits S → r .live ≡ replicate mostTypes noStates

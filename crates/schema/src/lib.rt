@@ -1,12 +1,14 @@
 // Schemas as values: the state set, the schema, its limits and its trimming.
 mod limits;
 mod reach;
+mod span;
 mod spread;
 mod state_set;
 mod tables;
 mod value;
 
 pub use limits::within;
+pub use span::Span;
 pub use state_set::StateSet;
 pub use tables::LiveStates;
 pub use tables::Trimming;

@@ -1,4 +1,5 @@
 // Document 01's limits of a schema: question 10's part about it.
+use crate::span::Span;
 use crate::state_set::StateSet;
 use crate::value::STATES;
 use crate::value::STEPS;
@@ -11,9 +12,23 @@ ghost use mathlib.Core.Path.{_≡_};
 ghost use mathlib.Core.Logic.{_↔_};
 ghost use Prim.Native.Nat.{_+_, _≤_};
 ghost use lib.Dec.{T};
+ghost use Rattle.sdtd.specs.Limits.{mostTypes, mostSteps};
 ghost use Rattle.sdtd.specs.Schema.{StepWithin, WithinLimits};
 ghost use Rattle.schema.specs.Value.{stepsOf, meaning};
 ghost use Rattle.schema.specs.Limits.{StepsWithin, BlockFits, BlocksFit};
+
+// How many tags and types the schema has.
+struct Counts {
+    tags: u8,
+    types: u8,
+}
+
+// What a type's block says beside its steps.
+struct Entries {
+    tag: Tag,
+    states: u8,
+    accepting: u32,
+}
 
 // A table's entry as a count: a parameter is known to fit its type, and an element behind a reference is not.
 fn count(n: u16) -> usize
@@ -34,21 +49,21 @@ fn step_within(from: u8, by: TypeNo, to: u8, states: u8, types: u8) -> bool
     to < states
 }
 
-// Are the n steps from start on inside the state count and the number of types?
+// Are the steps inside the state count and the number of types?
 fn steps_within<'a>(
     from: &'a [u8; STEPS],
     by: &'a [u8; STEPS],
     to: &'a [u8; STEPS],
-    start: usize,
-    n: usize,
+    span: Span,
     states: u8,
     types: u8,
 ) -> bool
-    requires { ⌜ start + n ≤ 1024 ⌝ }
-    ensures { λ r. ⌜ T r ↔ StepsWithin states types (stepsOf (now (from .entry)) (now (by .entry)) (now (to .entry)) start n) ⌝ }
+    requires { ⌜ span .start + span .n ≤ mostSteps ⌝ }
+    ensures { λ r. ⌜ T r
+        ↔ StepsWithin states types (stepsOf (now (from .entry)) (now (by .entry)) (now (to .entry)) (span .start) (span .n)) ⌝ }
 {
-    let end = start + n;
-    let mut i = start;
+    let end = span.start + span.n;
+    let mut i = span.start;
     while i < end {
         if !step_within(from[i], TypeNo(by[i]), to[i], states, types) {
             return false;
@@ -58,39 +73,36 @@ fn steps_within<'a>(
     true
 }
 
-// Is a type's block inside the limits, its n steps from start on included?
+// Is a type's block inside the limits, its steps included?
 fn block_within<'a>(
-    tag: Tag,
-    states: u8,
-    accepting: u32,
+    block: Entries,
     from: &'a [u8; STEPS],
     by: &'a [u8; STEPS],
     to: &'a [u8; STEPS],
-    start: usize,
-    n: usize,
-    tags: u8,
-    types: u8,
+    span: Span,
+    counts: Counts,
 ) -> bool
-    requires { ⌜ start + n ≤ 1024 ⌝ }
+    requires { ⌜ span .start + span .n ≤ mostSteps ⌝ }
     ensures { λ r. ⌜ T r
-        ↔ BlockFits (tag .0) states accepting (stepsOf (now (from .entry)) (now (by .entry)) (now (to .entry)) start n) tags types ⌝ }
+        ↔ BlockFits (block .tag .0) (block .states) (block .accepting)
+        (stepsOf (now (from .entry)) (now (by .entry)) (now (to .entry)) (span .start) (span .n)) (counts .tags) (counts .types) ⌝ }
 {
-    if tags <= tag.0 {
+    if counts.tags <= block.tag.0 {
         return false;
     }
-    if states == 0 {
+    if block.states == 0 {
         return false;
     }
-    if STATES < states {
+    if STATES < block.states {
         return false;
     }
-    if !StateSet(accepting).below(states) {
+    if !StateSet(block.accepting).below(block.states) {
         return false;
     }
-    steps_within(from, by, to, start, n, states, types)
+    steps_within(from, by, to, span, block.states, counts.types)
 }
 
-// Are the blocks of the types inside the limits, and all their steps at most 1,024?
+// Are the blocks of the types inside the limits, and all their steps no more than the limit?
 fn blocks_within<'a>(
     tag: &'a [u8; TYPES],
     states: &'a [u8; TYPES],
@@ -99,33 +111,27 @@ fn blocks_within<'a>(
     from: &'a [u8; STEPS],
     by: &'a [u8; STEPS],
     to: &'a [u8; STEPS],
-    tags: u8,
-    types: u8,
+    counts: Counts,
 ) -> bool
-    requires { ⌜ types ≤ 64 ⌝ }
+    requires { ⌜ counts .types ≤ mostTypes ⌝ }
     ensures { λ r. ⌜ T r
         ↔ BlocksFit (now (tag .entry)) (now (states .entry)) (now (accepting .entry)) (now (steps .entry))
-        (stepsOf (now (from .entry)) (now (by .entry)) (now (to .entry))) tags types 0 0 types ⌝ }
+        (stepsOf (now (from .entry)) (now (by .entry)) (now (to .entry))) (counts .tags) (counts .types) 0 0 (counts .types) ⌝ }
 {
+    let types = counts.types as usize;
     let mut start = 0;
-    let mut a: usize = 0;
-    while a < types as usize {
+    let mut a = 0;
+    while a < types {
         let n = count(steps[a]);
         if STEPS - start < n {
             return false;
         }
-        if !block_within(
-            Tag(tag[a]),
-            states[a],
-            accepting[a],
-            from,
-            by,
-            to,
-            start,
-            n,
-            tags,
-            types,
-        ) {
+        let block = Entries {
+            tag: Tag(tag[a]),
+            states: states[a],
+            accepting: accepting[a],
+        };
+        if !block_within(block, from, by, to, Span { start, n }, counts) {
             return false;
         }
         start += n;
@@ -161,7 +167,6 @@ pub fn within(schema: Schema) -> bool
         &schema.from,
         &schema.by,
         &schema.to,
-        tags,
-        types,
+        Counts { tags, types },
     )
 }

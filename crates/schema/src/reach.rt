@@ -1,4 +1,6 @@
 // Types that the root's words reach: one round over the steps of every reached type.
+use crate::span::Span;
+use crate::spread::bears_in;
 use crate::state_set::StateSet;
 use crate::value::STEPS;
 use crate::value::TYPES;
@@ -7,30 +9,38 @@ ghost use mathlib.Core.Path.{_≡_};
 ghost use mathlib.Core.Logic.{_↔_};
 ghost use Prim.Native.Nat.{_+_, _≤_};
 ghost use lib.Dec.{T};
+ghost use Rattle.sdtd.specs.Limits.{mostTypes, mostSteps};
 ghost use Rattle.schema.specs.Value.{stepsOf, offset};
 ghost use Rattle.schema.specs.Spread.{reachStep, reachSteps, reachAll};
 
-// A step from a state in `forward`, by a tree-bearing type, to a state in `own` reaches its type.
-// Inside the limits the remainder changes nothing: a type is below 64.
+// Tables of sets of states, an entry for each type: which types bear a tree, the states that children reach, the live states.
+pub(crate) struct StateTables {
+    pub(crate) bears: [u32; TYPES],
+    pub(crate) forward: [u32; TYPES],
+    pub(crate) live: [u32; TYPES],
+}
+
+// A step from a state in `forward`, by a tree-bearing type, to a state in `live` reaches its type.
+// Inside the limits the remainder changes nothing: a type is below TYPES.
 fn reach_step(
     from: u8,
     by: TypeNo,
     to: u8,
-    live: &[u32; TYPES],
+    bears: &[u32; TYPES],
     forward: u32,
-    own: u32,
+    live: u32,
     reached: [bool; TYPES],
 ) -> [bool; TYPES]
-    ensures { λ r. ⌜ r ≡ reachStep (now (live .entry)) forward own (record { from = from; by = by .0; to = to }) reached ⌝ }
+    ensures { λ r. ⌜ r ≡ reachStep (now (bears .entry)) forward live (record { from = from; by = by .0; to = to }) reached ⌝ }
 {
     let b = by.0 as usize % TYPES;
     if !StateSet(forward).has(from) {
         return reached;
     }
-    if !StateSet(live[b]).has(0) {
+    if !bears_in(bears, b) {
         return reached;
     }
-    if !StateSet(own).has(to) {
+    if !StateSet(live).has(to) {
         return reached;
     }
     let mut next = reached;
@@ -38,28 +48,27 @@ fn reach_step(
     next
 }
 
-// The n steps from start on, one after another.
+// The steps of a type, one after another.
 fn reach_steps<'a>(
     from: &'a [u8; STEPS],
     by: &'a [u8; STEPS],
     to: &'a [u8; STEPS],
-    start: usize,
-    n: usize,
-    live: &'a [u32; TYPES],
+    span: Span,
+    bears: &'a [u32; TYPES],
     forward: u32,
-    own: u32,
+    live: u32,
     reached: [bool; TYPES],
 ) -> [bool; TYPES]
-    requires { ⌜ start + n ≤ 1024 ⌝ }
+    requires { ⌜ span .start + span .n ≤ mostSteps ⌝ }
     ensures { λ r. ⌜ r
-        ≡ reachSteps (now (live .entry)) forward own (stepsOf (now (from .entry)) (now (by .entry)) (now (to .entry)) start n)
-        reached ⌝ }
+        ≡ reachSteps (now (bears .entry)) forward live
+        (stepsOf (now (from .entry)) (now (by .entry)) (now (to .entry)) (span .start) (span .n)) reached ⌝ }
 {
-    let end = start + n;
+    let end = span.start + span.n;
     let mut next = reached;
-    let mut i = start;
+    let mut i = span.start;
     while i < end {
-        let grown = reach_step(from[i], TypeNo(by[i]), to[i], live, forward, own, next);
+        let grown = reach_step(from[i], TypeNo(by[i]), to[i], bears, forward, live, next);
         next = grown;
         i += 1;
     }
@@ -73,14 +82,13 @@ pub(crate) fn reach_all<'a>(
     to: &'a [u8; STEPS],
     steps: &'a [u16; TYPES],
     types: usize,
-    live: &'a [u32; TYPES],
-    forward: &'a [u32; TYPES],
+    tables: StateTables,
     reached: [bool; TYPES],
 ) -> [bool; TYPES]
-    requires { ⌜ (types ≤ 64) × (offset (now steps) types ≤ 1024) ⌝ }
+    requires { ⌜ (types ≤ mostTypes) × (offset (now steps) types ≤ mostSteps) ⌝ }
     ensures { λ r. ⌜ r
-        ≡ reachAll (now (steps .entry)) (stepsOf (now (from .entry)) (now (by .entry)) (now (to .entry))) (now (live .entry))
-        (now (forward .entry)) 0 0 types reached ⌝ }
+        ≡ reachAll (now (steps .entry)) (stepsOf (now (from .entry)) (now (by .entry)) (now (to .entry))) (tables .bears)
+        (tables .forward) (tables .live) 0 0 types reached ⌝ }
 {
     let mut next = reached;
     let mut start = 0;
@@ -88,7 +96,10 @@ pub(crate) fn reach_all<'a>(
     while a < types {
         let n = steps[a] as usize;
         if next[a] {
-            let grown = reach_steps(from, by, to, start, n, live, forward[a], live[a], next);
+            let forward = tables.forward[a];
+            let live = tables.live[a];
+            let span = Span { start, n };
+            let grown = reach_steps(from, by, to, span, &tables.bears, forward, live, next);
             next = grown;
         }
         start += n;

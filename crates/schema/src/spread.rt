@@ -1,22 +1,33 @@
 // Sets of states that grow along steps: one round over the steps of every type.
+use crate::span::Span;
 use crate::state_set::StateSet;
 use crate::value::STEPS;
 use crate::value::TYPES;
 use sdtd::TypeNo;
 ghost use mathlib.Core.Path.{_≡_};
 ghost use mathlib.Core.Logic.{_↔_};
-ghost use Prim.Native.Nat.{_+_, _≤_};
+ghost use Prim.Native.Nat.{_+_, _≤_, _<_};
 ghost use lib.Dec.{T};
+ghost use Rattle.sdtd.specs.Limits.{mostTypes, mostSteps};
+ghost use Rattle.schema.specs.States.{bearsIn};
 ghost use Rattle.schema.specs.Value.{stepsOf, offset};
 ghost use Rattle.schema.specs.Spread.{spreadStep, spreadSet, spreadAll};
 
+// Does the table say that the type bears a tree?
+pub(crate) fn bears_in(table: &[u32; TYPES], a: usize) -> bool
+    requires { ⌜ a < mostTypes ⌝ }
+    ensures { λ r. ⌜ r ≡ bearsIn (now (table .entry)) a ⌝ }
+{
+    StateSet(table[a]).has(0)
+}
+
 // A step by a tree-bearing type with its state `when` in the set adds its state `add`.
-// Inside the limits the remainder changes nothing: a type is below 64.
+// Inside the limits the remainder changes nothing: a type is below TYPES.
 fn spread_step(add: u8, by: TypeNo, when: u8, bears: &[u32; TYPES], set: u32) -> u32
     ensures { λ r. ⌜ r ≡ spreadStep (now (bears .entry)) (record { from = add; by = by .0; to = when }) set ⌝ }
 {
     let b = by.0 as usize % TYPES;
-    if !StateSet(bears[b]).has(0) {
+    if !bears_in(bears, b) {
         return set;
     }
     if !StateSet(set).has(when) {
@@ -26,23 +37,22 @@ fn spread_step(add: u8, by: TypeNo, when: u8, bears: &[u32; TYPES], set: u32) ->
     grown.0
 }
 
-// The n steps from start on, one after another.
+// The steps of a type, one after another.
 fn spread_set<'a>(
     add: &'a [u8; STEPS],
     by: &'a [u8; STEPS],
     when: &'a [u8; STEPS],
-    start: usize,
-    n: usize,
+    span: Span,
     bears: &'a [u32; TYPES],
     set: u32,
 ) -> u32
-    requires { ⌜ start + n ≤ 1024 ⌝ }
+    requires { ⌜ span .start + span .n ≤ mostSteps ⌝ }
     ensures { λ r. ⌜ r
-        ≡ spreadSet (now (bears .entry)) (stepsOf (now (add .entry)) (now (by .entry)) (now (when .entry)) start n) set ⌝ }
+        ≡ spreadSet (now (bears .entry)) (stepsOf (now (add .entry)) (now (by .entry)) (now (when .entry)) (span .start) (span .n)) set ⌝ }
 {
-    let end = start + n;
+    let end = span.start + span.n;
     let mut grown = set;
-    let mut i = start;
+    let mut i = span.start;
     while i < end {
         grown = spread_step(add[i], TypeNo(by[i]), when[i], bears, grown);
         i += 1;
@@ -60,7 +70,7 @@ pub(crate) fn spread_all<'a>(
     bears: &'a [u32; TYPES],
     sets: [u32; TYPES],
 ) -> [u32; TYPES]
-    requires { ⌜ (types ≤ 64) × (offset (now steps) types ≤ 1024) ⌝ }
+    requires { ⌜ (types ≤ mostTypes) × (offset (now steps) types ≤ mostSteps) ⌝ }
     ensures { λ r. ⌜ r
         ≡ spreadAll (now (steps .entry)) (stepsOf (now (add .entry)) (now (by .entry)) (now (when .entry))) (now (bears .entry)) 0 0
         types sets ⌝ }
@@ -70,7 +80,7 @@ pub(crate) fn spread_all<'a>(
     let mut a = 0;
     while a < types {
         let n = steps[a] as usize;
-        grown[a] = spread_set(add, by, when, start, n, bears, grown[a]);
+        grown[a] = spread_set(add, by, when, Span { start, n }, bears, grown[a]);
         start += n;
         a += 1;
     }

@@ -6,7 +6,7 @@ ghost use Prim.Native.Nat.{ℕ, _<_};
 ghost use lib.Dec.{T};
 ghost use Rattle.schema.specs.States.{member, insert, meet};
 
-// A set of states below 32, a bit each.
+// A set of states below STATES, a bit each.
 pub struct StateSet(pub u32);
 
 impl StateSet {
@@ -15,7 +15,7 @@ impl StateSet {
     // the set of only state 0
     pub const START: StateSet = StateSet(1);
 
-    // Is the state in the set? No state of 32 or more is.
+    // Is the state in the set? No state of STATES or more is.
     pub fn has(self, state: u8) -> bool
         ensures { λ r. ⌜ r ≡ member state (self .0) ⌝ }
     {
@@ -25,7 +25,7 @@ impl StateSet {
         self.0 >> (state as u32) & 1 == 1
     }
 
-    // The set with the state; unchanged for a state of 32 or more.
+    // The set with the state; unchanged for a state of STATES or more.
     pub fn with(self, state: u8) -> StateSet
         ensures { λ r. ⌜ r .0 ≡ insert state (self .0) ⌝ }
     {

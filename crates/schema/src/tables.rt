@@ -1,7 +1,9 @@
 // Trimming: which states are live, which types bear a tree, which types are reached.
 use crate::limits::within;
+use crate::reach::StateTables;
 use crate::reach::reach_all;
 use crate::reach::same_flags;
+use crate::spread::bears_in;
 use crate::spread::same_sets;
 use crate::spread::spread_all;
 use crate::state_set::StateSet;
@@ -12,13 +14,17 @@ use sdtd::TypeNo;
 ghost use mathlib.Core.Path.{_≡_};
 ghost use mathlib.Core.Bool.{true, false};
 ghost use Prim.Native.Nat.{_≤_, _<_};
+ghost use lib.Dec.{T};
 ghost use lib.ListN.{set, replicate};
+ghost use Rattle.sdtd.specs.Limits.{mostTypes, mostSteps};
+ghost use Rattle.sdtd.specs.Schema.{WithinLimits};
 ghost use Rattle.schema.specs.Value.{stepsOf, offset, meaning};
 ghost use Rattle.schema.specs.Spread.{spreadAll, reachAll, Settled, firstSets, startStates, bearing};
-ghost use Rattle.schema.specs.Trimming.{TrimMeans, LiveMeans};
+ghost use Rattle.schema.specs.Trimming.{Exact, TrimMeans, LiveMeans};
 
-// Entry a: the live states of the type a as a set, whether it bears a tree, whether it is reached.
+// Whether a schema is inside the limits. Entry a: the live states of the type a as a set, whether it bears a tree, whether it is reached.
 pub struct Trimming {
+    pub inside: bool,
     pub live: [u32; TYPES],
     pub bears: [bool; TYPES],
     pub reached: [bool; TYPES],
@@ -26,7 +32,7 @@ pub struct Trimming {
 
 // The first `types` entries, and nothing in the others.
 fn first_sets(sets: [u32; TYPES], types: usize) -> [u32; TYPES]
-    requires { ⌜ types ≤ 64 ⌝ }
+    requires { ⌜ types ≤ mostTypes ⌝ }
     ensures { λ r. ⌜ r ≡ firstSets types sets ⌝ }
 {
     let mut kept = [StateSet::NONE.0; TYPES];
@@ -47,7 +53,7 @@ fn live_states<'a>(
     types: usize,
     accepting: [u32; TYPES],
 ) -> [u32; TYPES]
-    requires { ⌜ (types ≤ 64) × (offset (now steps) types ≤ 1024) ⌝ }
+    requires { ⌜ (types ≤ mostTypes) × (offset (now steps) types ≤ mostSteps) ⌝ }
     ensures { λ r. ⌜ Settled
         (λ t. spreadAll (now (steps .entry)) (stepsOf (now (from .entry)) (now (by .entry)) (now (to .entry))) t 0 0 types t)
         (firstSets types accepting) r ⌝ }
@@ -70,16 +76,16 @@ fn forward_states<'a>(
     to: &'a [u8; STEPS],
     steps: &'a [u16; TYPES],
     types: usize,
-    live: &'a [u32; TYPES],
+    bears: &'a [u32; TYPES],
 ) -> [u32; TYPES]
-    requires { ⌜ (types ≤ 64) × (offset (now steps) types ≤ 1024) ⌝ }
+    requires { ⌜ (types ≤ mostTypes) × (offset (now steps) types ≤ mostSteps) ⌝ }
     ensures { λ r. ⌜ Settled
-        (λ t. spreadAll (now (steps .entry)) (stepsOf (now (to .entry)) (now (by .entry)) (now (from .entry))) (now (live .entry)) 0 0 types t)
+        (λ t. spreadAll (now (steps .entry)) (stepsOf (now (to .entry)) (now (by .entry)) (now (from .entry))) (now (bears .entry)) 0 0 types t)
         startStates r ⌝ }
 {
     let mut forward = [StateSet::START.0; TYPES];
     loop {
-        let next = spread_all(to, by, from, steps, types, live, forward);
+        let next = spread_all(to, by, from, steps, types, bears, forward);
         if same_sets(next, forward) {
             return forward;
         }
@@ -94,20 +100,19 @@ fn reached_types<'a>(
     to: &'a [u8; STEPS],
     steps: &'a [u16; TYPES],
     types: usize,
-    live: &'a [u32; TYPES],
-    forward: &'a [u32; TYPES],
+    tables: StateTables,
     root: TypeNo,
 ) -> [bool; TYPES]
-    requires { ⌜ (types ≤ 64) × (offset (now steps) types ≤ 1024) × (root .0 < 64) ⌝ }
+    requires { ⌜ (types ≤ mostTypes) × (offset (now steps) types ≤ mostSteps) × (root .0 < mostTypes) ⌝ }
     ensures { λ r. ⌜ Settled
-        (λ t. reachAll (now (steps .entry)) (stepsOf (now (from .entry)) (now (by .entry)) (now (to .entry))) (now (live .entry)) (now (forward .entry)) 0 0 types t)
-        (set (replicate 64 false) (root .0) true) r ⌝ }
+        (λ t. reachAll (now (steps .entry)) (stepsOf (now (from .entry)) (now (by .entry)) (now (to .entry))) (tables .bears) (tables .forward) (tables .live) 0 0 types t)
+        (set (replicate mostTypes false) (root .0) true) r ⌝ }
 {
     let first = root.0 as usize;
     let mut reached = [false; TYPES];
     reached[first] = true;
     loop {
-        let next = reach_all(from, by, to, steps, types, live, forward, reached);
+        let next = reach_all(from, by, to, steps, types, tables, reached);
         if same_flags(next, reached) {
             return reached;
         }
@@ -115,14 +120,14 @@ fn reached_types<'a>(
     }
 }
 
-// Which types have a live start state.
-fn bearing_types(live: [u32; TYPES]) -> [bool; TYPES]
-    ensures { λ r. ⌜ r ≡ bearing live ⌝ }
+// Which types bear a tree, by the table.
+fn bearing_types(table: [u32; TYPES]) -> [bool; TYPES]
+    ensures { λ r. ⌜ r ≡ bearing table ⌝ }
 {
     let mut bears = [false; TYPES];
     let mut a = 0;
     while a < TYPES {
-        bears[a] = StateSet(live[a]).has(0);
+        bears[a] = bears_in(&table, a);
         a += 1;
     }
     bears
@@ -157,17 +162,11 @@ pub fn live(schema: Schema) -> LiveStates
     LiveStates { inside: true, live }
 }
 
-// The tables of a schema inside the limits; tables of nothing for any other.
-pub fn trim(schema: Schema) -> Trimming
-    ensures { λ r. ⌜ TrimMeans (meaning schema) r ⌝ }
+// The tables of a schema inside the limits.
+fn trim_inside(schema: Schema) -> Trimming
+    requires { ⌜ WithinLimits (meaning schema) ⌝ }
+    ensures { λ r. ⌜ T (r .inside) × Exact (meaning schema) r ⌝ }
 {
-    if !within(schema) {
-        return Trimming {
-            live: [StateSet::NONE.0; TYPES],
-            bears: [false; TYPES],
-            reached: [false; TYPES],
-        };
-    }
     let types = schema.types as usize;
     let root = schema.root;
     let accepting = schema.accepting;
@@ -187,20 +186,40 @@ pub fn trim(schema: Schema) -> Trimming
         types,
         &live,
     );
+    let tables = StateTables {
+        bears: live,
+        forward,
+        live,
+    };
     let reached = reached_types(
         &schema.from,
         &schema.by,
         &schema.to,
         &schema.steps,
         types,
-        &live,
-        &forward,
+        tables,
         root,
     );
     let bears = bearing_types(live);
     Trimming {
+        inside: true,
         live,
         bears,
         reached,
     }
+}
+
+// The tables of a schema inside the limits; tables of nothing for any other.
+pub fn trim(schema: Schema) -> Trimming
+    ensures { λ r. ⌜ TrimMeans (meaning schema) r ⌝ }
+{
+    if !within(schema) {
+        return Trimming {
+            inside: false,
+            live: [StateSet::NONE.0; TYPES],
+            bears: [false; TYPES],
+            reached: [false; TYPES],
+        };
+    }
+    trim_inside(schema)
 }

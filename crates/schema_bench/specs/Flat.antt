@@ -29,7 +29,7 @@ valueOf f =
 
 -- the trimming of the tables
 abbrev pub trimmingOf : Tables → Trimming
-trimmingOf t = record { live = t .live; bears = t .bears; reached = t .reached }
+trimmingOf t = record { inside = t .inside; live = t .live; bears = t .bears; reached = t .reached }
 
 -- n is the number of a right answer
 pub record SearchNumber (S : Meaning) (was is : List ℕ) (n : ℕ) : Type 0 where

@@ -34,6 +34,7 @@ pub struct Flat {
 // The fields of a trimming.
 #[repr(C)]
 pub struct Tables {
+    pub inside: bool,
     pub live: [u32; TYPES],
     pub bears: [bool; TYPES],
     pub reached: [bool; TYPES],
@@ -81,6 +82,7 @@ pub extern "C" fn schema_bench_trim(flat: Flat) -> Tables
     let bears = trimming.bears;
     let reached = trimming.reached;
     Tables {
+        inside: trimming.inside,
         live,
         bears,
         reached,

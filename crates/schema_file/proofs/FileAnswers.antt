@@ -3,67 +3,64 @@ use mathlib.Core.Path.{_≡_, refl, sym, subst, _∙_}
 use mathlib.Core.Logic.{inl, inr}
 use mathlib.Core.List.{List, [], _∷_}
 use Prim.Native.Nat.{ℕ, _≤_}
-use native.Mathlib.Omega.{arith}
 use lib.ListN.{length}
 use Rattle.sdtd.specs.Limits.{leastWitness}
 use Rattle.sdtd.specs.Document.{SomeValid}
 use Rattle.sdtd.specs.Schema.{Schema as Meaning}
 use Rattle.sdtd.specs.Competition.{Competition}
 use Rattle.sdtd.specs.Competition.{Accepted as IsAccepted}
-use Rattle.sdtd.specs.Answer.{Ordered}
+use Rattle.sdtd.specs.Answer.{ask, Ordered}
 use Rattle.sdtd.proofs.Answers.{ordered-unique}
 use Rattle.sdtd.proofs.Ambiguity.{competition-is-ambiguity}
 use Rattle.sdtd.proofs.Trimming.{root-bears}
+use Rattle.sdtd.proofs.Verdicts.{refused-not-fine}
 use Rattle.commands.specs.File.{Stated, Commands, stopped, states, commands, schemaBy, unknown, StatesSchema, mostBytes}
 use Rattle.schema.specs.Value.{meaning}
 use Rattle.schema.specs.declared.value.Schema.{Schema}
-use Rattle.schema_file.specs.Answer.{ask, afterDone, AnswerBy, AnswerIs, BufferBy, SchemaBy, FileMeans, Demand3File}
+use Rattle.schema_file.specs.Answer.{afterDone, AnswerBy, AnswerIs, BufferBy, SchemaBy, FileMeans, Demand3File}
 use Rattle.schema_file.specs.declared.file.SchemaFile.{SchemaFile}
 use Rattle.commands.proofs.StatedLimits.{stated-within}
 use Rattle.commands.proofs.Lengths.{longest}
-use Rattle.competition.proofs.Outcome.{witness-competes}
-use Rattle.schema_file.specs.declared.file.FileAnswer.{FileAnswer}
-use Rattle.schema_file.specs.declared.file.FileAnswer.the-variants.{Accepted, Refused}
+use Rattle.competition.proofs.Answers.{witness-competes}
+use Rattle.sdtd.specs.declared.Verdict.{Verdict}
+use Rattle.sdtd.specs.declared.Verdict.the-variants.{Fine, RefusedAt}
 
 -- at most one answer where the buffer is long enough
-by-unique : (x : Commands) {a b : FileAnswer} → AnswerBy x a → AnswerBy x b → a ≡ b
+by-unique : (x : Commands) {a b : Verdict} → AnswerBy x a → AnswerBy x b → a ≡ b
 by-unique (stopped n p) r s = r ∙ sym s
-by-unique (states g) r s = ordered-unique (λ c. c ≡ Accepted) (afterDone g) (λ all u v. u ∙ sym v) r s
+by-unique (states g) r s = ordered-unique (λ c. c ≡ Fine) (afterDone g) (λ all u v. u ∙ sym v) r s
 
 -- a file has at most one answer
-pub file-unique : (file was : List ℕ) {a b : FileAnswer} → AnswerIs file was a → AnswerIs file was b → a ≡ b
+pub file-unique : (file was : List ℕ) {a b : Verdict} → AnswerIs file was a → AnswerIs file was b → a ≡ b
 file-unique file was r s =
-    ordered-unique (AnswerBy (commands file)) (ask 1 0 (leastWitness ≤ length was) ∷ []) (λ all u v. by-unique (commands file) u v) r s
+    ordered-unique (AnswerBy (commands file)) (ask (RefusedAt 1 0) (leastWitness ≤ length was) ∷ []) (λ all u v. by-unique (commands file) u v) r s
 
 -- the answer where the questions before 9 hold
-last-question : (g : Stated) {a : FileAnswer} → unknown g ≡ [] → SomeValid (schemaBy g) → AnswerBy (states g) a
-    → Ordered (ask 9 0 (¬ Competition (schemaBy g)) ∷ []) (λ b. b ≡ Accepted) a
+last-question : (g : Stated) {a : Verdict} → unknown g ≡ [] → SomeValid (schemaBy g) → AnswerBy (states g) a
+    → Ordered (ask (RefusedAt 9 0) (¬ Competition (schemaBy g)) ∷ []) (λ b. b ≡ Fine) a
 unfolding schemaBy
 last-question g known some (inl o) = absurd (o .0 known)
 last-question g known some (inr (k, inl o)) = absurd (o .0 (root-bears .1 some))
 last-question g known some (inr (k, inr o)) = o .1
 
-pub not-both : {A : Type 0} {a : FileAnswer} → a ≡ Accepted → a ≡ Refused 9 0 → A
-not-both p q = absurd (let z : _≡_ {A = ℕ} 0 1 = cc in omega arith)
-
 -- the answer to question 9, with a competition where it is refused for one
-demanded : {S : Meaning} {a : FileAnswer} → Ordered (ask 9 0 (¬ Competition S) ∷ []) (λ b. b ≡ Accepted) a
-    → (a ≡ Refused 9 0 → Competition S) → Demand3File S a
+demanded : {S : Meaning} {a : Verdict} → Ordered (ask (RefusedAt 9 0) (¬ Competition S) ∷ []) (λ b. b ≡ Fine) a
+    → (a ≡ RefusedAt 9 0 → Competition S) → Demand3File S a
 demanded (inl o) found =
     record {
       refused = (λ e. competition-is-ambiguity .0 (found e), λ m. o .1);
-      accepted = (λ e. not-both e (o .1), λ n. absurd (o .0 (λ c. n (competition-is-ambiguity .0 c))));
+      accepted = (λ e. refused-not-fine (o .1) e, λ n. absurd (o .0 (λ c. n (competition-is-ambiguity .0 c))));
       either = inl (o .1);
     }
 demanded (inr o) found =
     record {
-      refused = (λ e. not-both (o .1) e, λ m. absurd (o .0 (competition-is-ambiguity .1 m)));
+      refused = (λ e. refused-not-fine e (o .1), λ m. absurd (o .0 (competition-is-ambiguity .1 m)));
       accepted = (λ e m. o .0 (competition-is-ambiguity .1 m), λ n. o .1);
       either = inr (o .1);
     }
 
 -- the same of a file that passes questions 1 to 7
-demanded-of : (file was is : List ℕ) {g : Stated} {a : FileAnswer} → commands file ≡ states g → unknown g ≡ []
+demanded-of : (file was is : List ℕ) {g : Stated} {a : Verdict} → commands file ≡ states g → unknown g ≡ []
     → leastWitness ≤ length was → SomeValid (schemaBy g) → AnswerIs file was a → BufferBy (commands file) was is a
     → Demand3File (schemaBy g) a
 demanded-of file was is e known l some (inl o) buffer = absurd (o .0 l)
@@ -86,16 +83,13 @@ pub record AcceptedFile (file : List ℕ) (v : Schema) : Type 0 where
   pub schema : IsAccepted (meaning v)
   pub short : length file ≤ mostBytes
 
-pub refused-accepted : {A : Type 0} {a : FileAnswer} {n p : ℕ} → a ≡ Refused n p → a ≡ Accepted → A
-refused-accepted p q = absurd (let z : _≡_ {A = ℕ} 0 1 = cc in omega arith)
-
-accepted-by : (file : List ℕ) (k : Commands) {v : Schema} {a : FileAnswer} → commands file ≡ k → AnswerBy k a → SchemaBy k v a → a ≡ Accepted
+accepted-by : (file : List ℕ) (k : Commands) {v : Schema} {a : Verdict} → commands file ≡ k → AnswerBy k a → SchemaBy k v a → a ≡ Fine
     → AcceptedFile file v
 unfolding schemaBy
-accepted-by file (stopped n p) e r s q = refused-accepted r q
-accepted-by file (states g) e (inl o) s q = refused-accepted (o .1) q
-accepted-by file (states g) e (inr (k, inl o)) s q = refused-accepted (o .1) q
-accepted-by file (states g) e (inr (k, inr (b, inl o))) s q = refused-accepted (o .1) q
+accepted-by file (stopped n p) e r s q = refused-not-fine r q
+accepted-by file (states g) e (inl o) s q = refused-not-fine (o .1) q
+accepted-by file (states g) e (inr (k, inl o)) s q = refused-not-fine (o .1) q
+accepted-by file (states g) e (inr (k, inr (b, inl o))) s q = refused-not-fine (o .1) q
 accepted-by file (states g) e (inr (k, inr (b, inr (n, o)))) s q =
     let same = sym (s .0 q .schema) in
     record {
@@ -105,9 +99,9 @@ accepted-by file (states g) e (inr (k, inr (b, inr (n, o)))) s q =
     }
 
 -- The schema beside an accepting answer is inside question 10's limits and accepted; the file is no longer than 8,389 bytes.
-pub accepted-file : {file was is : List ℕ} {r : SchemaFile} → FileMeans file was is r → r .answer ≡ Accepted → AcceptedFile file (r .schema)
+pub accepted-file : {file was is : List ℕ} {r : SchemaFile} → FileMeans file was is r → r .answer ≡ Fine → AcceptedFile file (r .schema)
 accepted-file {file} {was} {is} {r} m q = from (m .answer)
   where
     from : AnswerIs file was (r .answer) → AcceptedFile file (r .schema)
-    from (inl o) = refused-accepted (o .1) q
+    from (inl o) = refused-not-fine (o .1) q
     from (inr o) = accepted-by file (commands file) refl (o .1) (m .schema) q

@@ -7,22 +7,23 @@ use native.Mathlib.Omega.{arith}
 use lib.ListN.{length, drop}
 use Rattle.sdtd.specs.Limits.{leastWitness}
 use Rattle.sdtd.specs.Schema.{Schema}
-use Rattle.sdtd.specs.Trim.{Bears}
+use Rattle.sdtd.specs.Trim.{RootBears}
 use Rattle.sdtd.specs.Competition.{Competition, Witness}
 use Rattle.sdtd.specs.Competition.{Accepted as IsAccepted}
+use Rattle.sdtd.proofs.Basics.{_&_}
+use Rattle.sdtd.proofs.Verdicts.{refused-not-fine}
 use Rattle.sdtd.proofs.SampleSchemas.{acceptedR, acceptedNoD, acceptedTwoTypes, acceptedLastButOne, acceptedOptional}
 use Rattle.sdtd.proofs.SampleSchemas.{refusedChoice, refusedTwoWays, bearsNoneEndless}
 use Rattle.schema.specs.States.{insert, membersBelow}
-use Rattle.commands.specs.Command.{commandOf}
+use Rattle.command.specs.Command.{commandOf}
 use Rattle.commands.specs.File.{Stated, nothingStated, Commands, stopped, states, after, commandsFrom, commands, schemaBy, StatesSchema}
 use Rattle.schema_file.specs.Answer.{AnswerIs, AnswerBy, BufferBy}
 use Rattle.schema_file.specs.Samples.{AllHold, starredFiles, shortFiles, FilesState, fileR, fileChoice, fileNoD, fileTwoWays}
 use Rattle.schema_file.specs.Samples.{fileTwoTypes, fileLastButOne, fileOptional, fileEndless}
-use Rattle.competition.proofs.Outcome.{witness-competes}
+use Rattle.competition.proofs.Answers.{witness-competes}
 use Rattle.schema_file.proofs.Answered.{buffer-same}
-use Rattle.schema_file.proofs.FileAnswers.{not-both}
-use Rattle.schema_file.specs.declared.file.FileAnswer.{FileAnswer}
-use Rattle.schema_file.specs.declared.file.FileAnswer.the-variants.{Accepted, Refused}
+use Rattle.sdtd.specs.declared.Verdict.{Verdict}
+use Rattle.sdtd.specs.declared.Verdict.the-variants.{Fine, RefusedAt}
 
 -- what is stated where the commands passed
 abbrev statedIn : Commands → Stated
@@ -33,44 +34,42 @@ pub files-state : FilesState
 unfolding commands commandsFrom commandOf after insert schemaBy membersBelow
 files-state =
     record {
-      first = record { stated = statedIn (commands fileR); passes = refl; known = refl; schema = refl };
-      fourth = record { stated = statedIn (commands fileChoice); passes = refl; known = refl; schema = refl };
-      fifth = record { stated = statedIn (commands fileNoD); passes = refl; known = refl; schema = refl };
-      sixth = record { stated = statedIn (commands fileTwoWays); passes = refl; known = refl; schema = refl };
-      seventh = record { stated = statedIn (commands fileTwoTypes); passes = refl; known = refl; schema = refl };
-      eighth = record { stated = statedIn (commands fileLastButOne); passes = refl; known = refl; schema = refl };
-      ninth = record { stated = statedIn (commands fileOptional); passes = refl; known = refl; schema = refl };
-      tenth = record { stated = statedIn (commands fileEndless); passes = refl; known = refl; schema = refl };
+      first = record { stated = statedIn (commands (fileR .bytes)); passes = refl; known = refl; schema = refl };
+      fourth = record { stated = statedIn (commands (fileChoice .bytes)); passes = refl; known = refl; schema = refl };
+      fifth = record { stated = statedIn (commands (fileNoD .bytes)); passes = refl; known = refl; schema = refl };
+      sixth = record { stated = statedIn (commands (fileTwoWays .bytes)); passes = refl; known = refl; schema = refl };
+      seventh = record { stated = statedIn (commands (fileTwoTypes .bytes)); passes = refl; known = refl; schema = refl };
+      eighth = record { stated = statedIn (commands (fileLastButOne .bytes)); passes = refl; known = refl; schema = refl };
+      ninth = record { stated = statedIn (commands (fileOptional .bytes)); passes = refl; known = refl; schema = refl };
+      tenth = record { stated = statedIn (commands (fileEndless .bytes)); passes = refl; known = refl; schema = refl };
     }
 
 -- the answer after DONE, asked of the schema
 module _ {file : List ℕ} {S : Schema} (x : StatesSchema file S) (was : List ℕ) (long : leastWitness ≤ length was) where
-  by-schema : {a : FileAnswer} → AnswerBy (states (x .stated)) a → AnswerIs file was a
+  by-schema : {a : Verdict} → AnswerBy (states (x .stated)) a → AnswerIs file was a
   by-schema {a} y = inr (long, subst (λ (k : Commands). AnswerBy k a) (sym (x .passes)) y)
 
-  by-buffer : {is : List ℕ} {a : FileAnswer} → BufferBy (states (x .stated)) was is a → BufferBy (commands file) was is a
+  by-buffer : {is : List ℕ} {a : Verdict} → BufferBy (states (x .stated)) was is a → BufferBy (commands file) was is a
   by-buffer {is} {a} y = subst (λ (k : Commands). BufferBy k was is a) (sym (x .passes)) y
 
-  bears : Bears S (S .root) → Bears (schemaBy (x .stated)) (x .stated .root)
-  unfolding schemaBy
-  bears b = subst (λ (R : Schema). Bears R (R .root)) (sym (x .schema)) b
+  bears : RootBears S → RootBears (schemaBy (x .stated))
+  bears b = subst RootBears (sym (x .schema)) b
 
-  none-bears : ¬ Bears S (S .root) → ¬ Bears (schemaBy (x .stated)) (x .stated .root)
-  unfolding schemaBy
-  none-bears n b = n (subst (λ (R : Schema). Bears R (R .root)) (x .schema) b)
+  none-bears : ¬ RootBears S → ¬ RootBears (schemaBy (x .stated))
+  none-bears n b = n (subst RootBears (x .schema) b)
 
-  accepted-file : IsAccepted S → AnswerIs file was Accepted × BufferBy (commands file) was was Accepted
+  accepted-file : IsAccepted S → AnswerIs file was Fine × BufferBy (commands file) was was Fine
   accepted-file a = (
     by-schema
         (inr (x .known, inr (bears (a .bears), inr (subst (λ (R : Schema). ¬ Competition R) (sym (x .schema)) (a .no-competition), refl)))),
-    (λ e. not-both refl e, λ n. refl),
+    (λ e. refused-not-fine e refl, λ n. refl),
   )
 
-  treeless-file : ¬ Bears S (S .root) → AnswerIs file was (Refused 8 0) × BufferBy (commands file) was was (Refused 8 0)
+  treeless-file : ¬ RootBears S → AnswerIs file was (RefusedAt 8 0) × BufferBy (commands file) was was (RefusedAt 8 0)
   treeless-file n = (by-schema (inr (x .known, inl (none-bears n, refl))), buffer-same (commands file) was 8 0 (omega arith))
 
-  competing-file : {bytes : List ℕ} → Bears S (S .root) → Witness S bytes
-      → AnswerIs file was (Refused 9 0) × BufferBy (commands file) was (bytes ++ drop (length bytes) was) (Refused 9 0)
+  competing-file : {bytes : List ℕ} → RootBears S → Witness S bytes
+      → AnswerIs file was (RefusedAt 9 0) × BufferBy (commands file) was (bytes ++ drop (length bytes) was) (RefusedAt 9 0)
   competing-file {bytes} b w = (
     by-schema (inr (x .known, inr (bears b, inl (λ n. n (subst Competition (sym (x .schema)) (witness-competes w)), refl)))),
     by-buffer (
@@ -79,10 +78,6 @@ module _ {file : List ℕ} {S : Schema} (x : StatesSchema file S) (was : List �
       λ n. absurd (n refl),
     ),
   )
-
-infixr 25 _&_
-_&_ : {A B : Type 0} → A → B → A × B
-a & b = (a, b)
 
 pub starred-files-hold : AllHold starredFiles
 starred-files-hold =

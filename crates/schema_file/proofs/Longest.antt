@@ -8,18 +8,18 @@ use Rattle.sdtd.specs.Limits.{leastWitness}
 use Rattle.commands.specs.File.{Commands, states}
 use Rattle.commands.proofs.LongestFile.{longestFile, longest-stated}
 use Rattle.schema_file.specs.Answer.{AnswerIs, AnswerBy, FileMeans}
-use Rattle.schema_file.specs.declared.file.FileAnswer.the-variants.{Accepted}
+use Rattle.sdtd.specs.declared.Verdict.the-variants.{Fine}
 use Rattle.schema_file.specs.declared.file.SchemaFile.{SchemaFile}
 use Rattle.schema_file.proofs.FileAnswers.{file-unique}
 
 -- "The longest accepted file has 8,389 bytes": this one has as many (`longest-length`), and is accepted.
-pub longest-accepted : (was : List ℕ) → leastWitness ≤ length was → AnswerIs longestFile was Accepted
+pub longest-accepted : (was : List ℕ) → leastWitness ≤ length was → AnswerIs longestFile was Fine
 longest-accepted was l =
     let s = longest-stated in
-    let after-done : AnswerBy (states (s .longest-states)) Accepted =
+    let after-done : AnswerBy (states (s .longest-states)) Fine =
     inr (s .steps-known, inr (s .bears-tree, inr (s .restrained, refl))) in
-    inr (l, subst (λ (k : Commands). AnswerBy k Accepted) (sym (s .commands-pass)) after-done)
+    inr (l, subst (λ (k : Commands). AnswerBy k Fine) (sym (s .commands-pass)) after-done)
 
 -- so the call accepts it
-pub longest-read : {was is : List ℕ} {r : SchemaFile} → FileMeans longestFile was is r → leastWitness ≤ length was → r .answer ≡ Accepted
+pub longest-read : {was is : List ℕ} {r : SchemaFile} → FileMeans longestFile was is r → leastWitness ≤ length was → r .answer ≡ Fine
 longest-read {was} m l = file-unique longestFile was (m .answer) (longest-accepted was l)

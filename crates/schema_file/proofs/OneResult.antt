@@ -6,9 +6,10 @@ use native.Mathlib.Decide.{decLt}
 use native.Mathlib.Omega.{arith}
 use lib.ListN.{length, getD}
 use lib.Seq.{ext-getD}
-use Rattle.sdtd.specs.Limits.{mostTypes, mostSteps}
+use Rattle.sdtd.specs.Limits.{mostTypes, mostSteps, mostStates}
 use Rattle.sdtd.specs.Schema.{Step, Block, blockOf}
 use Rattle.sdtd.specs.Schema.{Schema as Meaning}
+use Rattle.sdtd.proofs.Verdicts.{refused-not-fine}
 use Rattle.schema.specs.States.{members}
 use Rattle.schema.specs.Value.{stepAt, stepsOf, offset, blockAt, meaning}
 use Rattle.schema.specs.declared.value.Schema.{Schema}
@@ -17,10 +18,10 @@ use Rattle.schema.proofs.Values.{steps-cons, steps-count, offset-step, types-co
 use Rattle.commands.specs.File.{Commands, stopped, states, commands}
 use Rattle.commands.specs.Value.{EmptyFrom, UnusedEmpty, StatedValue}
 use Rattle.schema_file.specs.Answer.{OfStated, FileMeans}
-use Rattle.schema_file.specs.declared.file.FileAnswer.{FileAnswer}
-use Rattle.schema_file.specs.declared.file.FileAnswer.the-variants.{Accepted, Refused}
+use Rattle.sdtd.specs.declared.Verdict.{Verdict}
+use Rattle.sdtd.specs.declared.Verdict.the-variants.{Fine, RefusedAt}
 use Rattle.schema_file.specs.declared.file.SchemaFile.{SchemaFile}
-use Rattle.schema_file.proofs.FileAnswers.{file-unique, refused-accepted}
+use Rattle.schema_file.proofs.FileAnswers.{file-unique}
 
 -- what a value's type in the source says of it: the lengths of its tables, and that a set of states has 32 bits
 pub record Shaped (v : Schema) : Type 0 where
@@ -31,7 +32,7 @@ pub record Shaped (v : Schema) : Type 0 where
   pub from : length (v .from) ≡ mostSteps
   pub by : length (v .by) ≡ mostSteps
   pub to : length (v .to) ≡ mostSteps
-  pub sets : (a : ℕ) → getD (v .accepting) a 0 < 2 ^ 32
+  pub sets : (a : ℕ) → getD (v .accepting) a 0 < 2 ^ mostStates
 
 -- tables that agree below n and are empty from there on
 same-table : (n : ℕ) (l m : List ℕ) → length l ≡ length m → EmptyFrom n l → EmptyFrom n m → ((i : ℕ) → i < n → getD l i 0 ≡ getD m i 0)
@@ -39,7 +40,7 @@ same-table : (n : ℕ) (l m : List ℕ) → length l ≡ length m → EmptyFrom 
 same-table n l m e p q same =
     ext-getD 0 l m e (λ i b. elim (decLt i n) [ yes h ↦ same i h | no h ↦ p i (omega arith) ∙ sym (q i (omega arith)) ])
 
-same-set : (x y : ℕ) → x < 2 ^ 32 → y < 2 ^ 32 → members x ≡ members y → x ≡ y
+same-set : (x y : ℕ) → x < 2 ^ mostStates → y < 2 ^ mostStates → members x ≡ members y → x ≡ y
 same-set x y b c e =
     same-members x y b c λ s. (
       λ m. mem-members s y c .0 (subst (List·Memᴰ s) e (mem-members s x b .1 m)),
@@ -137,7 +138,7 @@ one-result {file} {was} {is} {is′} {r} {s} m n k l i = record { answer = same 
     same : r .answer ≡ s .answer
     same = file-unique file was (m .answer) (n .answer)
 
-    schema : (a : FileAnswer) → r .answer ≡ a → r .schema ≡ s .schema
-    schema Accepted q = by-stated (commands file) k l (m .schema .0 q) (n .schema .0 (sym same ∙ q))
-    schema (Refused b p) q =
-        m .schema .1 (λ z. refused-accepted q z) ∙ sym (n .schema .1 (λ z. refused-accepted (sym same ∙ q) z))
+    schema : (a : Verdict) → r .answer ≡ a → r .schema ≡ s .schema
+    schema Fine q = by-stated (commands file) k l (m .schema .0 q) (n .schema .0 (sym same ∙ q))
+    schema (RefusedAt b p) q =
+        m .schema .1 (λ z. refused-not-fine q z) ∙ sym (n .schema .1 (λ z. refused-not-fine (sym same ∙ q) z))

@@ -4,20 +4,20 @@ use Prim.Native.Nat.{ℕ, _≤_}
 use lib.ListN.{length, drop}
 use Rattle.sdtd.specs.Limits.{leastWitness}
 use Rattle.sdtd.specs.Samples.{schemaR, schemaChoice, schemaNoD, schemaTwoWays, schemaTwoTypes, schemaLastButOne, schemaOptional}
-use Rattle.sdtd.specs.Samples.{schemaEndless}
+use Rattle.sdtd.specs.Samples.{schemaEndless, witnessChoice, witnessTwoWays}
 use Rattle.commands.specs.File.{commands, StatesSchema}
 use Rattle.schema_file.specs.Answer.{AnswerIs, BufferBy}
-use Rattle.schema_file.specs.declared.file.FileAnswer.{FileAnswer}
-use Rattle.schema_file.specs.declared.file.FileAnswer.the-variants.{Accepted, Refused}
+use Rattle.sdtd.specs.declared.Verdict.{Verdict}
+use Rattle.sdtd.specs.declared.Verdict.the-variants.{Fine, RefusedAt}
 
 -- a file, the answer that it gets, and where that is 9 a witness, else no byte
 pub record FileSample : Type 0 where
   pub bytes : List ℕ
-  pub answer : FileAnswer
+  pub answer : Verdict
   pub witness : List ℕ
 
--- with any buffer of at least 532 bytes the answer is right, and so is the buffer that begins with the witness and has its other bytes as
--- they were
+-- with any buffer that is long enough the answer is right, and so is the buffer that begins with the witness and has its other bytes as they
+-- were
 abbrev pub HoldsFor : FileSample → Type 0
 HoldsFor s =
     (was : List ℕ) → leastWitness ≤ length was
@@ -29,11 +29,11 @@ abbrev pub AllHold : List FileSample → Type 0
 AllHold [] = Unit
 AllHold (s ∷ ss) = HoldsFor s × AllHold ss
 
-abbrev gets : List ℕ → FileAnswer → FileSample
+abbrev gets : List ℕ → Verdict → FileSample
 gets bytes answer = record { bytes = bytes; answer = answer; witness = [] }
 
 abbrev getsWitness : List ℕ → List ℕ → FileSample
-getsWitness bytes witness = record { bytes = bytes; answer = Refused 9 0; witness = witness }
+getsWitness bytes witness = record { bytes = bytes; answer = RefusedAt 9 0; witness = witness }
 
 -- the files' parts: a leaf's block, the root and the end
 abbrev leaf : ℕ → List ℕ → List ℕ
@@ -42,13 +42,16 @@ leaf g rest = 0x11 ∷ g ∷ 1 ∷ 0x12 ∷ 0 ∷ rest
 abbrev done : List ℕ
 done = 0x14 ∷ 0 ∷ 0x1f ∷ []
 
--- R's bytes, as document 01 has them
-abbrev pub fileR : List ℕ
+-- "R above", with the bytes that document 01 has
+abbrev pub fileR : FileSample
 fileR =
-    0x10 ∷ 0x03 ∷ 0x11 ∷ 0x00 ∷ 0x02 ∷ 0x12 ∷ 0x01 ∷ 0x13 ∷ 0x00 ∷ 0x01 ∷ 0x00 ∷ 0x13 ∷ 0x00 ∷ 0x02 ∷ 0x01 ∷ 0x13 ∷ 0x01 ∷ 0x03 ∷ 0x01
+    gets
+    (0x10 ∷ 0x03 ∷ 0x11 ∷ 0x00 ∷ 0x02 ∷ 0x12 ∷ 0x01 ∷ 0x13 ∷ 0x00 ∷ 0x01 ∷ 0x00 ∷ 0x13 ∷ 0x00 ∷ 0x02 ∷ 0x01 ∷ 0x13 ∷ 0x01 ∷ 0x03 ∷ 0x01
     ∷ 0x11 ∷ 0x01 ∷ 0x01 ∷ 0x12 ∷ 0x00 ∷ 0x11 ∷ 0x02 ∷ 0x01 ∷ 0x12 ∷ 0x00 ∷ 0x11 ∷ 0x01 ∷ 0x01 ∷ 0x12 ∷ 0x00 ∷ 0x14 ∷ 0x00 ∷ 0x1f ∷ []
+    )
+    Fine
 
--- The fourth, the root (b|b') with two types under one tag; and the fifth, in which the last type has no accepting state.
+-- 000's schema, whose last block is d's
 abbrev choiceWith : List ℕ → List ℕ
 choiceWith d =
     0x10 ∷ 4
@@ -57,68 +60,74 @@ choiceWith d =
     ∷ 0x11 ∷ 1 ∷ 2 ∷ 0x12 ∷ 1 ∷ 0x13 ∷ 0 ∷ 4 ∷ 1
     ∷ leaf 2 d
 
-abbrev pub fileChoice : List ℕ
-fileChoice = choiceWith (leaf 3 done)
+-- the fourth: 9
+abbrev pub fileChoice : FileSample
+fileChoice = getsWitness (choiceWith (leaf 3 done)) witnessChoice
 
-abbrev pub fileNoD : List ℕ
-fileNoD = choiceWith (0x11 ∷ 3 ∷ 1 ∷ done)
+-- the fifth, "d without an accepting state: accepted."
+abbrev pub fileNoD : FileSample
+fileNoD = gets (choiceWith (0x11 ∷ 3 ∷ 1 ∷ done)) Fine
 
--- the sixth
-abbrev pub fileTwoWays : List ℕ
+-- the sixth: 9
+abbrev pub fileTwoWays : FileSample
 fileTwoWays =
-    0x10 ∷ 3
+    getsWitness
+    (0x10 ∷ 3
     ∷ 0x11 ∷ 0 ∷ 4 ∷ 0x12 ∷ 3 ∷ 0x13 ∷ 0 ∷ 1 ∷ 1 ∷ 0x13 ∷ 0 ∷ 1 ∷ 2 ∷ 0x13 ∷ 1 ∷ 2 ∷ 3 ∷ 0x13 ∷ 2 ∷ 3 ∷ 3
     ∷ leaf 1 (leaf 2 (leaf 2 done))
+    )
+    witnessTwoWays
 
--- the seventh
-abbrev pub fileTwoTypes : List ℕ
+-- the seventh: "accepted."
+abbrev pub fileTwoTypes : FileSample
 fileTwoTypes =
-    0x10 ∷ 3
+    gets
+    (0x10 ∷ 3
     ∷ 0x11 ∷ 0 ∷ 3 ∷ 0x12 ∷ 2 ∷ 0x13 ∷ 0 ∷ 1 ∷ 1 ∷ 0x13 ∷ 1 ∷ 2 ∷ 2 ∷ 0x13 ∷ 1 ∷ 3 ∷ 2
     ∷ leaf 1 (leaf 1 (leaf 2 done))
+    )
+    Fine
 
--- the eighth
-abbrev pub fileLastButOne : List ℕ
+-- the eighth: "accepted"
+abbrev pub fileLastButOne : FileSample
 fileLastButOne =
-    0x10 ∷ 3
+    gets
+    (0x10 ∷ 3
     ∷ 0x11 ∷ 0 ∷ 3 ∷ 0x12 ∷ 2 ∷ 0x13 ∷ 0 ∷ 1 ∷ 0 ∷ 0x13 ∷ 0 ∷ 2 ∷ 0 ∷ 0x13 ∷ 0 ∷ 1 ∷ 1 ∷ 0x13 ∷ 1 ∷ 1 ∷ 2 ∷ 0x13 ∷ 1 ∷ 2 ∷ 2
     ∷ leaf 1 (leaf 2 done)
+    )
+    Fine
 
 -- the ninth
-abbrev pub fileOptional : List ℕ
+abbrev pub fileOptional : FileSample
 fileOptional =
-    0x10 ∷ 4
+    gets
+    (0x10 ∷ 4
     ∷ 0x11 ∷ 0 ∷ 5 ∷ 0x12 ∷ 4 ∷ 0x13 ∷ 0 ∷ 1 ∷ 1 ∷ 0x13 ∷ 0 ∷ 2 ∷ 2 ∷ 0x13 ∷ 1 ∷ 2 ∷ 2 ∷ 0x13 ∷ 2 ∷ 2 ∷ 2 ∷ 0x13 ∷ 2 ∷ 3 ∷ 2
     ∷ 0x13 ∷ 2 ∷ 4 ∷ 3 ∷ 0x13 ∷ 3 ∷ 3 ∷ 4
     ∷ leaf 1 (leaf 2 (leaf 3 (leaf 1 done)))
+    )
+    Fine
 
--- the tenth
-abbrev pub fileEndless : List ℕ
-fileEndless = 0x10 ∷ 1 ∷ 0x11 ∷ 0 ∷ 2 ∷ 0x12 ∷ 1 ∷ 0x13 ∷ 0 ∷ 0 ∷ 1 ∷ done
+-- the tenth: "8."
+abbrev pub fileEndless : FileSample
+fileEndless = gets (0x10 ∷ 1 ∷ 0x11 ∷ 0 ∷ 2 ∷ 0x12 ∷ 1 ∷ 0x13 ∷ 0 ∷ 0 ∷ 1 ∷ done) (RefusedAt 8 0)
 
 -- The starred samples that are schema files: R, and the fourth to the tenth.
 abbrev pub starredFiles : List FileSample
-starredFiles =
-    gets fileR Accepted
-    ∷ getsWitness fileChoice (0x00 ∷ 0x01 ∷ 0x02 ∷ 0x00 ∷ 0x00 ∷ [])
-    ∷ gets fileNoD Accepted
-    ∷ getsWitness fileTwoWays (0x00 ∷ 0x02 ∷ 0x03 ∷ 0x01 ∷ 0x00 ∷ 0x01 ∷ [])
-    ∷ gets fileTwoTypes Accepted
-    ∷ gets fileLastButOne Accepted
-    ∷ gets fileOptional Accepted
-    ∷ gets fileEndless (Refused 8 0) ∷ []
+starredFiles = fileR ∷ fileChoice ∷ fileNoD ∷ fileTwoWays ∷ fileTwoTypes ∷ fileLastButOne ∷ fileOptional ∷ fileEndless ∷ []
 
 -- two short files, not starred: `10 20` and `10 21`
 abbrev pub shortFiles : List FileSample
-shortFiles = gets (0x10 ∷ 0x20 ∷ []) (Refused 2 2) ∷ gets (0x10 ∷ 0x21 ∷ []) (Refused 4 0) ∷ []
+shortFiles = gets (0x10 ∷ 0x20 ∷ []) (RefusedAt 2 2) ∷ gets (0x10 ∷ 0x21 ∷ []) (RefusedAt 4 0) ∷ []
 
 -- the starred files state the schemas of the samples
 pub record FilesState : Type 0 where
-  pub first : StatesSchema fileR schemaR
-  pub fourth : StatesSchema fileChoice schemaChoice
-  pub fifth : StatesSchema fileNoD schemaNoD
-  pub sixth : StatesSchema fileTwoWays schemaTwoWays
-  pub seventh : StatesSchema fileTwoTypes schemaTwoTypes
-  pub eighth : StatesSchema fileLastButOne schemaLastButOne
-  pub ninth : StatesSchema fileOptional schemaOptional
-  pub tenth : StatesSchema fileEndless schemaEndless
+  pub first : StatesSchema (fileR .bytes) schemaR
+  pub fourth : StatesSchema (fileChoice .bytes) schemaChoice
+  pub fifth : StatesSchema (fileNoD .bytes) schemaNoD
+  pub sixth : StatesSchema (fileTwoWays .bytes) schemaTwoWays
+  pub seventh : StatesSchema (fileTwoTypes .bytes) schemaTwoTypes
+  pub eighth : StatesSchema (fileLastButOne .bytes) schemaLastButOne
+  pub ninth : StatesSchema (fileOptional .bytes) schemaOptional
+  pub tenth : StatesSchema (fileEndless .bytes) schemaEndless

@@ -5,13 +5,22 @@
 // `refused N at P` or, for 9, `refused 9 at 0 type A`; `buffer changed` follows where a byte
 // changed that had to stay. J, K and w are the reader's choice, so after a 9 comes a line of its
 // own, `case I witness A J K n w..`, which `tests/confirm.py` confirms.
-use schema_file::FileAnswer;
-ghost use Prim.Native.Nat.{_<_};
+use competition::WORD_PLACE;
+use sdtd::Verdict;
+ghost use Prim.Native.Nat.{_^_, _<_};
+
+// The most cases.
+const CASES: u32 = 0x10000;
+
+// The length that ends the cases.
+const END: usize = 0xffff;
 
 // The longest file of a case.
 const FILE: usize = 16384;
 // The longest witness buffer of a case.
 const BUFFER: usize = 600;
+// The longest word that it has room for.
+const WORD: usize = BUFFER - WORD_PLACE;
 // What each byte of the buffer holds before the call.
 const PATTERN: u8 = 0xA5;
 
@@ -26,7 +35,7 @@ fn long(n: usize) -> u64 {
 }
 
 fn two(low: u8, high: u8) -> usize
-    ensures { λ r. ⌜ r < 65536 ⌝ }
+    ensures { λ r. ⌜ r < 2 ^ 16 ⌝ }
 {
     low as usize + 256 * (high as usize)
 }
@@ -48,11 +57,11 @@ fn print_byte(n: u8) {
     io::print_decimal(OUT, wide(n));
 }
 
-// Prints the word of `n` types that stands in the buffer from byte 5 on.
+// Prints the word of `n` types that stands in the buffer.
 fn print_word(buffer: &[u8; BUFFER], n: usize) {
     let mut i: usize = 0;
-    while i < 595 && i < n {
-        print_byte(buffer[i + 5]);
+    while i < WORD && i < n {
+        print_byte(buffer[i + WORD_PLACE]);
         i += 1;
     }
 }
@@ -89,17 +98,17 @@ fn print_competition(case: u32, buffer: &[u8; BUFFER]) {
     io::write_all(OUT, b" type ");
     io::print_decimal(OUT, wide(buffer[0]));
     let n = two(buffer[3], buffer[4]);
-    print_kept(buffer, n + 5);
+    print_kept(buffer, n + WORD_PLACE);
     print_witness(case, buffer, n);
 }
 
-fn print_answer(case: u32, answer: FileAnswer, buffer: &[u8; BUFFER]) {
+fn print_answer(case: u32, answer: Verdict, buffer: &[u8; BUFFER]) {
     match answer {
-        FileAnswer::Accepted => {
+        Verdict::Fine => {
             io::write_all(OUT, b"accepted");
             print_kept(buffer, 0);
         }
-        FileAnswer::Refused(number, place) => {
+        Verdict::RefusedAt(number, place) => {
             print_refused(number, place);
             if number == 9 {
                 print_competition(case, buffer);
@@ -112,10 +121,10 @@ fn print_answer(case: u32, answer: FileAnswer, buffer: &[u8; BUFFER]) {
 
 // Reads the file of a case and answers it; 0 at 0, which is no answer of the reader, where the
 // input is cut short.
-fn answer(file: &mut [u8], buffer: &mut [u8]) -> FileAnswer {
+fn answer(file: &mut [u8], buffer: &mut [u8]) -> Verdict {
     let got = io::read_full(0, file);
     if got < file.len() {
-        return FileAnswer::Refused(0, 0);
+        return Verdict::RefusedAt(0, 0);
     }
     let read = schema_file::read(&file[..got], buffer);
     let answer = read.answer;
@@ -143,7 +152,7 @@ fn next_case(case: u32) -> bool {
     let got = io::read_full(0, &mut head);
     let buffer_length = two(head[0], head[1]);
     let file_length = two(head[2], head[3]);
-    if got == 4 && buffer_length == 65535 && file_length == 65535 {
+    if got == 4 && buffer_length == END && file_length == END {
         io::write_all(OUT, b"end\n");
         return false;
     }
@@ -156,7 +165,7 @@ fn next_case(case: u32) -> bool {
 
 fn main() {
     let mut case: u32 = 0;
-    while case < 65536 && next_case(case) {
+    while case < CASES && next_case(case) {
         case += 1;
     }
 }

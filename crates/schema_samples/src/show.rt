@@ -1,8 +1,11 @@
 // What the library answers, written to standard output.
+use competition::LEAST_WITNESS;
 use competition::PairNumber;
 use competition::Searched;
+use competition::WORD_PLACE;
 use competition::competition;
 use competition::pair_number;
+use competition::witness_head;
 use libc::STDOUT_FILENO;
 use schema::STATES;
 use schema::Schema;
@@ -135,9 +138,13 @@ fn blank_from(bytes: &[u8], start: usize) -> bool {
     true
 }
 
-// How many bytes a witness has whose word's length is low and high.
-fn witness_length(low: u8, high: u8) -> usize {
-    5 + low as usize + 256 * (high as usize)
+// How many bytes the witness in the buffer has; all where its word would end behind the buffer.
+fn witness_length(witness: &[u8; LEAST_WITNESS]) -> usize {
+    let word = witness_head(witness).word;
+    if LEAST_WITNESS - WORD_PLACE < word {
+        return LEAST_WITNESS;
+    }
+    WORD_PLACE + word
 }
 
 fn show_kept(kept: bool) {
@@ -148,7 +155,7 @@ fn show_kept(kept: bool) {
 
 // The search's answer, with its witness.
 fn show_search(schema: Schema) {
-    let mut witness = [BLANK; 532];
+    let mut witness = [BLANK; LEAST_WITNESS];
     match competition(schema, &mut witness) {
         Searched::ShortBuffer => {
             text(b"; short buffer");
@@ -164,7 +171,7 @@ fn show_search(schema: Schema) {
         }
         Searched::Competes => {
             text(b"; competes");
-            let n = witness_length(witness[3], witness[4]);
+            let n = witness_length(&witness);
             show_bytes(&witness, n);
             show_kept(blank_from(&witness, n));
         }
@@ -184,9 +191,9 @@ pub(crate) fn show_schema(name: &[u8], schema: Schema) {
     text(b"\n");
 }
 
-// The search with a buffer of 531 bytes.
+// The search with a buffer that is a byte too short.
 pub(crate) fn show_short(name: &[u8], schema: Schema) {
-    let mut witness = [BLANK; 531];
+    let mut witness = [BLANK; LEAST_WITNESS - 1];
     text(name);
     match competition(schema, &mut witness) {
         Searched::ShortBuffer => text(b": short buffer"),

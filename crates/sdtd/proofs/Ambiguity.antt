@@ -1,6 +1,6 @@
 -- Competition is ambiguity, in both directions; and every useful type is used by a valid document.
-use mathlib.Core.Path.{_≡_, refl, sym, ap, subst, _∙_}
-use mathlib.Core.Logic.{_↔_, _⊎_, inl, inr, ⊎-elim}
+use mathlib.Core.Path.{_≡_, refl, sym, subst, _∙_}
+use mathlib.Core.Logic.{_↔_, ⊎-elim}
 use mathlib.Core.List.{List, [], _∷_, _++_, append-assoc, map-append, List·Memᴰ, List·Memᴰ·head, Memᴰ·append-left, Memᴰ·append-right}
 use Prim.Native.Nat.{ℕ, _<_}
 use native.Mathlib.Omega.{arith}
@@ -8,14 +8,14 @@ use lib.ListN.{length, getD, List·getD-append}
 use lib.Seq.{getD-at}
 use Rattle.sdtd.specs.Schema.{Schema, blockOf, tagOf, Word}
 use Rattle.sdtd.specs.Tree.{empty}
-use Rattle.sdtd.specs.Document.{Event, opening, streams, openings, Valid, typesOf, typeAt, BeginningOf, Begins, Ambiguous}
-use Rattle.sdtd.specs.Trim.{Bears, All, none, both, AllBear, Reached, root, child, Used, Useful}
-use Rattle.sdtd.specs.Competition.{GoesOn, Compete, Competition}
+use Rattle.sdtd.specs.Document.{Event, opening, streams, openings, Valid, typeAt, BeginningOf, Ambiguous}
+use Rattle.sdtd.specs.Trim.{Bears, AllBear, Reached, root, child, Used, Useful}
+use Rattle.sdtd.specs.Competition.{GoesOn, Competition}
 use Rattle.sdtd.proofs.Automata.{all-front, all-back, all-head, all-tail, around}
-use Rattle.sdtd.proofs.Bearing.{grow, word-bears, bears-word}
+use Rattle.sdtd.proofs.Bearing.{grow}
 use Rattle.sdtd.proofs.Trees.{opened, opened-append, length-opened, openings-relabel, openings-append}
-use Rattle.sdtd.proofs.Machine.{Owner, top, own, root-is-word, Frame, frame, opens, Run, halt, move, start, run-append, forest-run}
-use Rattle.sdtd.proofs.Machine.{Future, Suspended, outer, inner, todo, suspended-run}
+use Rattle.sdtd.proofs.Machine.{Owner, top, own, one-root, Frame, frame, opens, Run, halt, move, start, run-append, forest-run}
+use Rattle.sdtd.proofs.Machine.{Suspended, outer, inner, todo, suspended-run}
 use Rattle.sdtd.proofs.Typed.{tagged, ValidTyped, run-valid}
 use Rattle.sdtd.proofs.Follow.{Candidate, bears-future, candidate-future, goes-on-candidate}
 use Rattle.sdtd.proofs.Position.{Position, position, Onward, onward, onward-types, place-of}
@@ -50,12 +50,12 @@ after-word {S} {a} {j} {v} x b c =
 
 -- Each reached type has a context.
 context : {S : Schema} {a : ℕ} → Reached S a → Context S a
-context {S} (root {a = a} e) =
+context (root {a = a} e) =
     record {
       events = opening a ∷ [];
       frames = frame top (a ∷ []) ∷ [];
       run = move opens halt;
-      suspended = outer (record { forest = empty; derived = tt; word = root-is-word S e });
+      suspended = outer (record { forest = empty; derived = tt; fills = one-root e });
       given = List·Memᴰ·head refl;
     }
 context {S} (child {a = a} {j = j} {w = w} r word bear m) =
@@ -63,7 +63,7 @@ context {S} (child {a = a} {j = j} {w = w} r word bear m) =
     let all : AllBear S (s .front ++ (j ∷ s .back)) = subst (λ (v : List ℕ). AllBear S v) (s .splits) bear in
     let k = all-back (s .front) all in
     after-word (context r) (all-front (s .front) (j ∷ s .back) all)
-    (record { rest = s .back; word = subst (λ (v : List ℕ). Word (blockOf S a) v) (s .splits) word; bears = all-head k; bear = all-tail k })
+    (record { rest = s .back; fills = subst (λ (v : List ℕ). Word (blockOf S a) v) (s .splits) word; bears = all-head k; bear = all-tail k })
 
 -- a whole typed document that begins with the context
 whole-run : {S : Schema} {a : ℕ} (x : Context S a) (b : Bears S a) → (ρ : List Event) × Run S start (x .events ++ ρ) []

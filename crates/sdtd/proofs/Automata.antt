@@ -1,8 +1,8 @@
 -- Laws of lists with a property and of ways through an automaton.
-use mathlib.Core.Path.{_≡_, refl, sym, subst}
+use mathlib.Core.Path.{_≡_, sym, subst}
 use mathlib.Core.List.{List, [], _∷_, _++_, List·Memᴰ, List·Memᴰ·head, List·Memᴰ·tail}
 use Prim.Native.Nat.{ℕ}
-use Rattle.sdtd.specs.Schema.{Step, Block, Leads, stay, go, Accepts}
+use Rattle.sdtd.specs.Schema.{step, Block, Leads, stay, go, Accepts}
 use Rattle.sdtd.specs.Trim.{All, none, both}
 
 module _ {P : ℕ → Type 0} where
@@ -73,7 +73,7 @@ accepts-split v a =
 -- the first step of a way that reads j and then w
 pub record FirstStep (b : Block) (p j : ℕ) (w : List ℕ) (r : ℕ) : Type 0 where
   pub next : ℕ
-  pub step : List·Memᴰ (record { from = p; by = j; to = next }) (b .steps)
+  pub step : List·Memᴰ (step p j next) (b .steps)
   pub back : Leads b next w r
 
 pub first-step : {b : Block} {p j r : ℕ} {w : List ℕ} → Leads b p (j ∷ w) r → FirstStep b p j w r

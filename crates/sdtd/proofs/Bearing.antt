@@ -1,10 +1,10 @@
 -- Trees and forests of tree-bearing types.
 use mathlib.Core.Path.{_≡_, refl, sym, subst}
-use mathlib.Core.List.{List, [], _∷_, _++_}
+use mathlib.Core.List.{List, _∷_}
 use Prim.Native.Nat.{ℕ}
 use Rattle.sdtd.specs.Schema.{Schema, blockOf, Word}
 use Rattle.sdtd.specs.Tree.{Tree, Forest, node, empty, more, label, labels, Derived, DerivedAll}
-use Rattle.sdtd.specs.Trim.{Bears, All, none, both, AllBear}
+use Rattle.sdtd.specs.Trim.{Bears, none, both, AllBear}
 
 -- a derived forest whose roots have the types of w
 pub record Grows (S : Schema) (w : List ℕ) : Type 0 where

@@ -77,7 +77,7 @@ module _ (S : Schema) (e : List Event) where
       other : (n : ℕ) → 10 < n → refused 10 ≢ refused n
       other n l p = let same : 10 ≡ n = cc in omega arith
 
--- the events begin a valid document and open no 65th level
+-- the events begin a valid document and open at most `mostLevels` levels
 abbrev pub Fits : Schema → List Event → Type 0
 Fits S e = Begins S e × (deepest e ≤ mostLevels)
 
@@ -96,11 +96,11 @@ first-opening (node a f) p = (a, head-eq-of-cons-eq p)
 begins-opening : {S : Schema} {x : Event} → Begins S (x ∷ []) → (g : ℕ) × (opening g ≡ x)
 begins-opening b = first-opening (b .valid .tree) (b .valid .is-document ∙ b .beginning .splits)
 
-no-closing : {S : Schema} (g : ℕ) → ¬ Begins S (closing g ∷ [])
-no-closing g b = let o = begins-opening b in let p = o .1 in let z : _≡_ {A = ℕ} 0 1 = cc in omega arith
+no-closing-first : {S : Schema} (g : ℕ) → ¬ Begins S (closing g ∷ [])
+no-closing-first g b = let o = begins-opening b in let p = o .1 in let z : _≡_ {A = ℕ} 0 1 = cc in omega arith
 
-no-finish : {S : Schema} → ¬ Begins S (finish ∷ [])
-no-finish b = let o = begins-opening b in let p = o .1 in let z : _≡_ {A = ℕ} 0 1 = cc in omega arith
+no-finish-first : {S : Schema} → ¬ Begins S (finish ∷ [])
+no-finish-first b = let o = begins-opening b in let p = o .1 in let z : _≡_ {A = ℕ} 0 1 = cc in omega arith
 
 -- The questions of the call x after e all hold exactly when the events with it fit.
 abbrev AskedFits : Schema → List Event → Event → Type 0
@@ -116,7 +116,7 @@ module _ {S : Schema} (no-competition : ¬ Competition S) (below : TagsBelow S) 
   closing-fits : (e : List Event) (g : ℕ) → deepest e ≤ mostLevels → (e ≡ []) ⊎ Begins S e → AskedFits S e (closing g)
   closing-fits e g w (inl p) =
       subst (λ (l : List Event). AskedFits S l (closing g)) (sym p)
-      (λ all. absurd (omega (arith, all .1 .1 .0)), λ f. absurd (no-closing g (f .0)))
+      (λ all. absurd (omega (arith, all .1 .1 .0)), λ f. absurd (no-closing-first g (f .0)))
   closing-fits e g w (inr b) =
       let c = closing-begins no-competition below e g b in (
         λ all. (
@@ -136,7 +136,7 @@ module _ {S : Schema} (no-competition : ¬ Competition S) (below : TagsBelow S) 
   finish-fits : (e : List Event) → deepest e ≤ mostLevels → (e ≡ []) ⊎ Begins S e → AskedFits S e finish
   finish-fits e w (inl p) =
       subst (λ (l : List Event). AskedFits S l finish) (sym p)
-      (λ all. absurd (omega (arith, all .1 .0 .opened)), λ f. absurd (no-finish (f .0)))
+      (λ all. absurd (omega (arith, all .1 .0 .opened)), λ f. absurd (no-finish-first (f .0)))
   finish-fits e w (inr b) =
       let c = finish-begins e b in
       (λ all. (c .0 (all .0, all .1 .0), omega (arith, deepest-finish e)), λ f. let k = c .1 (f .0) in (k .0, (k .1, tt)))
@@ -170,8 +170,8 @@ RightAt S e x = Right S e (x .call) (x .answer)
 abbrev MeetsAt : Schema → List Event → Exchange → Type 0
 MeetsAt S e x = CallMeets S e (x .call) (x .answer)
 
-pub fresh : (S : Schema) → Sound S []
-fresh S = record { begins = inl refl; within = omega arith }
+pub nothing-taken : (S : Schema) → Sound S []
+nothing-taken S = record { begins = inl refl; within = omega arith }
 
 pub sound-next : {S : Schema} (e : List Event) → Sound S e → (x : Event) (a : Answer) → CallMeets S e x a → Sound S (e ++ ifTaken a x)
 sound-next {S} e s x (refused n) m = subst (Sound S) (sym (append-nil e)) s
@@ -190,7 +190,7 @@ module _ {S : Schema} (no-competition : ¬ Competition S) (below : TagsBelow S) 
       (m, each-meets _ (sound-next e s (x .call) (x .answer) m) xs (r .1))
 
   all-meet : (xs : List Exchange) → RightCalls S xs → Each (MeetsAt S) [] xs
-  all-meet xs r = each-meets [] (fresh S) xs (each-of-places (RightAt S) [] xs r)
+  all-meet xs r = each-meets [] (nothing-taken S) xs (each-of-places (RightAt S) [] xs r)
 
   pub calls-meet : (xs : List Exchange) → RightCalls S xs → ListMeets S xs
   calls-meet xs r = places-of-each (MeetsAt S) [] xs (all-meet xs r)
@@ -200,7 +200,8 @@ abbrev TakenAll : Schema → List Event → List Exchange → Type 0
 TakenAll S e [] = Unit
 TakenAll S e (x ∷ xs) = TakenAnswer S e (x .call) (x .answer) × TakenAll S (e ++ (x .call ∷ [])) xs
 
-if-taken : (a : Answer) (x : Event) → IsTaken a → ifTaken a x ≡ x ∷ []
+-- a call that is taken adds its event
+pub if-taken : (a : Answer) (x : Event) → IsTaken a → ifTaken a x ≡ x ∷ []
 if-taken (typed j) x t = refl
 if-taken taken x t = refl
 
@@ -268,7 +269,7 @@ sound-whole {S} e s = valid-within (finish-whole e (begun (s .begins))) (s .with
 
 module _ {S : Schema} (xs : List Exchange) (m : Each (MeetsAt S) [] xs) where
   calls-sound : TakenWhole xs → Sound S (calls xs)
-  calls-sound w = subst (Sound S) (w .all-taken) (sound-after [] (fresh S) xs m)
+  calls-sound w = subst (Sound S) (w .all-taken) (sound-after [] (nothing-taken S) xs m)
 
   taken-valid : TakenWhole xs → ValidWithin S (calls xs)
   taken-valid w =

@@ -2,25 +2,24 @@
 use mathlib.Core.Path.{_≡_}
 use mathlib.Core.Logic.{_↔_, _⊎_, _≢_}
 use Prim.Native.Nat.{ℕ}
-use Rattle.sdtd.specs.Schema.{Step, Schema, blockOf, tagOf}
+use Rattle.sdtd.specs.Schema.{Step, step, Schema, blockOf, tagOf}
 use Rattle.sdtd.specs.Trim.{Bears, Live, Useful}
 use Rattle.sdtd.specs.Competition.{CompeteIn, Competition}
 use Rattle.sdtd.proofs.Fixpoint.{PairReached}
 use Rattle.sdtd.proofs.Rivals.{RivalsIn, compete-in-exact}
 use Rattle.sdtd.proofs.Tests.{means-iff, Decision, decision, decided, eq-means, and-means, not-means, Found, any-means, memb-means}
-use Rattle.sdtd.proofs.Decide.{step}
 use Rattle.sdtd.proofs.LiveStates.{live-table}
 use Rattle.sdtd.proofs.StatePairs.{pair-table}
 use Rattle.sdtd.proofs.ReachedTypes.{reached-table, useful-decided}
 
 -- the steps leave a reached pair of states, by different tree-bearing types of one tag, for live states
-abbrev Rivals : Schema → ℕ → Step → Step → Type 0
-Rivals S a s u =
+abbrev AreRivals : Schema → ℕ → Step → Step → Type 0
+AreRivals S a s u =
     (PairReached S a (s .from) (u .from) × (s .by ≢ u .by))
     × ((tagOf S (s .by) ≡ tagOf S (u .by)) × ((Bears S (s .by) × Bears S (u .by)) × (Live S a (s .to) × Live S a (u .to))))
 
-rivals : (S : Schema) (a : ℕ) (s u : Step) → Decision (Rivals S a s u)
-rivals S a s u =
+are-rivals : (S : Schema) (a : ℕ) (s u : Step) → Decision (AreRivals S a s u)
+are-rivals S a s u =
     let x = live-table S .1 in
     let different = and-means (pair-table S a .1 (s .from) (u .from)) (not-means (eq-means (s .by) (u .by))) in
     let bear = and-means (x .bears (s .by)) (x .bears (u .by)) in
@@ -29,7 +28,7 @@ rivals S a s u =
 
 -- two steps of a useful type are rivals
 abbrev RivalPair : Schema → ℕ → Type 0
-RivalPair S a = Useful S a × Found (λ s. Found (λ u. Rivals S a s u) (blockOf S a .steps)) (blockOf S a .steps)
+RivalPair S a = Useful S a × Found (λ s. Found (λ u. AreRivals S a s u) (blockOf S a .steps)) (blockOf S a .steps)
 
 rival-pair : (S : Schema) (a : ℕ) → CompeteIn S a ↔ RivalPair S a
 rival-pair S a = (λ c. found (compete-in-exact .0 c), λ p. compete-in-exact .1 (rivals-in p))
@@ -81,7 +80,7 @@ rival-pair S a = (λ c. found (compete-in-exact .0 c), λ p. compete-in-exact .1
 competes : (S : Schema) (a : ℕ) → Decision (CompeteIn S a)
 competes S a =
     let steps = blockOf S a .steps in
-    let found = any-means (λ s. any-means (λ u. rivals S a s u .1) steps) steps in
+    let found = any-means (λ s. any-means (λ u. are-rivals S a s u .1) steps) steps in
     decision (means-iff (and-means (useful-decided S a .1) found) (rival-pair S a))
 
 pub compete-decided : (S : Schema) (a : ℕ) → CompeteIn S a ⊎ (¬ CompeteIn S a)

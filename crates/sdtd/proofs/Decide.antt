@@ -7,10 +7,11 @@ use mathlib.Core.List.{Memᴰ·cast}
 use Prim.Native.Nat.{ℕ, zero, suc}
 use lib.ListN.{getD}
 use lib.Dec.{T, eqb}
-use Rattle.sdtd.specs.Schema.{Step, Block, Schema, noBlock, blockOf, tagOf, Leads, stay, go, Word}
-use Rattle.sdtd.specs.Trim.{Bears, Live}
+use Rattle.sdtd.specs.Schema.{Step, step, Block, Schema, noBlock, blockOf, tagOf, Leads, stay, go, Word}
+use Rattle.sdtd.specs.Tree.{IsRoot}
+use Rattle.sdtd.specs.Trim.{Bears, RootBears, Live}
 use Rattle.sdtd.specs.Competition.{Competition}
-use Rattle.sdtd.proofs.Fixpoint.{LiveClosed, live-closed, live-exact, bears-exact, PairClosed}
+use Rattle.sdtd.proofs.Fixpoint.{Starts, starts-map, LiveClosed, live-closed, live-exact, bears-exact, PairClosed}
 use Rattle.sdtd.proofs.Rivals.{RivalSteps, no-rivals}
 use Rattle.sdtd.proofs.Tests.{Means, means-iff, itself, eq-means, and-means, or-means, _⇒_, if-means, Found, every, any}
 use Rattle.sdtd.proofs.Tests.{every-means, any-means, collect, collect-mem, memb, memb-means}
@@ -18,6 +19,13 @@ use Rattle.sdtd.proofs.Tests.{every-means, any-means, collect, collect-
 -- a table of live states: each entry is a type and one of its states
 abbrev pub LiveTable : Type 0
 LiveTable = List (ℕ × ℕ)
+
+-- the types that the root may have
+abbrev pub rootTypes : Schema → List ℕ
+rootTypes S = S .root ∷ []
+
+pub root-types : (S : Schema) (a : ℕ) → List·Memᴰ a (rootTypes S) ↔ IsRoot S a
+root-types S a = (List·Memᴰ·eq-of-singleton, List·Memᴰ·head)
 
 -- the pair is in the list: the state q of the type a in a table, or the states of a pair
 abbrev pub inTable : LiveTable → ℕ → ℕ → Bool
@@ -34,22 +42,29 @@ in-means L a q =
       passes = λ h. m .passes (record { member = (a, q); given = h; holds = (refl, refl) });
     }
 
--- the entry is an accepting state, or a step by a type whose start state is in the table leads from it to a state in the table
+-- by the table, the type j bears a tree
+abbrev pub bearsIn : Schema → LiveTable → ℕ → Bool
+bearsIn S L j = inTable L j 0
+
+bears-in-means : (S : Schema) (L : LiveTable) (j : ℕ) → Means (bearsIn S L j) (Starts S (In L) j)
+bears-in-means S L j = in-means L j 0
+
+-- the entry is an accepting state, or a step by a type that starts in the table leads from it to a state in the table
 abbrev pub soundEntry : Schema → LiveTable → ℕ × ℕ → Bool
 soundEntry S L e =
     memb (e .1) (blockOf S (e .0) .accepting)
-    || any (λ s. eqb (e .1) (s .from) && (inTable L (s .by) 0 && inTable L (e .0) (s .to))) (blockOf S (e .0) .steps)
+    || any (λ s. eqb (e .1) (s .from) && (bearsIn S L (s .by) && inTable L (e .0) (s .to))) (blockOf S (e .0) .steps)
 
 -- each entry rests on later ones
 abbrev soundTable : Schema → LiveTable → Bool
 soundTable S [] = true
 soundTable S (e ∷ L) = soundEntry S L e && soundTable S L
 
--- the table has the accepting states of the block of a, and the state before each step into the table by a type whose start state is in it
-abbrev closedBlock : LiveTable → ℕ → Block → Bool
-closedBlock L a b =
+-- the table has the accepting states of the block of a, and the state before each step into the table by a type that starts in it
+abbrev closedBlock : Schema → LiveTable → ℕ → Block → Bool
+closedBlock S L a b =
     every (inTable L a) (b .accepting)
-    && every (λ s. inTable L (s .by) 0 ⇒ inTable L a (s .to) ⇒ inTable L a (s .from)) (b .steps)
+    && every (λ s. bearsIn S L (s .by) ⇒ inTable L a (s .to) ⇒ inTable L a (s .from)) (b .steps)
 
 -- each block passes the test with its number
 abbrev everyBlock : (ℕ → Block → Bool) → List Block → Bool
@@ -58,7 +73,7 @@ everyBlock f (b ∷ bs) = f 0 b && everyBlock (λ a. f (suc a)) bs
 
 -- the table is sound and closed
 abbrev pub liveCheck : Schema → LiveTable → Bool
-liveCheck S L = soundTable S L && everyBlock (closedBlock L) (S .blocks)
+liveCheck S L = soundTable S L && everyBlock (closedBlock S L) (S .blocks)
 
 -- where the test holds of the block of no type, each block passes exactly if the test holds at every number
 blocks-mean : {f : ℕ → Block → Bool} {P : ℕ → Block → Type 0} → ((a : ℕ) (b : Block) → Means (f a b) (P a b)) → ((a : ℕ) → P a noBlock)
@@ -75,22 +90,22 @@ blocks-mean m z (b ∷ bs) =
 abbrev pub Entry : Schema → LiveTable → ℕ × ℕ → Type 0
 Entry S L e =
     List·Memᴰ (e .1) (blockOf S (e .0) .accepting)
-    ⊎ Found (λ s. (e .1 ≡ s .from) × (In L (s .by) 0 × In L (e .0) (s .to))) (blockOf S (e .0) .steps)
+    ⊎ Found (λ s. (e .1 ≡ s .from) × (Starts S (In L) (s .by) × In L (e .0) (s .to))) (blockOf S (e .0) .steps)
 
 pub entry-means : (S : Schema) (L : LiveTable) (e : ℕ × ℕ) → Means (soundEntry S L e) (Entry S L e)
 entry-means S L e =
     or-means
     (memb-means (e .1) (blockOf S (e .0) .accepting))
     (any-means
-    (λ s. and-means (eq-means (e .1) (s .from)) (and-means (in-means L (s .by) 0) (in-means L (e .0) (s .to))))
+    (λ s. and-means (eq-means (e .1) (s .from)) (and-means (bears-in-means S L (s .by)) (in-means L (e .0) (s .to))))
     (blockOf S (e .0) .steps))
 
 pub entry-live : {S : Schema} {L : LiveTable} (e : ℕ × ℕ) → ((a q : ℕ) → In L a q → Live S a q) → Entry S L e → Live S (e .0) (e .1)
 entry-live e below (inl h) = live-closed .accepting (e .0) (e .1) h
-entry-live e below (inr f) =
+entry-live {S} e below (inr f) =
     let s = f .member in
     let h = f .holds .1 in
-    rw (f .holds .0) (live-closed .step (e .0) s (f .given) (below (s .by) 0 (h .0)) (below (e .0) (s .to) (h .1)))
+    rw (f .holds .0) (live-closed .step (e .0) s (f .given) (starts-map S below (s .by) (h .0)) (below (e .0) (s .to) (h .1)))
 
 table-sound : (S : Schema) (L : LiveTable) → T (soundTable S L) → (a q : ℕ) → In L a q → Live S a q
 table-sound S [] t a q m = absurd (List·Memᴰ·not-nil m)
@@ -101,48 +116,55 @@ table-sound S (e ∷ L) t a q m =
     ⊎-elim (λ h. subst (λ (x : ℕ × ℕ). Live S (x .0) (x .1)) (sym h) live) (below a q) (List·Memᴰ·cases-cons m)
 
 -- what the test of a block says
-abbrev Closed : LiveTable → ℕ → Block → Type 0
-Closed L a b =
+abbrev Closed : Schema → LiveTable → ℕ → Block → Type 0
+Closed S L a b =
     ((q : ℕ) → List·Memᴰ q (b .accepting) → In L a q)
-    × ((s : Step) → List·Memᴰ s (b .steps) → In L (s .by) 0 → In L a (s .to) → In L a (s .from))
+    × ((s : Step) → List·Memᴰ s (b .steps) → Starts S (In L) (s .by) → In L a (s .to) → In L a (s .from))
 
-closed-means : (L : LiveTable) (a : ℕ) (b : Block) → Means (closedBlock L a b) (Closed L a b)
-closed-means L a b =
+closed-means : (S : Schema) (L : LiveTable) (a : ℕ) (b : Block) → Means (closedBlock S L a b) (Closed S L a b)
+closed-means S L a b =
     and-means
     (every-means (in-means L a) (b .accepting))
-    (every-means (λ s. if-means (in-means L (s .by) 0) (if-means (in-means L a (s .to)) (in-means L a (s .from)))) (b .steps))
+    (every-means (λ s. if-means (bears-in-means S L (s .by)) (if-means (in-means L a (s .to)) (in-means L a (s .from)))) (b .steps))
 
-table-closed : (S : Schema) (L : LiveTable) → T (everyBlock (closedBlock L) (S .blocks)) → LiveClosed S (In L)
+table-closed : (S : Schema) (L : LiveTable) → T (everyBlock (closedBlock S L) (S .blocks)) → LiveClosed S (In L)
 table-closed S L t =
-    let m = blocks-mean (closed-means L) (λ a. (λ q h. absurd (List·Memᴰ·not-nil h), λ s h. absurd (List·Memᴰ·not-nil h))) (S .blocks) in
+    let m = blocks-mean (closed-means S L) (λ a. (λ q h. absurd (List·Memᴰ·not-nil h), λ s h. absurd (List·Memᴰ·not-nil h))) (S .blocks) in
     record { accepting = λ a. m .says t a .0; step = λ a. m .says t a .1 }
 
--- The table has exactly the live states, so exactly the start states of the tree-bearing types.
+-- The table has exactly the live states, and says of exactly the tree-bearing types that they bear a tree.
 pub record LiveExact (S : Schema) (L : LiveTable) : Type 0 where
   pub live : (a q : ℕ) → Means (inTable L a q) (Live S a q)
-  pub bears : (a : ℕ) → Means (inTable L a 0) (Bears S a)
+  pub bears : (a : ℕ) → Means (bearsIn S L a) (Bears S a)
+
+-- by the table, the root type bears a tree
+abbrev pub rootBears : Schema → LiveTable → Bool
+rootBears S L = bearsIn S L (S .root)
+
+pub root-bears-means : {S : Schema} {L : LiveTable} → LiveExact S L → Means (rootBears S L) (RootBears S)
+root-bears-means {S} x = x .bears (S .root)
 
 -- a sound and closed table has exactly those
 pub table-exact : {S : Schema} {L : LiveTable} → LiveClosed S (In L) → ((a q : ℕ) → In L a q → Live S a q) → LiveExact S L
-table-exact {L = L} closed sound =
+table-exact {S} {L} closed sound =
     record {
       live = λ a q. means-iff (in-means L a q) (live-exact closed sound a q);
-      bears = λ a. means-iff (in-means L a 0) (bears-exact closed sound a);
+      bears = λ a. means-iff (bears-in-means S L a) (bears-exact closed sound a);
     }
 
 pub live-check : (S : Schema) (L : LiveTable) → T (liveCheck S L) → LiveExact S L
 live-check S L t =
-    let r = and-means (itself (soundTable S L)) (itself (everyBlock (closedBlock L) (S .blocks))) .says t in
+    let r = and-means (itself (soundTable S L)) (itself (everyBlock (closedBlock S L) (S .blocks))) .says t in
     table-exact (table-closed S L (r .1)) (table-sound S L (r .0))
 
 -- the states that the steps by j from a state of the list lead to
-abbrev next : Block → List ℕ → ℕ → List ℕ
-next b ps j = collect (λ s. memb (s .from) ps && eqb (s .by) j) (λ s. s .to) (b .steps)
+abbrev nextStates : Block → List ℕ → ℕ → List ℕ
+nextStates b ps j = collect (λ s. memb (s .from) ps && eqb (s .by) j) (λ s. s .to) (b .steps)
 
 -- the states that the types of w lead to from a state of the list
 abbrev pub statesAfter : Block → List ℕ → List ℕ → List ℕ
 statesAfter b ps [] = ps
-statesAfter b ps (j ∷ w) = statesAfter b (next b ps j) w
+statesAfter b ps (j ∷ w) = statesAfter b (nextStates b ps j) w
 
 -- the types of w lead from a state of the list to q
 pub record LedFrom (b : Block) (ps w : List ℕ) (q : ℕ) : Type 0 where
@@ -151,34 +173,34 @@ pub record LedFrom (b : Block) (ps w : List ℕ) (q : ℕ) : Type 0 where
   pub leads : Leads b start w q
 
 next-mem : (b : Block) (ps : List ℕ) (j q : ℕ)
-    → List·Memᴰ q (next b ps j) ↔ Found (λ s. (List·Memᴰ (s .from) ps × (s .by ≡ j)) × (q ≡ s .to)) (b .steps)
+    → List·Memᴰ q (nextStates b ps j) ↔ Found (λ s. (List·Memᴰ (s .from) ps × (s .by ≡ j)) × (q ≡ s .to)) (b .steps)
 next-mem b ps j q = collect-mem (λ s. and-means (memb-means (s .from) ps) (eq-means (s .by) j)) (λ s. s .to) (b .steps) q
 
-led : (b : Block) (ps w : List ℕ) {q : ℕ} → List·Memᴰ q (statesAfter b ps w) → LedFrom b ps w q
-led b ps [] {q} m = record { start = q; given = m; leads = stay }
-led b ps (j ∷ w) m =
-    let r = led b (next b ps j) w m in
+led-from : (b : Block) (ps w : List ℕ) {q : ℕ} → List·Memᴰ q (statesAfter b ps w) → LedFrom b ps w q
+led-from b ps [] {q} m = record { start = q; given = m; leads = stay }
+led-from b ps (j ∷ w) m =
+    let r = led-from b (nextStates b ps j) w m in
     let f = next-mem b ps j (r .start) .0 (r .given) in
     record {
       start = f .member .from;
       given = f .holds .0 .0;
       leads =
           go
-          (Memᴰ·cast (λ i. record { from = f .member .from; by = sym (f .holds .0 .1) i; to = f .holds .1 i }) (f .given))
+          (Memᴰ·cast (λ i. step (f .member .from) (sym (f .holds .0 .1) i) (f .holds .1 i)) (f .given))
           (r .leads);
     }
 
-after : {b : Block} {p q : ℕ} {w : List ℕ} → Leads b p w q → (ps : List ℕ) → List·Memᴰ p ps → List·Memᴰ q (statesAfter b ps w)
-after stay ps m = m
-after {b} (go {p = p} {j = j} {q = q} s l) ps m =
-    after l (next b ps j)
-    (next-mem b ps j q .1 (record { member = record { from = p; by = j; to = q }; given = s; holds = ((m, refl), refl) }))
+in-states-after : {b : Block} {p q : ℕ} {w : List ℕ} → Leads b p w q → (ps : List ℕ) → List·Memᴰ p ps → List·Memᴰ q (statesAfter b ps w)
+in-states-after stay ps m = m
+in-states-after {b} (go {p = p} {j = j} {q = q} s l) ps m =
+    in-states-after l (nextStates b ps j)
+    (next-mem b ps j q .1 (record { member = step p j q; given = s; holds = ((m, refl), refl) }))
 
 -- the states that the types of w lead to from the start state
 pub start-after : (b : Block) (w : List ℕ) (q : ℕ) → List·Memᴰ q (statesAfter b (0 ∷ []) w) ↔ Leads b 0 w q
 start-after b w q = (
-  λ m. let r = led b (0 ∷ []) w m in subst (λ (p : ℕ). Leads b p w q) (List·Memᴰ·eq-of-singleton (r .given)) (r .leads),
-  λ l. after l (0 ∷ []) (List·Memᴰ·head refl),
+  λ m. let r = led-from b (0 ∷ []) w m in subst (λ (p : ℕ). Leads b p w q) (List·Memᴰ·eq-of-singleton (r .given)) (r .leads),
+  λ l. in-states-after l (0 ∷ []) (List·Memᴰ·head refl),
 )
 
 -- w is a word of the block
@@ -201,16 +223,13 @@ pairTest S L ps a s t e =
     ⇒ (eqb (s .by) (t .by) ⇒ inTable ps (s .to) (t .to))
     && (eqb (tagOf S (s .by)) (tagOf S (t .by)) ⇒ inTable L a (s .to) ⇒ inTable L a (t .to) ⇒ eqb (s .by) (t .by))
 
-abbrev pub step : ℕ → ℕ → ℕ → Step
-step p j q = record { from = p; by = j; to = q }
-
 -- the pairs of the block of a: (0, 0) and those of the certificate
 abbrev pairsOf : List (List (ℕ × ℕ)) → ℕ → List (ℕ × ℕ)
 pairsOf pairs a = (0, 0) ∷ getD pairs a []
 
 abbrev restrainedBlock : Schema → LiveTable → List (ℕ × ℕ) → ℕ → Block → Bool
 restrainedBlock S L ps a b =
-    every (λ s. inTable L (s .by) 0 ⇒ every (λ t. inTable L (t .by) 0 ⇒ every (pairTest S L ps a s t) ps) (b .steps)) (b .steps)
+    every (λ s. bearsIn S L (s .by) ⇒ every (λ t. bearsIn S L (t .by) ⇒ every (pairTest S L ps a s t) ps) (b .steps)) (b .steps)
 
 -- The certificate has, for each block, the pairs of states besides (0, 0) that one word leads to: they are closed, and none has rival
 -- steps by different types. It may end early: a block that it does not reach has (0, 0) alone.
@@ -239,9 +258,9 @@ Restrained S ps a b =
     (s : Step) → List·Memᴰ s (b .steps) → Bears S (s .by) → (t : Step) → List·Memᴰ t (b .steps) → Bears S (t .by)
     → (e : ℕ × ℕ) → List·Memᴰ e ps → e .0 ≡ s .from → e .1 ≡ t .from → PairFree S ps a s t
 
-block-means : {S : Schema} {L : LiveTable} → LiveExact S L → (ps : List (ℕ × ℕ)) (a : ℕ) (b : Block)
+restrained-means : {S : Schema} {L : LiveTable} → LiveExact S L → (ps : List (ℕ × ℕ)) (a : ℕ) (b : Block)
     → Means (restrainedBlock S L ps a b) (Restrained S ps a b)
-block-means x ps a b =
+restrained-means x ps a b =
     every-means
     (λ s. if-means (x .bears (s .by)) (every-means (λ t. if-means (x .bears (t .by)) (every-means (pair-means x ps a s t) ps)) (b .steps)))
     (b .steps)
@@ -257,7 +276,7 @@ restrained-check {S} x pairs t c = no-rivals closed free (c .compete-in)
     ps = pairsOf pairs a
 
     block : Restrained S ps a (blockOf S a)
-    block = blocks-mean (λ k. block-means x (pairsOf pairs k) k) (λ k s h. absurd (List·Memᴰ·not-nil h)) (S .blocks) .says t a
+    block = blocks-mean (λ k. restrained-means x (pairsOf pairs k) k) (λ k s h. absurd (List·Memᴰ·not-nil h)) (S .blocks) .says t a
 
     closed : PairClosed S a (In ps)
     closed =

@@ -40,17 +40,17 @@ depth-append n (closing g ∷ e) f = depth-append (pred n) e f
 depth-append n (finish ∷ e) f = depth-append n e f
 
 module _ (e : List Event) where
-  after : (f : List Event) → depth (e ++ f) ≡ depthFrom (depth e) f
-  after f = depth-from (e ++ f) ∙ depth-append 0 e f ∙ ap (λ k. depthFrom k f) (sym (depth-from e))
+  depth-after : (f : List Event) → depth (e ++ f) ≡ depthFrom (depth e) f
+  depth-after f = depth-from (e ++ f) ∙ depth-append 0 e f ∙ ap (λ k. depthFrom k f) (sym (depth-from e))
 
   pub depth-opening : (g : ℕ) → depth (e ++ (opening g ∷ [])) ≡ suc (depth e)
-  depth-opening g = after (opening g ∷ [])
+  depth-opening g = depth-after (opening g ∷ [])
 
   pub depth-closing : (g : ℕ) → depth (e ++ (closing g ∷ [])) ≡ pred (depth e)
-  depth-closing g = after (closing g ∷ [])
+  depth-closing g = depth-after (closing g ∷ [])
 
   pub depth-finish : depth (e ++ (finish ∷ [])) ≡ depth e
-  depth-finish = after (finish ∷ [])
+  depth-finish = depth-after (finish ∷ [])
 
 deepest-least : (n : ℕ) (e : List Event) → n ≤ deepestFrom n e
 deepest-least n [] = omega arith
@@ -74,21 +74,21 @@ module _ (e : List Event) where
   pub depth-deepest : depth e ≤ deepest e
   depth-deepest = rw depth-from (depth-deepest-from 0 e)
 
-  reach : (f : List Event) → deepest (e ++ f) ≡ max (deepest e) (deepestFrom (depth e) f)
-  reach f = rw depth-from (deepest-append 0 e f)
+  deepest-after : (f : List Event) → deepest (e ++ f) ≡ max (deepest e) (deepestFrom (depth e) f)
+  deepest-after f = rw depth-from (deepest-append 0 e f)
 
   pub deepest-opening : (g : ℕ) → deepest (e ++ (opening g ∷ [])) ≡ max (deepest e) (suc (depth e))
-  deepest-opening g = reach (opening g ∷ [])
+  deepest-opening g = deepest-after (opening g ∷ [])
 
   pub deepest-closing : (g : ℕ) → deepest (e ++ (closing g ∷ [])) ≡ deepest e
-  deepest-closing g = omega (arith, reach (closing g ∷ []), depth-deepest)
+  deepest-closing g = omega (arith, deepest-after (closing g ∷ []), depth-deepest)
 
   pub deepest-finish : deepest (e ++ (finish ∷ [])) ≡ deepest e
-  deepest-finish = omega (arith, reach (finish ∷ []), depth-deepest)
+  deepest-finish = omega (arith, deepest-after (finish ∷ []), depth-deepest)
 
   -- the deepest level of a beginning
   pub deepest-beginning : (f : List Event) → deepest e ≤ deepest (e ++ f)
-  deepest-beginning f = omega (arith, reach f)
+  deepest-beginning f = omega (arith, deepest-after f)
 
 mutual
   deepest-stream : (t : Tree) (n : ℕ) (e : List Event) → deepestFrom n (stream t ++ e) ≡ max (n + height t) (deepestFrom n e)

@@ -1,17 +1,17 @@
 -- The open elements of the events so far are the frames of a typed reading: the same nesting, the tags and types of the elements and the
 -- types of their children so far.
-use mathlib.Core.Path.{_≡_, refl, sym, ap, _∙_}
+use mathlib.Core.Path.{_≡_, refl, sym, _∙_}
 use mathlib.Core.Logic.{_⊎_, inl, inr, ⊎-elim}
 use mathlib.Core.List.{List, [], _∷_, _++_, map, map-append, append-assoc, List·Memᴰ, List·Memᴰ·head, List·Memᴰ·tail}
-use Prim.Native.Nat.{ℕ, zero, suc, _+_}
+use Prim.Native.Nat.{ℕ, suc}
 use native.Mathlib.Numerals.{add-one}
 use lib.ListN.{length, getD, length-append}
 use lib.Seq.{getD-append-seam}
 use Rattle.sdtd.specs.Schema.{Schema, tagOf}
-use Rattle.sdtd.specs.Document.{Event, opening, closing, finish}
-use Rattle.sdtd.specs.Reading.{OpenElement, withChild, openAfter}
+use Rattle.sdtd.specs.Document.{Event, finish}
+use Rattle.sdtd.specs.Reading.{OpenElement, newElement, withChild, openAfter}
 use Rattle.sdtd.proofs.Trees.{opened}
-use Rattle.sdtd.proofs.Machine.{Owner, top, own, Frame, frame, Moves, opens, closes, ends, Run, halt, move}
+use Rattle.sdtd.proofs.Machine.{Owner, top, own, Frame, frame, opens, closes, ends, Run, halt, move}
 use Rattle.sdtd.proofs.Typed.{tagged}
 
 -- The open elements xs are the frames, where ts are the types of all elements in the order of their openings.
@@ -24,10 +24,10 @@ pub data Elements (S : Schema) (ts : List ℕ) : List OpenElement → List Frame
 abbrev Finished : List Event → List Frame → Type 0
 Finished e fs = List·Memᴰ finish e × (fs ≡ [])
 
-with-child : {S : Schema} {ts : List ℕ} {xs : List OpenElement} {o : Owner} {w : List ℕ} {fs : List Frame} (n : ℕ) {j : ℕ} → getD ts n 0 ≡ j
+elements-with-child : {S : Schema} {ts : List ℕ} {xs : List OpenElement} {o : Owner} {w : List ℕ} {fs : List Frame} (n : ℕ) {j : ℕ} → getD ts n 0 ≡ j
     → Elements S ts xs (frame o w ∷ fs) → Elements S ts (withChild n xs) (frame o (w ++ (j ∷ [])) ∷ fs)
-with-child n e outside = outside
-with-child {ts = ts} n e (element {x = x} g p c m) =
+elements-with-child n e outside = outside
+elements-with-child {ts = ts} n e (element {x = x} g p c m) =
     element g p (map-append (λ (k : ℕ). getD ts k 0) (x .children) (n ∷ []) ∙ (λ i. c i ++ (e i ∷ []))) m
 
 next-place : (past : List ℕ) (j : ℕ) (later : List ℕ) {ts : List ℕ} → ts ≡ past ++ (j ∷ later) → getD ts (length past) 0 ≡ j
@@ -42,12 +42,12 @@ elements-run past later halt e m = inl m
 elements-run {S} {ts} {xs} past later (move {fs″ = hs} {τ = τ} (opens {a = j}) r) e m =
     let p = next-place past j (opened τ ++ later) e in
     let n : length (past ++ (j ∷ [])) ≡ suc (length past) = length-append past (j ∷ []) ∙ add-one (length past) in
-    let ys : List OpenElement = record { tag = tagOf S j; place = length past; children = [] } ∷ withChild (length past) xs in
+    let ys : List OpenElement = newElement (tagOf S j) (length past) ∷ withChild (length past) xs in
     ⊎-elim
     (λ (k : Elements S ts (openAfter (length (past ++ (j ∷ []))) ys (tagged S τ)) hs). inl (rw n at k))
     (λ f. inr (List·Memᴰ·tail (f .0), f .1))
     (elements-run (past ++ (j ∷ [])) later r (e ∙ sym (append-assoc past (j ∷ []) (opened τ ++ later)))
-    (element {x = record { tag = tagOf S j; place = length past; children = [] }} refl p refl (with-child (length past) p m)))
+    (element {x = newElement (tagOf S j) (length past)} refl p refl (elements-with-child (length past) p m)))
 elements-run past later (move (closes w) r) e (element g p c m) =
     ⊎-elim (λ k. inl k) (λ f. inr (List·Memᴰ·tail (f .0), f .1)) (elements-run past later r e m)
 elements-run past later (move (ends w) halt) e m = inr (List·Memᴰ·head refl, refl)

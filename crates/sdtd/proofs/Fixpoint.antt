@@ -4,7 +4,7 @@ use mathlib.Core.Path.{refl, subst}
 use mathlib.Core.Logic.{_↔_}
 use mathlib.Core.List.{List, [], _∷_, _++_, List·Memᴰ, List·Memᴰ·head, Memᴰ·append-right}
 use Prim.Native.Nat.{ℕ}
-use Rattle.sdtd.specs.Schema.{Step, Schema, blockOf, Leads, stay, go, Word}
+use Rattle.sdtd.specs.Schema.{Step, step, Schema, blockOf, Leads, stay, go, Word}
 use Rattle.sdtd.specs.Tree.{Tree, Forest, node, empty, more, label, labels, IsRoot, Derived, DerivedAll}
 use Rattle.sdtd.specs.Trim.{Bears, All, none, both, AllBear, Live, Reached, root, child}
 use Rattle.sdtd.specs.Competition.{GoesOn}
@@ -12,10 +12,17 @@ use Rattle.sdtd.proofs.Automata.{all-append, all-front, all-back, all-h
 use Rattle.sdtd.proofs.Automata.{accepts-split, first-step}
 use Rattle.sdtd.proofs.Bearing.{word-bears, bears-word}
 
--- P holds for each accepting state, and for the state before a step by a type with P at its start state into a state with P.
+-- The type j starts in P, a property of types and their states: where P is liveness, exactly if j bears a tree.
+abbrev pub Starts : Schema → (ℕ → ℕ → Type 0) → ℕ → Type 0
+Starts S P j = P j 0
+
+pub starts-map : (S : Schema) {P Q : ℕ → ℕ → Type 0} → ((a q : ℕ) → P a q → Q a q) → (a : ℕ) → Starts S P a → Starts S Q a
+starts-map S f a p = f a 0 p
+
+-- P holds for each accepting state, and for the state before a step by a type that starts in P into a state with P.
 pub record LiveClosed (S : Schema) (P : ℕ → ℕ → Type 0) : Type 0 where
   pub accepting : (a q : ℕ) → List·Memᴰ q (blockOf S a .accepting) → P a q
-  pub step : (a : ℕ) (s : Step) → List·Memᴰ s (blockOf S a .steps) → P (s .by) 0 → P a (s .to) → P a (s .from)
+  pub step : (a : ℕ) (s : Step) → List·Memᴰ s (blockOf S a .steps) → Starts S P (s .by) → P a (s .to) → P a (s .from)
 
 all-map : {P Q : ℕ → Type 0} {w : List ℕ} → ((j : ℕ) → P j → Q j) → All P w → All Q w
 all-map f none = none
@@ -23,29 +30,29 @@ all-map f (both {j = j} p a) = both (f j p) (all-map f a)
 
 module _ {S : Schema} {P : ℕ → ℕ → Type 0} (closed : LiveClosed S P) where
   -- from the end of a way back to its beginning
-  along : (a : ℕ) {q r : ℕ} {w : List ℕ} → Leads (blockOf S a) q w r → All (λ j. P j 0) w → P a r → P a q
-  along a stay b l = l
-  along a (go {p = p} {j = j} {q = q} s k) (both m b) l = closed .step a (record { from = p; by = j; to = q }) s m (along a k b l)
+  live-along : (a : ℕ) {q r : ℕ} {w : List ℕ} → Leads (blockOf S a) q w r → All (Starts S P) w → P a r → P a q
+  live-along a stay b l = l
+  live-along a (go {p = p} {j = j} {q = q} s k) (both m b) l = closed .step a (step p j q) s m (live-along a k b l)
 
-  -- the start state of each type in a derived tree
+  -- each type in a derived tree starts in P
   mutual
-    tree-start : (t : Tree) → Derived S t → P (label t) 0
-    tree-start (node a f) d = along a (d .0 .leads) (forest-start f (d .1)) (closed .accepting a (d .0 .last) (d .0 .accepting))
+    tree-starts : (t : Tree) → Derived S t → Starts S P (label t)
+    tree-starts (node a f) d = live-along a (d .0 .leads) (forest-starts f (d .1)) (closed .accepting a (d .0 .last) (d .0 .accepting))
 
-    forest-start : (f : Forest) → DerivedAll S f → All (λ j. P j 0) (labels f)
-    forest-start empty d = none
-    forest-start (more t f) d = both (tree-start t (d .0)) (forest-start f (d .1))
+    forest-starts : (f : Forest) → DerivedAll S f → All (Starts S P) (labels f)
+    forest-starts empty d = none
+    forest-starts (more t f) d = both (tree-starts t (d .0)) (forest-starts f (d .1))
 
-  bears-start : (a : ℕ) → Bears S a → P a 0
-  bears-start a b = subst (λ (c : ℕ). P c 0) (b .at-root) (tree-start (b .tree) (b .derived))
+  bears-starts : (a : ℕ) → Bears S a → Starts S P a
+  bears-starts a b = subst (Starts S P) (b .at-root) (tree-starts (b .tree) (b .derived))
 
   -- a closed table has every live state
   pub live-complete : (a q : ℕ) → Live S a q → P a q
   live-complete a q l =
-      along a (l .accepts .leads) (all-map bears-start (l .bear)) (closed .accepting a (l .accepts .last) (l .accepts .accepting))
+      live-along a (l .accepts .leads) (all-map bears-starts (l .bear)) (closed .accepting a (l .accepts .last) (l .accepts .accepting))
 
--- a type bears a tree exactly if its start state is live
-pub bears-live : {S : Schema} {a : ℕ} → Bears S a ↔ Live S a 0
+-- a type bears a tree exactly if it starts live
+pub bears-live : {S : Schema} {a : ℕ} → Bears S a ↔ Starts S (Live S) a
 bears-live {a = a} = (
   λ b. let w = bears-word b in record { word = w .word; accepts = w .is-word; bear = w .bear },
   λ l. word-bears a (l .accepts) (l .bear),
@@ -65,9 +72,10 @@ live-closed =
 pub live-exact : {S : Schema} {P : ℕ → ℕ → Type 0} → LiveClosed S P → ((a q : ℕ) → P a q → Live S a q) → (a q : ℕ) → Live S a q ↔ P a q
 live-exact closed sound a q = (live-complete closed a q, sound a q)
 
--- a sound and closed table has exactly the start states of the tree-bearing types
-pub bears-exact : {S : Schema} {P : ℕ → ℕ → Type 0} → LiveClosed S P → ((a q : ℕ) → P a q → Live S a q) → (a : ℕ) → Bears S a ↔ P a 0
-bears-exact closed sound a = (λ b. live-complete closed a 0 (bears-live .0 b), λ p. bears-live .1 (sound a 0 p))
+-- exactly the tree-bearing types start in a sound and closed table
+pub bears-exact : {S : Schema} {P : ℕ → ℕ → Type 0} → LiveClosed S P → ((a q : ℕ) → P a q → Live S a q)
+    → (a : ℕ) → Bears S a ↔ Starts S P a
+bears-exact {S} closed sound a = (bears-starts closed a, λ p. bears-live .1 (starts-map S sound a p))
 
 -- The state p of the type a is reached over tree-bearing types.
 pub record Forward (S : Schema) (a p : ℕ) : Type 0 where
@@ -81,7 +89,7 @@ pub record Passes (S : Schema) (a : ℕ) (w : List ℕ) (j : ℕ) : Type 0 where
   pub to : ℕ
   pub leads : Leads (blockOf S a) 0 w from
   pub bear : AllBear S w
-  pub step : List·Memᴰ (record { from = from; by = j; to = to }) (blockOf S a .steps)
+  pub step : List·Memᴰ (step from j to) (blockOf S a .steps)
   pub by-bearing : Bears S j
   pub to-live : Live S a to
 
@@ -124,12 +132,12 @@ pub record ReachedClosed (S : Schema) (P : ℕ → Type 0) : Type 0 where
       (a : ℕ) (s : Step) → P a → List·Memᴰ s (blockOf S a .steps) → Forward S a (s .from) → Bears S (s .by) → Live S a (s .to) → P (s .by)
 
 -- a type in a word over tree-bearing types, with the types before it
-record Within (S : Schema) (a j : ℕ) : Type 0 where
+record InWord (S : Schema) (a j : ℕ) : Type 0 where
   front : List ℕ
   goes : GoesOn S a front j
 
-within : {S : Schema} {a j : ℕ} {w : List ℕ} → Word (blockOf S a) w → AllBear S w → List·Memᴰ j w → Within S a j
-within word bear m =
+in-word : {S : Schema} {a j : ℕ} {w : List ℕ} → Word (blockOf S a) w → AllBear S w → List·Memᴰ j w → InWord S a j
+in-word word bear m =
     let r = around m in
     record { front = r .front; goes = record { rest = r .back; word = rw (r .splits) at word; bear = rw (r .splits) at bear } }
 
@@ -137,9 +145,9 @@ within word bear m =
 pub reached-complete : {S : Schema} {P : ℕ → Type 0} → ReachedClosed S P → (a : ℕ) → Reached S a → P a
 reached-complete closed a (root e) = closed .root a e
 reached-complete closed j (child {a = a} r word bear m) =
-    let i = within word bear m in
+    let i = in-word word bear m in
     let p = goes-on .0 (i .goes) in
-    closed .step a (record { from = p .from; by = j; to = p .to }) (reached-complete closed a r) (p .step)
+    closed .step a (step (p .from) j (p .to)) (reached-complete closed a r) (p .step)
     (record { word = i .front; leads = p .leads; bear = p .bear }) (p .by-bearing) (p .to-live)
 
 passed : {S : Schema} {a j : ℕ} {w : List ℕ} → Reached S a → Passes S a w j → Reached S j
@@ -172,8 +180,8 @@ pub record PairReached (S : Schema) (a p q : ℕ) : Type 0 where
 pub record PairClosed (S : Schema) (a : ℕ) (P : ℕ → ℕ → Type 0) : Type 0 where
   pub start : P 0 0
   pub step :
-      (p q j p′ q′ : ℕ) → P p q → List·Memᴰ (record { from = p; by = j; to = p′ }) (blockOf S a .steps)
-      → List·Memᴰ (record { from = q; by = j; to = q′ }) (blockOf S a .steps) → Bears S j → P p′ q′
+      (p q j p′ q′ : ℕ) → P p q → List·Memᴰ (step p j p′) (blockOf S a .steps)
+      → List·Memᴰ (step q j q′) (blockOf S a .steps) → Bears S j → P p′ q′
 
 module _ {S : Schema} {a : ℕ} {P : ℕ → ℕ → Type 0} (closed : PairClosed S a P) where
   pair-along :

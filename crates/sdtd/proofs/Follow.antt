@@ -1,30 +1,29 @@
 -- Following: a typed reading of some events, and any typed document whose tags begin with them: either types compete, or the document's
 -- typed events begin with that very reading.
-use mathlib.Core.Path.{_≡_, refl, sym, ap, subst, _∙_}
-use mathlib.Core.Logic.{_≢_, _⊎_, inl, inr, ⊎-elim}
-use mathlib.Core.List.{List, [], _∷_, _++_, append-assoc, cons≢nil, nil≢cons, head-eq-of-cons-eq, tail-eq-of-cons-eq, List·Memᴰ}
+use mathlib.Core.Path.{_≡_, refl, sym, subst, _∙_}
+use mathlib.Core.Logic.{_⊎_, inl, inr, ⊎-elim}
+use mathlib.Core.List.{List, [], _∷_, _++_, append-assoc, cons≢nil, head-eq-of-cons-eq, tail-eq-of-cons-eq}
 use mathlib.Core.List.{Memᴰ·append-right}
 use mathlib.Core.List.{List·Memᴰ·head}
 use Prim.Native.Nat.{ℕ, _<_}
 use native.Mathlib.Omega.{arith}
-use native.Mathlib.Decide.{ℕ-discrete, decLt}
-use Rattle.sdtd.specs.Schema.{Schema, tagOf, Word}
-use Rattle.sdtd.specs.Tree.{labels}
-use Rattle.sdtd.specs.Document.{Event, opening, closing, finish}
-use Rattle.sdtd.specs.Trim.{Bears, All, none, both, AllBear, Reached, root, child}
-use Rattle.sdtd.specs.Competition.{GoesOn, Compete, Competition}
+use native.Mathlib.Decide.{decLt}
+use Rattle.sdtd.specs.Schema.{Schema, tagOf}
+use Rattle.sdtd.specs.Tree.{labels, IsRoot}
+use Rattle.sdtd.specs.Document.{Event, opening}
+use Rattle.sdtd.specs.Trim.{Bears, none, both, AllBear, Reached, root, child}
+use Rattle.sdtd.specs.Competition.{GoesOn, Competition}
 use Rattle.sdtd.proofs.Automata.{all-append, all-back, all-head, all-tail}
 use Rattle.sdtd.proofs.Bearing.{grow, forest-bears, word-bears, bears-word}
 use Rattle.sdtd.proofs.Trees.{relabelEvent}
-use Rattle.sdtd.proofs.Machine.{Owner, top, own, content, Frame, frame, Moves, opens, closes, ends, Run, halt, move, run-append}
-use Rattle.sdtd.proofs.Machine.{word-is-root}
+use Rattle.sdtd.proofs.Machine.{Owner, top, own, OneRoot, Fills, Frame, frame, Moves, opens, closes, ends, Run, halt, move, run-append}
 use Rattle.sdtd.proofs.Machine.{Future, Suspended, outer, inner, run-suspended}
 use Rattle.sdtd.proofs.Typed.{tagged}
 
--- the type j can come next after the children w: a word goes on with it, over tree-bearing types
+-- the type j can come next after the children w: with it and then tree-bearing types they fill the owner
 pub record Candidate (S : Schema) (o : Owner) (w : List ℕ) (j : ℕ) : Type 0 where
   pub rest : List ℕ
-  pub word : Word (content S o) (w ++ (j ∷ rest))
+  pub fills : Fills S o (w ++ (j ∷ rest))
   pub bears : Bears S j
   pub bear : AllBear S rest
 
@@ -32,8 +31,8 @@ future-candidate : {S : Schema} {o : Owner} {w : List ℕ} {j : ℕ} → Future 
 future-candidate {S} {j = j} f g =
     record {
       rest = labels (g .forest);
-      word = rw append-assoc at (g .word);
-      bears = word-bears j (f .word) (forest-bears (f .forest) (f .derived));
+      fills = rw append-assoc at (g .fills);
+      bears = word-bears j (f .fills) (forest-bears (f .forest) (f .derived));
       bear = forest-bears (g .forest) (g .derived);
     }
 
@@ -45,13 +44,13 @@ suspended-candidate (inner f (inner g s)) = future-candidate f g
 pub candidate-future : {S : Schema} {o : Owner} {w : List ℕ} {j : ℕ} → Candidate S o w j → Future S o (w ++ (j ∷ []))
 candidate-future {S} {o} {w} {j} c =
     let g = grow (c .bear) in
-    record { forest = g .forest; derived = g .derived; word = rw (append-assoc, g .at-roots) (c .word) }
+    record { forest = g .forest; derived = g .derived; fills = rw (append-assoc, g .at-roots) (c .fills) }
 
 pub bears-future : {S : Schema} {j : ℕ} → Bears S j → Future S (own j) []
 bears-future {S} {j} b =
     let x = bears-word b in
     let g = grow (x .bear) in
-    record { forest = g .forest; derived = g .derived; word = rw (g .at-roots) (x .is-word) }
+    record { forest = g .forest; derived = g .derived; fills = rw (g .at-roots) (x .is-word) }
 
 -- a document that can be ended after w can also be ended after an opening of a candidate
 pub candidate-suspended : {S : Schema} {o : Owner} {w : List ℕ} {fs : List Frame} {j : ℕ} → Suspended S (frame o w ∷ fs) → Candidate S o w j
@@ -69,18 +68,18 @@ pub data Grown (S : Schema) : List Frame → Type 0 where
   grown-none : Grown S []
   grown : {o : Owner} {w : List ℕ} {fs : List Frame} → Origin S o → AllBear S w → Grown S fs → Grown S (frame o w ∷ fs)
 
--- the outside's only candidate is the root type, before any child
-pub root-candidate : {S : Schema} {w : List ℕ} {j : ℕ} → Candidate S top w j → (w ≡ []) × (j ≡ S .root)
-root-candidate {S} {w} {j} c = before w (word-is-root S (c .word))
+-- the outside's candidates are types that the root may have, before any child
+pub root-candidate : {S : Schema} {w : List ℕ} {j : ℕ} → Candidate S top w j → (w ≡ []) × IsRoot S j
+root-candidate {S} {w} {j} c = before w (c .fills)
   where
-    before : (v : List ℕ) → v ++ (j ∷ c .rest) ≡ S .root ∷ [] → (v ≡ []) × (j ≡ S .root)
-    before [] e = (refl, head-eq-of-cons-eq e)
-    before (x ∷ []) e = absurd (cons≢nil (tail-eq-of-cons-eq e))
-    before (x ∷ y ∷ v) e = absurd (cons≢nil (tail-eq-of-cons-eq e))
+    before : (v : List ℕ) → OneRoot S (v ++ (j ∷ c .rest)) → (v ≡ []) × IsRoot S j
+    before [] o = (refl, subst (IsRoot S) (sym (head-eq-of-cons-eq (o .only))) (o .is-root))
+    before (x ∷ []) o = absurd (cons≢nil (tail-eq-of-cons-eq (o .only)))
+    before (x ∷ y ∷ v) o = absurd (cons≢nil (tail-eq-of-cons-eq (o .only)))
 
 candidate-reached : {S : Schema} (o : Owner) {w : List ℕ} {j : ℕ} → Origin S o → AllBear S w → Candidate S o w j → Reached S j
 candidate-reached top r b c = root (root-candidate c .1)
-candidate-reached (own a) {w} r b c = child r (c .word) (all-append b (both (c .bears) (c .bear))) (Memᴰ·append-right w (List·Memᴰ·head refl))
+candidate-reached (own a) {w} r b c = child r (c .fills) (all-append b (both (c .bears) (c .bear))) (Memᴰ·append-right w (List·Memᴰ·head refl))
 
 pub grown-move : {S : Schema} {fs fs′ : List Frame} {x : Event} → Grown S fs → Moves S fs x fs′ → Suspended S fs′ → Grown S fs′
 grown-move (grown {o = o} r b g) opens s =
@@ -90,12 +89,12 @@ grown-move (grown r b g) (closes w) s = g
 grown-move (grown r b g) (ends w) s = g
 
 pub candidate-goes-on : {S : Schema} {a : ℕ} {w : List ℕ} {j : ℕ} → AllBear S w → Candidate S (own a) w j → GoesOn S a w j
-candidate-goes-on b c = record { rest = c .rest; word = c .word; bear = all-append b (both (c .bears) (c .bear)) }
+candidate-goes-on b c = record { rest = c .rest; word = c .fills; bear = all-append b (both (c .bears) (c .bear)) }
 
 pub goes-on-candidate : {S : Schema} {a : ℕ} {w : List ℕ} {j : ℕ} → GoesOn S a w j → Candidate S (own a) w j
 goes-on-candidate {w = w} g =
     let b = all-back w (g .bear) in
-    record { rest = g .rest; word = g .word; bears = all-head b; bear = all-tail b }
+    record { rest = g .rest; fills = g .word; bears = all-head b; bear = all-tail b }
 
 in-order : {S : Schema} {a : ℕ} {w : List ℕ} {j k : ℕ} → Reached S a → AllBear S w → Candidate S (own a) w j → Candidate S (own a) w k
     → tagOf S j ≡ tagOf S k → j < k → Competition S
@@ -120,10 +119,14 @@ in-order {a = a} {w = w} {j = j} {k = k} r b c d e l =
           };
     }
 
+-- the root may have one type only
+one-root-type : (S : Schema) {j k : ℕ} → IsRoot S j → IsRoot S k → j ≡ k
+one-root-type S r s = r ∙ sym s
+
 -- Two candidates of one tag at one place are the same, or types compete.
 pub one-candidate : {S : Schema} (o : Owner) {w : List ℕ} {j k : ℕ} → Origin S o → AllBear S w → Candidate S o w j → Candidate S o w k
     → tagOf S j ≡ tagOf S k → Competition S ⊎ (j ≡ k)
-one-candidate top r b c d e = inr (root-candidate c .1 ∙ sym (root-candidate d .1))
+one-candidate {S} top r b c d e = inr (one-root-type S (root-candidate c .1) (root-candidate d .1))
 one-candidate {S} (own a) {w} {j} {k} r b c d e = by-order (decLt j k) (decLt k j)
   where
     by-order : Dec (j < k) → Dec (k < j) → Competition S ⊎ (j ≡ k)

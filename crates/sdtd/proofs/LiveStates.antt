@@ -6,20 +6,20 @@ use Prim.Native.Nat.{ℕ}
 use Rattle.sdtd.specs.Schema.{Block, Schema, blockOf}
 use Rattle.sdtd.specs.Trim.{Live}
 use Rattle.sdtd.proofs.Fixpoint.{LiveClosed}
-use Rattle.sdtd.proofs.Saturate.{grown-sound, Saturated, saturate}
+use Rattle.sdtd.proofs.Saturate.{built-sound, Saturated, saturate}
 use Rattle.sdtd.proofs.Occurring.{gather, gathered}
 use Rattle.sdtd.proofs.Decide.{LiveTable, In, soundEntry, Entry, entry-means, entry-live, LiveExact, table-exact}
 
 -- the accepting states of a block, and the states that its steps leave
-abbrev occurring : Block → List ℕ
-occurring b = b .accepting ++ map (λ s. s .from) (b .steps)
+abbrev occurringStates : Block → List ℕ
+occurringStates b = b .accepting ++ map (λ s. s .from) (b .steps)
 
 abbrev inBlock : ℕ → Block → LiveTable
-inBlock a b = map (λ q. (a, q)) (occurring b)
+inBlock a b = map (λ q. (a, q)) (occurringStates b)
 
 module _ (S : Schema) (r : Saturated (soundEntry S) (gather inBlock (S .blocks))) where
   -- an entry that rests on the table is in it
-  has : (a q : ℕ) → List·Memᴰ q (occurring (blockOf S a)) → Entry S (r .table) (a, q) → In (r .table) a q
+  has : (a q : ℕ) → List·Memᴰ q (occurringStates (blockOf S a)) → Entry S (r .table) (a, q) → In (r .table) a q
   has a q m e =
       let candidate = gathered inBlock (λ k. refl) (S .blocks) a (Memᴰ·map (λ q. (a, q)) m) in
       r .closed (a, q) candidate (entry-means S (r .table) (a, q) .passes e)
@@ -35,7 +35,7 @@ module _ (S : Schema) (r : Saturated (soundEntry S) (gather inBlock (S .blocks))
 
   sound : (a q : ℕ) → In (r .table) a q → Live S a q
   sound a q =
-      grown-sound (λ e. Live S (e .0) (e .1)) (λ t e below d. entry-live e (λ a q. below (a, q)) (entry-means S t e .says d)) (r .grown)
+      built-sound (λ e. Live S (e .0) (e .1)) (λ t e below d. entry-live e (λ a q. below (a, q)) (entry-means S t e .says d)) (r .built)
       (a, q)
 
 pub live-table : (S : Schema) → (L : LiveTable) × LiveExact S L

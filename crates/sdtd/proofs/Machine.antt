@@ -1,42 +1,46 @@
 -- A stack machine over typed events: openings and closings by types. It takes a list of typed events from the start to the end exactly when
--- the list is the stream of a derived tree whose root has the root type.
-use mathlib.Core.Path.{_≡_, refl, sym, ap, subst, _∙_}
+-- the list is the stream of a derived tree with a type at its root that the root may have.
+use mathlib.Core.Path.{_≡_, refl, sym, ap, subst}
 use mathlib.Core.List.{List, [], _∷_, _++_, append-assoc, append-nil, nil≢cons, cons≢nil, head-eq-of-cons-eq, tail-eq-of-cons-eq}
-use mathlib.Core.List.{List·Memᴰ, List·Memᴰ·eq-of-singleton, List·Memᴰ·head, List·Memᴰ·tail}
 use Prim.Native.Nat.{ℕ}
-use native.Mathlib.Omega.{arith}
-use lib.Seq.{append-snoc}
-use Rattle.sdtd.specs.Schema.{Step, Block, Schema, blockOf, Leads, stay, go, Accepts, Word}
+use Rattle.sdtd.specs.Schema.{Schema, blockOf, Word}
 use Rattle.sdtd.specs.Tree.{Tree, Forest, node, empty, more, label, labels, IsRoot, Derived, DerivedAll}
 use Rattle.sdtd.specs.Document.{Event, opening, closing, finish, stream, streams, document}
 
--- Who has children: the outside of the document, whose only child is the root, or an element of a type.
+-- Who has children: the outside of the document, or an element of a type.
 pub data Owner : Type 0 where
   top : Owner
   own : ℕ → Owner
 
--- the content automaton of the outside: its only word is the root type
-abbrev pub rootBlock : Schema → Block
-rootBlock S = record { tag = 0; states = 2; accepting = 1 ∷ []; steps = record { from = 0; by = S .root; to = 1 } ∷ [] }
+-- the list is that of one type, which the root may have
+pub record OneRoot (S : Schema) (w : List ℕ) : Type 0 where
+  pub type : ℕ
+  pub is-root : IsRoot S type
+  pub only : w ≡ type ∷ []
 
-abbrev pub content : Schema → Owner → Block
-content S top = rootBlock S
-content S (own a) = blockOf S a
+-- the types of all the owner's children may be these
+abbrev pub Fills : Schema → Owner → List ℕ → Type 0
+Fills S top w = OneRoot S w
+Fills S (own a) w = Word (blockOf S a) w
 
 -- an open owner and the types of its children so far
 pub data Frame : Type 0 where
   frame : Owner → List ℕ → Frame
 
--- one typed event; a closing and the finish ask for a word
+-- one typed event; a closing and the finish ask that the children fill their owner
 pub data Moves (S : Schema) : List Frame → Event → List Frame → Type 0 where
   opens : {o : Owner} {w : List ℕ} {fs : List Frame} {a : ℕ}
       → Moves S (frame o w ∷ fs) (opening a) (frame (own a) [] ∷ frame o (w ++ (a ∷ [])) ∷ fs)
   closes : {a : ℕ} {w : List ℕ} {fs : List Frame} → Word (blockOf S a) w → Moves S (frame (own a) w ∷ fs) (closing a) fs
-  ends : {w : List ℕ} → Word (rootBlock S) w → Moves S (frame top w ∷ []) finish []
+  ends : {w : List ℕ} → OneRoot S w → Moves S (frame top w ∷ []) finish []
 
 pub data Run (S : Schema) : List Frame → List Event → List Frame → Type 0 where
   halt : {fs : List Frame} → Run S fs [] fs
   move : {fs fs′ fs″ : List Frame} {x : Event} {τ : List Event} → Moves S fs x fs′ → Run S fs′ τ fs″ → Run S fs (x ∷ τ) fs″
+
+-- after the end nothing is read
+pub no-move : {S : Schema} {x : Event} {fs : List Frame} → Moves S [] x fs → ⊥
+no-move m = elim m [ ]
 
 -- nothing is read yet
 abbrev pub start : List Frame
@@ -58,31 +62,8 @@ run-split (x ∷ τ) (move m r) =
     let t = run-split τ r in
     record { middle = t .middle; front = move m (t .front); back = t .back }
 
--- the outside's only word is the root type
-root-word : (S : Schema) → Word (rootBlock S) (S .root ∷ [])
-root-word S = record { last = 1; leads = go (List·Memᴰ·head refl) stay; accepting = List·Memᴰ·head refl }
-
-pub root-is-word : (S : Schema) {a : ℕ} → IsRoot S a → Word (rootBlock S) (a ∷ [])
-root-is-word S e = subst (λ (c : ℕ). Word (rootBlock S) (c ∷ [])) (sym e) (root-word S)
-
--- what the outside's automaton reads from each of its states
-only-step : (S : Schema) {p j q : ℕ} → List·Memᴰ (record { from = p; by = j; to = q }) (rootBlock S .steps)
-    → (p ≡ 0) × (j ≡ S .root) × (q ≡ 1)
-only-step S (List·Memᴰ·head e) = (ap (λ (s : Step). s .from) e, ap (λ (s : Step). s .by) e, ap (λ (s : Step). s .to) e)
-
-after-root : (S : Schema) {p q : ℕ} {w : List ℕ} → p ≡ 1 → Leads (rootBlock S) p w q → w ≡ []
-after-root S e stay = refl
-after-root S e (go s l) = let t : _≡_ {A = ℕ} 0 1 = cc (only-step S s .0) in absurd (omega arith)
-
-from-start : (S : Schema) {p q : ℕ} {w : List ℕ} → p ≡ 0 → Leads (rootBlock S) p w q → List·Memᴰ q (1 ∷ []) → w ≡ S .root ∷ []
-from-start S e stay m = let t : _≡_ {A = ℕ} 0 1 = cc (List·Memᴰ·eq-of-singleton m) in absurd (omega arith)
-from-start S e (go {j = j} {w = w} s l) m =
-    let t = only-step S s in
-    let r : w ≡ [] = after-root S (t .2) l in
-    cc (t .1, r)
-
-pub word-is-root : (S : Schema) {w : List ℕ} → Word (rootBlock S) w → w ≡ S .root ∷ []
-word-is-root S x = from-start S refl (x .leads) (x .accepting)
+pub one-root : {S : Schema} {a : ℕ} → IsRoot S a → OneRoot S (a ∷ [])
+one-root {a = a} r = record { type = a; is-root = r; only = refl }
 
 -- A derived forest is read as children of any owner.
 mutual
@@ -97,11 +78,11 @@ mutual
       let r = forest-run f (d .1) o (w ++ (label t ∷ [])) fs in
       run-append (tree-run t (d .0) o w fs) (rw append-assoc at r)
 
--- what an owner's children after w are: a derived forest that makes a word with w
+-- what an owner's children after w are: a derived forest that fills it with w
 pub record Future (S : Schema) (o : Owner) (w : List ℕ) : Type 0 where
   pub forest : Forest
   pub derived : DerivedAll S forest
-  pub word : Word (content S o) (w ++ labels forest)
+  pub fills : Fills S o (w ++ labels forest)
 
 -- the future of each frame of a document that is read in part
 pub data Suspended (S : Schema) : List Frame → Type 0 where
@@ -117,9 +98,9 @@ todo (inner {a = a} f s) = streams (f .forest) ++ (closing a ∷ todo s)
 
 pub suspended-run : {S : Schema} {fs : List Frame} (s : Suspended S fs) → Run S fs (todo s) []
 suspended-run ended = halt
-suspended-run (outer {w = w} f) = run-append (forest-run (f .forest) (f .derived) top w []) (move (ends (f .word)) halt)
+suspended-run (outer {w = w} f) = run-append (forest-run (f .forest) (f .derived) top w []) (move (ends (f .fills)) halt)
 suspended-run (inner {a = a} {w = w} {fs = fs} f s) =
-    run-append (forest-run (f .forest) (f .derived) (own a) w fs) (move (closes (f .word)) (suspended-run s))
+    run-append (forest-run (f .forest) (f .derived) (own a) w fs) (move (closes (f .fills)) (suspended-run s))
 
 -- a suspended document with the given events still to be read
 pub record SuspendedAt (S : Schema) (fs : List Frame) (ρ : List Event) : Type 0 where
@@ -127,22 +108,22 @@ pub record SuspendedAt (S : Schema) (fs : List Frame) (ρ : List Event) : Type 0
   pub events : todo suspended ≡ ρ
 
 -- one child more, with its own children, before the rest
-with-child : {S : Schema} {o : Owner} {w : List ℕ} (a : ℕ) → Future S (own a) [] → Future S o (w ++ (a ∷ [])) → Future S o w
-with-child {S} {o} {w} a f g =
+future-with-child : {S : Schema} {o : Owner} {w : List ℕ} (a : ℕ) → Future S (own a) [] → Future S o (w ++ (a ∷ [])) → Future S o w
+future-with-child {S} {o} {w} a f g =
     record {
       forest = more (node a (f .forest)) (g .forest);
-      derived = ((f .word, f .derived), g .derived);
-      word = rw append-assoc at (g .word);
+      derived = ((f .fills, f .derived), g .derived);
+      fills = rw append-assoc at (g .fills);
     }
 
 unopen : {S : Schema} {o : Owner} {w : List ℕ} {fs : List Frame} {a : ℕ} (s : Suspended S (frame (own a) [] ∷ frame o (w ++ (a ∷ [])) ∷ fs))
     → SuspendedAt S (frame o w ∷ fs) (opening a ∷ todo s)
-unfolding with-child
-unopen {a = a} (inner f (outer g)) = record { suspended = outer (with-child a f g); events = simp append-assoc }
-unopen {a = a} (inner f (inner g s)) = record { suspended = inner (with-child a f g) s; events = simp append-assoc }
+unfolding future-with-child
+unopen {a = a} (inner f (outer g)) = record { suspended = outer (future-with-child a f g); events = simp append-assoc }
+unopen {a = a} (inner f (inner g s)) = record { suspended = inner (future-with-child a f g) s; events = simp append-assoc }
 
-no-future : {S : Schema} {o : Owner} {w : List ℕ} → Word (content S o) w → Future S o w
-no-future x = record { forest = empty; derived = tt; word = rw append-nil x }
+no-future : {S : Schema} (o : Owner) (w : List ℕ) → Fills S o w → Future S o w
+no-future o w x = record { forest = empty; derived = tt; fills = rw append-nil x }
 
 pub run-suspended : {S : Schema} {fs : List Frame} {ρ : List Event} → Run S fs ρ [] → SuspendedAt S fs ρ
 unfolding no-future
@@ -150,12 +131,12 @@ run-suspended halt = record { suspended = ended; events = refl }
 run-suspended {S} (move (opens {o = o} {w = w} {fs = fs} {a = a}) r) =
     let s = run-suspended r in
     subst (λ (ρ : List Event). SuspendedAt S (frame o w ∷ fs) (opening a ∷ ρ)) (s .events) (unopen {w = w} {fs = fs} (s .suspended))
-run-suspended (move (closes {a = a} w) r) =
+run-suspended (move (closes {a = a} {w = w} x) r) =
     let s = run-suspended r in
-    record { suspended = inner (no-future w) (s .suspended); events = ap {B = List Event} (λ ρ. closing a ∷ ρ) (s .events) }
-run-suspended (move (ends w) halt) = record { suspended = outer (no-future w); events = refl }
+    record { suspended = inner (no-future (own a) w x) (s .suspended); events = ap {B = List Event} (λ ρ. closing a ∷ ρ) (s .events) }
+run-suspended (move (ends {w = w} x) halt) = record { suspended = outer (no-future top w x); events = refl }
 
--- the typed events are the stream of a derived tree whose root has the root type
+-- the typed events are the stream of a derived tree with a type at its root that the root may have
 pub record TypedDocument (S : Schema) (τ : List Event) : Type 0 where
   pub tree : Tree
   pub derived : Derived S tree
@@ -163,15 +144,16 @@ pub record TypedDocument (S : Schema) (τ : List Event) : Type 0 where
   pub events : document tree ≡ τ
 
 pub document-run : {S : Schema} (t : Tree) → Derived S t → IsRoot S (label t) → Run S start (document t) []
-document-run {S} t d r = run-append (tree-run t d top [] []) (move (ends (root-is-word S r)) halt)
+document-run t d r = run-append (tree-run t d top [] []) (move (ends (one-root r)) halt)
 
-only-tree : {S : Schema} (f : Forest) → DerivedAll S f → labels f ≡ S .root ∷ [] → TypedDocument S (streams f ++ (finish ∷ []))
-only-tree empty d e = absurd (nil≢cons e)
-only-tree (more t empty) d e = record { tree = t; derived = d .0; root = head-eq-of-cons-eq e; events = simp append-nil }
-only-tree (more t (more u f)) d e = absurd (cons≢nil (tail-eq-of-cons-eq e))
+only-tree : {S : Schema} (f : Forest) → DerivedAll S f → OneRoot S (labels f) → TypedDocument S (streams f ++ (finish ∷ []))
+only-tree empty d o = absurd (nil≢cons (o .only))
+only-tree {S} (more t empty) d o =
+    record { tree = t; derived = d .0; root = subst (IsRoot S) (sym (head-eq-of-cons-eq (o .only))) (o .is-root); events = simp append-nil }
+only-tree (more t (more u f)) d o = absurd (cons≢nil (tail-eq-of-cons-eq (o .only)))
 
 whole-document : {S : Schema} (s : Suspended S start) → TypedDocument S (todo s)
-whole-document {S} (outer f) = only-tree (f .forest) (f .derived) (word-is-root S (f .word))
+whole-document (outer f) = only-tree (f .forest) (f .derived) (f .fills)
 
 -- What the machine takes from the start to the end is the stream of a derived tree.
 pub run-document : {S : Schema} {τ : List Event} → Run S start τ [] → TypedDocument S τ

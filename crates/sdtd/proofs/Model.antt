@@ -3,7 +3,7 @@
 use mathlib.Core.Path.{_≡_, refl, sym, ap, ap₂, subst, _∙_}
 use mathlib.Core.Logic.{_↔_, inl, inr}
 use mathlib.Core.Bool.{Bool, true, false, _&&_}
-use mathlib.Core.List.{List, [], _∷_, _++_, tail, append-assoc, append-nil, List·Memᴰ, List·Memᴰ·head, List·Memᴰ·not-nil}
+use mathlib.Core.List.{List, [], _∷_, _++_, tail, append-assoc, append-nil, nil≢cons, List·Memᴰ, List·Memᴰ·head, List·Memᴰ·not-nil}
 use Prim.Native.Nat.{ℕ, zero, suc, _<_}
 use native.Mathlib.Omega.{arith}
 use lib.ListN.{length}
@@ -12,17 +12,17 @@ use Rattle.sdtd.specs.Limits.{mostLevels}
 use Rattle.sdtd.specs.Schema.{Schema, blockOf, tagOf}
 use Rattle.sdtd.specs.Tree.{empty, more}
 use Rattle.sdtd.specs.Document.{Event, opening, closing, finish, Begins}
-use Rattle.sdtd.specs.Trim.{Bears}
+use Rattle.sdtd.specs.Trim.{RootBears}
 use Rattle.sdtd.specs.Competition.{Competition, Accepted}
 use Rattle.sdtd.specs.Answer.{Question, Answer, refused, typed, taken, ask, Ordered}
 use Rattle.sdtd.specs.Reading.{depth, innermost, ChildrenFormWord, RootClosed, questions, TakenAnswer, Right}
 use Rattle.sdtd.specs.Calls.{Exchange, ifTaken, eventsTaken, RightCalls}
-use Rattle.sdtd.proofs.Machine.{Owner, top, own, rootBlock, root-is-word, Frame, frame, start, Suspended, outer, inner}
+use Rattle.sdtd.proofs.Machine.{Owner, top, own, one-root, Frame, frame, start, Suspended, outer, inner}
 use Rattle.sdtd.proofs.Follow.{Candidate}
 use Rattle.sdtd.proofs.Position.{Position, SomePosition, first-position, open-position, close-position, end-position}
 use Rattle.sdtd.proofs.Next.{opening-exactly, opening-given}
 use Rattle.sdtd.proofs.Questions.{position-unfinished, position-finished, own-elements, innermost-of, nothing-open, children-word}
-use Rattle.sdtd.proofs.Questions.{root-closed}
+use Rattle.sdtd.proofs.Questions.{root-closed, root-child}
 use Rattle.sdtd.proofs.Answers.{right-unique}
 use Rattle.sdtd.proofs.Calls.{Each, RightAt, each-of-places, places-of-each}
 use Rattle.sdtd.proofs.Tests.{Means, means-iff, itself, eq-means, lt-means, and-means}
@@ -45,16 +45,18 @@ abbrev closingAnswer : Schema → Owner → List ℕ → ℕ → Answer
 closingAnswer S top w g = refused 15
 closingAnswer S (own a) w g = check 16 (eqb (tagOf S a) g) (check 17 (acceptsb (blockOf S a) w) taken)
 
-abbrev finishAnswer : Schema → Owner → List ℕ → Answer
-finishAnswer S top w = check 18 (acceptsb (rootBlock S) w) taken
-finishAnswer S (own a) w = refused 18
+-- a finish, where the innermost frame is the owner's and has the children w
+abbrev finishAnswer : Owner → List ℕ → Answer
+finishAnswer top [] = refused 18
+finishAnswer top (a ∷ w) = taken
+finishAnswer (own a) w = refused 18
 
 -- The answer to a call after the events e, which led to the frames.
 abbrev pub model : Schema → LiveTable → List Event → List Frame → Event → Answer
 model S L e [] x = refused 11
 model S L e (frame o w ∷ fs) (opening g) = check 12 (ltb g (S .tags)) (openingAnswer (depth e) (openingTypes S L o w g))
 model S L e (frame o w ∷ fs) (closing g) = check 12 (ltb g (S .tags)) (closingAnswer S o w g)
-model S L e (frame o w ∷ fs) finish = finishAnswer S o w
+model S L e (frame o w ∷ fs) finish = finishAnswer o w
 
 -- The frames after an answer: a type opens a frame, taken closes one.
 abbrev pub framesAfter : Answer → List Frame → List Frame
@@ -71,13 +73,13 @@ record Answered (S : Schema) (e : List Event) (fs : List Frame) (x : Event) (qs 
 -- The first question is answered no; yes; or as its test says.
 module _ {S : Schema} {e : List Event} {fs : List Frame} (p : Position S e fs)
     {x : Event} {n : ℕ} {A : Type 0} {qs : List (Question Answer)} where
-  answered-no : ¬ A → Answered S e fs x (ask n A ∷ qs) (refused n)
+  answered-no : ¬ A → Answered S e fs x (ask (refused n) A ∷ qs) (refused n)
   answered-no f = record { right = inl (f, refl); next = rw append-nil p }
 
-  answered-yes : {a : Answer} → A → Answered S e fs x qs a → Answered S e fs x (ask n A ∷ qs) a
+  answered-yes : {a : Answer} → A → Answered S e fs x qs a → Answered S e fs x (ask (refused n) A ∷ qs) a
   answered-yes h r = record { right = inr (h, r .right); next = r .next }
 
-  answered : {a : Answer} {b : Bool} → Means b A → (A → Answered S e fs x qs a) → Answered S e fs x (ask n A ∷ qs) (check n b a)
+  answered : {a : Answer} {b : Bool} → Means b A → (A → Answered S e fs x qs a) → Answered S e fs x (ask (refused n) A ∷ qs) (check n b a)
   answered {b = true} m k = let h = m .says tt in answered-yes h (k h)
   answered {b = false} m k = answered-no (m .passes)
 
@@ -91,7 +93,7 @@ module _ {S : Schema} (free : ¬ Competition S) {e : List Event} {w : List ℕ} 
   -- from question 13 on
   opening-answered : {o : Owner} (p : Position S e (frame o w ∷ fs)) (g : ℕ) (js : List ℕ)
       → ((j : ℕ) → List·Memᴰ j js ↔ ((tagOf S j ≡ g) × Candidate S o w j))
-      → Answered S e (frame o w ∷ fs) (opening g) (ask 13 (Begins S (e ++ (opening g ∷ []))) ∷ ask 14 (depth e < mostLevels) ∷ [])
+      → Answered S e (frame o w ∷ fs) (opening g) (ask (refused 13) (Begins S (e ++ (opening g ∷ []))) ∷ ask (refused 14) (depth e < mostLevels) ∷ [])
       (openingAnswer (depth e) js)
   opening-answered p g [] m =
       answered-no p (λ b. let c = opening-exactly free p g .0 b in List·Memᴰ·not-nil (m (c .type) .1 (c .tag, c .candidate)))
@@ -105,7 +107,7 @@ module _ {S : Schema} (free : ¬ Competition S) {e : List Event} {w : List ℕ} 
   -- from question 15 on
   closing-answered : (o : Owner) (p : Position S e (frame o w ∷ fs)) (g : ℕ)
       → Answered S e (frame o w ∷ fs) (closing g)
-      (ask 15 (0 < depth e) ∷ ask 16 (innermost e .tag ≡ g) ∷ ask 17 (ChildrenFormWord S e) ∷ []) (closingAnswer S o w g)
+      (ask (refused 15) (0 < depth e) ∷ ask (refused 16) (innermost e .tag ≡ g) ∷ ask (refused 17) (ChildrenFormWord S e) ∷ []) (closingAnswer S o w g)
   closing-answered top p g =
       let closed : depth e ≡ 0 = ap length (nothing-open (own-elements p (position-unfinished p))) in
       answered-no p (λ d. omega arith)
@@ -121,9 +123,10 @@ module _ {S : Schema} (free : ¬ Competition S) {e : List Event} {w : List ℕ} 
 -- question 18, by the innermost frame
 finish-answered : {S : Schema} {e : List Event} {o : Owner} {w : List ℕ} {fs : List Frame}
     → Position S e (frame o w ∷ fs) → Suspended S (frame o w ∷ fs)
-    → Answered S e (frame o w ∷ fs) finish (ask 18 (RootClosed e) ∷ []) (finishAnswer S o w)
-finish-answered {S} {w = w} p (outer f) =
-    answered p (means-iff (accepts-means (rootBlock S) w) (root-closed p)) (λ c. record { right = refl; next = end-position p (root-closed p .0 c) })
+    → Answered S e (frame o w ∷ fs) finish (ask (refused 18) (RootClosed e) ∷ []) (finishAnswer o w)
+finish-answered {w = []} p (outer f) = answered-no p (λ c. nil≢cons (root-closed p .0 c .only))
+finish-answered {w = a ∷ w} p (outer f) =
+    let o = root-child p in answered-yes p (root-closed p .1 o) (record { right = refl; next = end-position p o })
 finish-answered {e = e} p (inner f s) =
     let i : 0 < depth e = innermost-of (own-elements p (position-unfinished p)) .is-open in
     answered-no p (λ c. omega (arith, c .closed))
@@ -147,9 +150,8 @@ module _ {S : Schema} {L : LiveTable} (free : ¬ Competition S) (exact : LiveExa
   model-next p x = model-answered p x .next
 
 -- nothing is read, and the root type bears a tree
-pub fresh-position : {S : Schema} → Bears S (S .root) → Position S [] start
-fresh-position {S} b =
-    first-position (outer (record { forest = more (b .tree) empty; derived = (b .derived, tt); word = root-is-word S (b .at-root) }))
+pub fresh-position : {S : Schema} → RootBears S → Position S [] start
+fresh-position b = first-position (outer (record { forest = more (b .tree) empty; derived = (b .derived, tt); fills = one-root (b .at-root) }))
 
 -- an answer as two numbers: its kind and what it carries
 abbrev kind : Answer → ℕ
@@ -191,23 +193,23 @@ agrees S L e fs (x ∷ xs) =
 
 module _ {S : Schema} {L : LiveTable} (free : ¬ Competition S) (exact : LiveExact S L) where
   -- the next position, where the model's answer is given
-  along : {e : List Event} {fs : List Frame} → Position S e fs → (x : Event) {a : Answer} → model S L e fs x ≡ a
+  next-position : {e : List Event} {fs : List Frame} → Position S e fs → (x : Event) {a : Answer} → model S L e fs x ≡ a
       → Position S (e ++ ifTaken a x) (framesAfter a fs)
-  along {e} {fs} p x q = subst (λ (a : Answer). Position S (e ++ ifTaken a x) (framesAfter a fs)) q (model-next free exact p x)
+  next-position {e} {fs} p x q = subst (λ (a : Answer). Position S (e ++ ifTaken a x) (framesAfter a fs)) q (model-next free exact p x)
 
   position-after : {e : List Event} {fs : List Frame} → Position S e fs → (xs : List Exchange) → Each (RightAt S) e xs
       → SomePosition S (e ++ eventsTaken xs)
   position-after {fs = fs} p [] r = record { frames = fs; at = rw append-nil p }
   position-after {e} p (x ∷ xs) r =
       let same = right-unique S e (x .call) (model-right free exact p (x .call)) (r .0) in
-      rw append-assoc at (position-after (along p (x .call) same) xs (r .1))
+      rw append-assoc at (position-after (next-position p (x .call) same) xs (r .1))
 
   each-right : {e : List Event} {fs : List Frame} → Position S e fs → (xs : List Exchange) → T (agrees S L e fs xs)
       → Each (RightAt S) e xs
   each-right p [] t = tt
   each-right {e} p (x ∷ xs) t =
       let r = and-means (same-means _ (x .answer)) (itself _) .says t in
-      (subst (Right S e (x .call)) (r .0) (model-right free exact p (x .call)), each-right (along p (x .call) (r .0)) xs (r .1))
+      (subst (Right S e (x .call)) (r .0) (model-right free exact p (x .call)), each-right (next-position p (x .call) (r .0)) xs (r .1))
 
 -- After right answers each call has a right answer.
 pub right-exists : {S : Schema} → Accepted S → (xs : List Exchange) → RightCalls S xs → (x : Event)

@@ -1,6 +1,6 @@
 -- What comes next: which opening, closing or finish may follow the events e taken, by the frames of a typed reading of e.
 use mathlib.Core.Path.{_≡_, refl, sym, ap, subst, _∙_}
-use mathlib.Core.Logic.{_↔_, _⊎_, inl, inr, ⊎-elim}
+use mathlib.Core.Logic.{_↔_, ⊎-elim}
 use mathlib.Core.List.{List, [], _∷_, _++_, append-assoc, cons≢nil, head-eq-of-cons-eq}
 use Prim.Native.Nat.{ℕ}
 use native.Mathlib.Omega.{arith}
@@ -8,12 +8,12 @@ use lib.Seq.{getD-at}
 use Rattle.sdtd.specs.Schema.{Schema, blockOf, tagOf, Word}
 use Rattle.sdtd.specs.Tree.{IsRoot}
 use Rattle.sdtd.specs.Document.{Event, opening, closing, finish, openings, Valid, typesOf, BeginningOf, Begins, EveryTypingGives}
-use Rattle.sdtd.specs.Trim.{Bears, none, both, AllBear}
-use Rattle.sdtd.specs.Competition.{GoesOn, Competition}
+use Rattle.sdtd.specs.Trim.{Bears, none, AllBear}
+use Rattle.sdtd.specs.Competition.{Competition}
 use Rattle.sdtd.proofs.Fixpoint.{Passes, goes-on}
 use Rattle.sdtd.proofs.Trees.{relabelEvent, opened}
-use Rattle.sdtd.proofs.Machine.{Owner, top, own, rootBlock, root-is-word, Frame, frame, Moves, opens, closes, ends, Run, halt, move}
-use Rattle.sdtd.proofs.Machine.{Suspended, run-suspended}
+use Rattle.sdtd.proofs.Machine.{Owner, top, own, OneRoot, one-root, Frame, frame, Moves, opens, closes, ends, Run, move}
+use Rattle.sdtd.proofs.Machine.{Suspended, outer, run-suspended}
 use Rattle.sdtd.proofs.Typed.{tagged}
 use Rattle.sdtd.proofs.Follow.{Candidate, suspended-candidate, root-candidate, Grown, grown, one-candidate, candidate-goes-on}
 use Rattle.sdtd.proofs.Follow.{goes-on-candidate}
@@ -89,11 +89,11 @@ opening-given {S} free {e} p {j} c d v b =
 pub candidate-inside : {S : Schema} {a : ℕ} {w : List ℕ} {j : ℕ} → AllBear S w → Candidate S (own a) w j ↔ Passes S a w j
 candidate-inside b = (λ c. goes-on .0 (candidate-goes-on b c), λ x. goes-on-candidate (goes-on .1 x))
 
--- With nothing open, only the root type can come, before any child.
+-- With nothing open, only a type that the root may have can come, before any child.
 pub candidate-outside : {S : Schema} {w : List ℕ} {j : ℕ} → Candidate S top w j ↔ ((w ≡ []) × IsRoot S j × Bears S j)
-candidate-outside {S} {w} {j} = (
+candidate-outside = (
   λ c. (root-candidate c .0, root-candidate c .1, c .bears),
-  λ x. record { rest = []; word = rw (x .0) (root-is-word S (x .1)); bears = x .2; bear = none },
+  λ x. record { rest = []; fills = rw (x .0) (one-root (x .1)); bears = x .2; bear = none },
 )
 
 closing-move : {S : Schema} {a : ℕ} {w : List ℕ} {fs gs : List Frame} {y : Event} {g : ℕ} → Moves S (frame (own a) w ∷ fs) y gs
@@ -117,18 +117,27 @@ outside-move opens e = let z : _≡_ {A = ℕ} 0 1 = cc in omega arith
 outside-move (ends x) e = let z : _≡_ {A = ℕ} 0 1 = cc in omega arith
 
 -- with nothing open no closing can come
-pub no-closing : {S : Schema} → ¬ Competition S → {e : List Event} {w : List ℕ} {fs : List Frame} → Position S e (frame top w ∷ fs)
+pub no-closing-outside : {S : Schema} → ¬ Competition S → {e : List Event} {w : List ℕ} {fs : List Frame} → Position S e (frame top w ∷ fs)
     → (g : ℕ) → Begins S (e ++ (closing g ∷ [])) → ⊥
-no-closing free p g b = let n = next-move free p (b .valid) (closing g) (b .beginning) in outside-move (n .moves) (n .tag)
+no-closing-outside free p g b = let n = next-move free p (b .valid) (closing g) (b .beginning) in outside-move (n .moves) (n .tag)
 
 pub finish-move : {S : Schema} {o : Owner} {w : List ℕ} {fs gs : List Frame} {y : Event} → Moves S (frame o w ∷ fs) y gs
-    → relabelEvent (tagOf S) y ≡ finish → (o ≡ top) × Word (rootBlock S) w
+    → relabelEvent (tagOf S) y ≡ finish → (o ≡ top) × OneRoot S w
 finish-move opens e = let z : _≡_ {A = ℕ} 0 1 = cc in absurd (omega arith)
 finish-move (closes x) e = let z : _≡_ {A = ℕ} 0 1 = cc in absurd (omega arith)
 finish-move (ends x) e = (refl, x)
 
+finish-begins-outside : {S : Schema} {e : List Event} {w : List ℕ} {fs : List Frame} → Position S e (frame top w ∷ fs)
+    → Suspended S (frame top w ∷ fs) → OneRoot S w → Begins S (e ++ (finish ∷ []))
+finish-begins-outside p (outer f) r = position-begins (end-position p r)
+
 -- Item 5, finish: e and a finish begin a valid document exactly when nothing is open and the root has been read.
 pub finish-exactly : {S : Schema} → ¬ Competition S → {e : List Event} {o : Owner} {w : List ℕ} {fs : List Frame}
     → Position S e (frame o w ∷ fs)
-    → Begins S (e ++ (finish ∷ [])) → (o ≡ top) × Word (rootBlock S) w
-finish-exactly free p b = let n = next-move free p (b .valid) finish (b .beginning) in finish-move (n .moves) (n .tag)
+    → Begins S (e ++ (finish ∷ [])) ↔ ((o ≡ top) × OneRoot S w)
+finish-exactly {S} free {e} {w = w} {fs = fs} p = (
+  λ b. let n = next-move free p (b .valid) finish (b .beginning) in finish-move (n .moves) (n .tag),
+  λ x.
+      let q : Position S e (frame top w ∷ fs) = subst (λ (o : Owner). Position S e (frame o w ∷ fs)) (x .0) p in
+      finish-begins-outside q (q .suspended) (x .1),
+)

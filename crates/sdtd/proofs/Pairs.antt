@@ -41,7 +41,7 @@ pair-one-number s t s′ t′ e =
     let large : max s t ≡ max s′ t′ = le-antisymm (larger s t s′ t′ e) (larger s′ t′ s t (sym e)) in
     same-pair s t s′ t′ large (omega (arith, ap (λ (m : ℕ). m * (m + 1) / 2) large))
 
--- Document 01's numbers agree: 528 pairs of 32 states, words of fewer types than pairs, and 5 bytes and the longest word.
+-- Document 01's numbers agree: the pairs of states, words of fewer types than pairs, and 5 bytes and the longest word.
 pub numbers-agree : (mostPairs ≡ mostStates * (mostStates + 1) / 2) × (suc mostWord ≡ mostPairs) × (leastWitness ≡ 5 + mostWord)
 numbers-agree = (refl, refl, refl)
 

@@ -5,13 +5,13 @@ use mathlib.Core.List.{List, [], _∷_, _++_, map-append, append-cancel-left}
 use Prim.Native.Nat.{ℕ}
 use lib.ListN.{length}
 use Rattle.sdtd.specs.Schema.{Schema, tagOf, blockOf, Word}
-use Rattle.sdtd.specs.Document.{Event, opening, closing, finish, openings, Valid, typesOf, BeginningOf, Begins}
+use Rattle.sdtd.specs.Document.{Event, opening, closing, finish, openings, Valid, typesOf, Begins}
 use Rattle.sdtd.specs.Trim.{none}
 use Rattle.sdtd.specs.Competition.{Competition}
 use Rattle.sdtd.proofs.Trees.{relabelEvent, opened, opened-append, opened-document, length-opened, openings-relabel}
-use Rattle.sdtd.proofs.Machine.{Owner, top, own, rootBlock, Frame, frame, Moves, opens, closes, ends, Run, halt, move, start}
+use Rattle.sdtd.proofs.Machine.{Owner, top, own, OneRoot, Frame, frame, Moves, opens, closes, ends, Run, halt, move, start}
 use Rattle.sdtd.proofs.Machine.{run-append, run-split}
-use Rattle.sdtd.proofs.Machine.{Suspended, ended, outer, inner, todo, suspended-run, run-suspended}
+use Rattle.sdtd.proofs.Machine.{Suspended, ended, inner, todo, suspended-run, run-suspended}
 use Rattle.sdtd.proofs.Typed.{tagged, typedEvents, valid-run, run-valid, tagged-cut}
 use Rattle.sdtd.proofs.Follow.{Candidate, candidate-suspended, Grown, grown, grown-none, grown-run, Follows, follow}
 
@@ -73,7 +73,7 @@ pub close-position : {S : Schema} {e : List Event} {a : ℕ} {w : List ℕ} {fs 
     → Position S (e ++ (closing (tagOf S a) ∷ [])) fs
 close-position p x = moved p (closes x) (inner-rest (p .suspended))
 
-pub end-position : {S : Schema} {e : List Event} {w : List ℕ} → Position S e (frame top w ∷ []) → Word (rootBlock S) w
+pub end-position : {S : Schema} {e : List Event} {w : List ℕ} → Position S e (frame top w ∷ []) → OneRoot S w
     → Position S (e ++ (finish ∷ [])) []
 end-position p x = moved p (ends x) ended
 

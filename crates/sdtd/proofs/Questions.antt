@@ -1,8 +1,8 @@
 -- Document 01's questions for the events taken, by what comes next: after the questions before it, each says that the events with this one
 -- begin a valid document.
 use mathlib.Core.Path.{_≡_, refl, sym, ap, subst, _∙_}
-use mathlib.Core.Logic.{_↔_, _≢_, _⊎_, inl, inr, ⊎-elim}
-use mathlib.Core.List.{List, [], _∷_, _++_, map, append-assoc, append-nil, cons≢nil, nil≢cons, head-eq-of-cons-eq, tail-eq-of-cons-eq}
+use mathlib.Core.Logic.{_↔_, _≢_, ⊎-elim}
+use mathlib.Core.List.{List, [], _∷_, _++_, map, append-nil, cons≢nil, nil≢cons, head-eq-of-cons-eq, tail-eq-of-cons-eq}
 use mathlib.Core.List.{List·Memᴰ}
 use mathlib.Core.List.{List·Memᴰ·head, List·Memᴰ·tail, List·Memᴰ·cases-cons}
 use Prim.Native.Nat.{ℕ, zero, suc, _<_}
@@ -10,26 +10,22 @@ use native.Mathlib.Omega.{arith}
 use lib.ListN.{length, getD}
 use Rattle.sdtd.specs.Schema.{Block, Schema, noBlock, blockOf, tagOf, Word}
 use Rattle.sdtd.specs.Tree.{labels}
-use Rattle.sdtd.specs.Document.{Event, opening, closing, finish, openings, Valid, typesOf, typeAt, BeginningOf, Begins}
-use Rattle.sdtd.specs.Trim.{Bears}
+use Rattle.sdtd.specs.Document.{Event, opening, closing, finish, openings, Valid, typeAt, BeginningOf, Begins}
 use Rattle.sdtd.specs.Competition.{Competition}
-use Rattle.sdtd.specs.Reading.{OpenElement, openElements, NotFinished, depth, innermost, ChildrenFormWord, RootClosed}
+use Rattle.sdtd.specs.Reading.{OpenElement, openElements, noElement, NotFinished, depth, innermost, ChildrenFormWord, RootClosed}
 use Rattle.sdtd.proofs.Bearing.{bears-word}
 use Rattle.sdtd.proofs.Trees.{relabelEvent, opened, openings-relabel}
-use Rattle.sdtd.proofs.Machine.{Owner, top, own, rootBlock, word-is-root, root-is-word, Frame, frame, Moves, opens, closes, ends}
-use Rattle.sdtd.proofs.Machine.{Run, halt, move, start, run-split}
-use Rattle.sdtd.proofs.Machine.{Suspended, outer, inner, suspended-run, run-suspended}
+use Rattle.sdtd.proofs.Machine.{Owner, top, own, OneRoot, Frame, frame, Moves, opens, closes, ends}
+use Rattle.sdtd.proofs.Machine.{Run, halt, move, no-move, start, run-split}
+use Rattle.sdtd.proofs.Machine.{Suspended, outer, suspended-run, run-suspended}
 use Rattle.sdtd.proofs.Typed.{tagged, tagged-cut, run-valid}
-use Rattle.sdtd.proofs.Position.{Position, SomePosition, position, position-begins, end-position, onward-only, onward-types}
+use Rattle.sdtd.proofs.Position.{Position, position, position-begins, end-position, onward-only, onward-types}
 use Rattle.sdtd.proofs.Next.{opening-move, closing-exactly, finish-move}
 use Rattle.sdtd.proofs.Elements.{Elements, outside, element, elements-run}
 
 -- each block's tag is below the count
 abbrev pub TagsBelow : Schema → Type 0
 TagsBelow S = (b : Block) → List·Memᴰ b (S .blocks) → b .tag < S .tags
-
-no-move : {S : Schema} {x : Event} {gs : List Frame} → Moves S [] x gs → ⊥
-no-move m = elim m [ ]
 
 no-run : {S : Schema} {τ : List Event} {f : Frame} {fs : List Frame} → Run S [] τ (f ∷ fs) → ⊥
 no-run (move m r) = no-move m
@@ -114,9 +110,9 @@ elements-of {S} {e} {fs} p n {ts} r q =
 -- what the innermost open element is where the innermost frame is an element's
 pub record Innermost (S : Schema) (ts : List ℕ) (xs : List OpenElement) (a : ℕ) (w : List ℕ) : Type 0 where
   pub is-open : 0 < length xs
-  pub tag : getD xs 0 (record { tag = 0; place = 0; children = [] }) .tag ≡ tagOf S a
-  pub type : getD ts (getD xs 0 (record { tag = 0; place = 0; children = [] }) .place) 0 ≡ a
-  pub children : map (λ (n : ℕ). getD ts n 0) (getD xs 0 (record { tag = 0; place = 0; children = [] }) .children) ≡ w
+  pub tag : getD xs 0 noElement .tag ≡ tagOf S a
+  pub type : getD ts (getD xs 0 noElement .place) 0 ≡ a
+  pub children : map (λ (n : ℕ). getD ts n 0) (getD xs 0 noElement .children) ≡ w
 
 pub innermost-of : {S : Schema} {ts : List ℕ} {xs : List OpenElement} {a : ℕ} {w : List ℕ} {fs : List Frame}
     → Elements S ts xs (frame (own a) w ∷ fs)
@@ -170,7 +166,7 @@ asked-begins : {S : Schema} → ¬ Competition S → {e : List Event} {g : ℕ} 
 asked-begins free {e} outside q p c = absurd (let k = c .element-open in let z : 0 < 0 = rw (← q) at k in omega arith)
 asked-begins free {g = g} (element {x = x} {xs = xs} t m n k) q p c =
     closing-exactly free p g .1
-    (sym t ∙ ap (λ (l : List OpenElement). getD l 0 (record { tag = 0; place = 0; children = [] }) .tag) q ∙ c .innermost-tag, children-word free p .0 (c .word))
+    (sym t ∙ ap (λ (l : List OpenElement). getD l 0 noElement .tag) q ∙ c .innermost-tag, children-word free p .0 (c .word))
 
 begins-asked : {S : Schema} → ¬ Competition S → TagsBelow S
     → {e : List Event} {g : ℕ} {o : Owner} {w : List ℕ} {fs gs : List Frame} {y : Event} → Position S e (frame o w ∷ fs)
@@ -215,12 +211,12 @@ append-nil-left : (v w : List ℕ) → v ++ w ≡ [] → v ≡ []
 append-nil-left [] w e = refl
 append-nil-left (x ∷ v) w e = absurd (cons≢nil e)
 
--- the outside's children are a word once the root has been opened
-seen-word : {S : Schema} {w : List ℕ} → RootSeen (frame top w ∷ []) → Suspended S (frame top w ∷ []) → Word (rootBlock S) w
-seen-word {S} (seen-outside {a = a} {w = w}) (outer f) =
-    let e = word-is-root S (f .word) in
-    let v : w ≡ [] = append-nil-left w (labels (f .forest)) (tail-eq-of-cons-eq e) in
-    rw v (root-is-word S (head-eq-of-cons-eq e))
+-- the outside has its one child once the root has been opened
+seen-root : {S : Schema} {w : List ℕ} → RootSeen (frame top w ∷ []) → Suspended S (frame top w ∷ []) → OneRoot S w
+seen-root (seen-outside {w = w}) (outer f) =
+    let o = f .fills in
+    let v : w ≡ [] = append-nil-left w (labels (f .forest)) (tail-eq-of-cons-eq (o .only)) in
+    record { type = o .type; is-root = o .is-root; only = λ i. head-eq-of-cons-eq (o .only) i ∷ v i }
 
 start-run : {S : Schema} {w : List ℕ} {fs : List Frame} {τ : List Event} → Run S start τ (frame top w ∷ fs) → 0 < openings τ
     → RootSeen (frame top w ∷ fs)
@@ -228,32 +224,32 @@ start-run halt o = absurd (omega arith)
 start-run (move opens r) o = seen-run (seen-inside seen-outside) r
 start-run (move (ends w) r) o = absurd (no-run r)
 
-begins-closed : {S : Schema} {e : List Event} {w : List ℕ} {fs : List Frame} → Position S e (frame top w ∷ fs) → Word (rootBlock S) w
+begins-closed : {S : Schema} {e : List Event} {w : List ℕ} {fs : List Frame} → Position S e (frame top w ∷ fs) → OneRoot S w
     → RootClosed e
 begins-closed {S} p x =
     record {
-      opened = subst (λ (n : ℕ). 0 < n) (sym (openings-relabel (tagOf S) (p .events)) ∙ ap openings (p .tags)) (some-opening (p .run) (word-is-root S x));
+      opened = subst (λ (n : ℕ). 0 < n) (sym (openings-relabel (tagOf S) (p .events)) ∙ ap openings (p .tags)) (some-opening (p .run) x);
       closed = ap length (nothing-open (own-elements p (position-unfinished p)));
     }
   where
-    some-opening : {τ : List Event} {w : List ℕ} {fs : List Frame} → Run S start τ (frame top w ∷ fs) → w ≡ S .root ∷ [] → 0 < openings τ
-    some-opening halt e = absurd (nil≢cons e)
-    some-opening (move opens r) e = omega arith
-    some-opening (move (ends w) r) e = absurd (no-run r)
+    some-opening : {τ : List Event} {w : List ℕ} {fs : List Frame} → Run S start τ (frame top w ∷ fs) → OneRoot S w → 0 < openings τ
+    some-opening halt o = absurd (nil≢cons (o .only))
+    some-opening (move opens r) o = omega arith
+    some-opening (move (ends w) r) o = absurd (no-run r)
 
--- Question 18 with nothing open, by the outside's children: they are a word once there is one.
-pub root-closed : {S : Schema} {e : List Event} {w : List ℕ} → Position S e (frame top w ∷ []) → RootClosed e ↔ Word (rootBlock S) w
+-- Question 18 with nothing open, by the outside's children: the root is read once there is one.
+pub root-closed : {S : Schema} {e : List Event} {w : List ℕ} → Position S e (frame top w ∷ []) → RootClosed e ↔ OneRoot S w
 root-closed {S} p = (
   λ c.
       let o : 0 < openings (p .events) =
       subst (λ (n : ℕ). 0 < n) (sym (ap openings (p .tags)) ∙ openings-relabel (tagOf S) (p .events)) (c .opened) in
-      seen-word (start-run (p .run) o) (p .suspended),
+      seen-root (start-run (p .run) o) (p .suspended),
   begins-closed p,
 )
 
 pub root-child : {S : Schema} {e : List Event} {a : ℕ} {w : List ℕ} → Position S e (frame top (a ∷ w) ∷ [])
-    → Word (rootBlock S) (a ∷ w)
-root-child p = seen-word seen-outside (p .suspended)
+    → OneRoot S (a ∷ w)
+root-child p = seen-root seen-outside (p .suspended)
 
 closed-begins : {S : Schema} {e : List Event} {fs : List Frame} {ts : List ℕ} {xs : List OpenElement} → Elements S ts xs fs
     → xs ≡ openElements e → Position S e fs

@@ -5,7 +5,7 @@ use mathlib.Core.List.{List, List·Memᴰ}
 use Prim.Native.Nat.{ℕ, _<_}
 use native.Mathlib.Decide.{decLt}
 use native.Mathlib.Omega.{arith}
-use Rattle.sdtd.specs.Schema.{Schema, blockOf, tagOf, Leads}
+use Rattle.sdtd.specs.Schema.{step, Schema, blockOf, tagOf, Leads}
 use Rattle.sdtd.specs.Trim.{Bears, AllBear, Live, Reached, Useful}
 use Rattle.sdtd.specs.Competition.{Compete, CompeteIn}
 use Rattle.sdtd.proofs.Fixpoint.{goes-on, PairReached, PairClosed, pair-complete}
@@ -14,8 +14,8 @@ use Rattle.sdtd.proofs.Fixpoint.{goes-on, PairReached, PairClosed, pair
 pub record RivalSteps (S : Schema) (a p q j k : ℕ) : Type 0 where
   pub next-j : ℕ
   pub next-k : ℕ
-  pub step-j : List·Memᴰ (record { from = p; by = j; to = next-j }) (blockOf S a .steps)
-  pub step-k : List·Memᴰ (record { from = q; by = k; to = next-k }) (blockOf S a .steps)
+  pub step-j : List·Memᴰ (step p j next-j) (blockOf S a .steps)
+  pub step-k : List·Memᴰ (step q k next-k) (blockOf S a .steps)
   pub one-tag : tagOf S j ≡ tagOf S k
   pub bears-j : Bears S j
   pub bears-k : Bears S k

@@ -5,16 +5,13 @@ use Rattle.sdtd.specs.Schema.{Schema}
 use Rattle.sdtd.specs.Competition.{Accepted}
 use Rattle.sdtd.specs.Calls.{Exchange}
 use Rattle.sdtd.specs.Samples.{answers, Holds, HoldAll, starred, nested}
+use Rattle.sdtd.proofs.Basics.{_&_}
 use Rattle.sdtd.proofs.Machine.{start}
 use Rattle.sdtd.proofs.Decide.{LiveTable, LiveExact}
 use Rattle.sdtd.proofs.Model.{agrees, calls-agree}
 use Rattle.sdtd.proofs.SampleSchemas.{exactR, acceptedR, acceptedNoD, acceptedTwoTypes, exactLastButOne, acceptedLastButOne}
 use Rattle.sdtd.proofs.SampleSchemas.{exactOptional, acceptedOptional, refusedChoice, refusedTwoWays, bearsNoneEndless}
 use Rattle.sdtd.proofs.SampleSchemas.{exactNested, acceptedNested}
-
-infixr 25 _&_
-_&_ : {A B : Type 0} → A → B → A × B
-a & b = (a, b)
 
 answers-hold : {S : Schema} {L : LiveTable} → Accepted S → LiveExact S L → (xs : List Exchange) → T (agrees S L [] start xs)
     → Holds (answers S xs)
@@ -34,6 +31,6 @@ starred-hold =
     & bearsNoneEndless
     & tt
 
--- 64 levels are opened, and no 65th.
+-- `mostLevels` levels are opened, and no further one.
 pub nested-holds : Holds nested
 nested-holds = answers-hold acceptedNested exactNested _ tt

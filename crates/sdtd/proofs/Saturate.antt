@@ -10,23 +10,23 @@ use lib.ListN.{length}
 use lib.Dec.{T}
 
 -- The rule derives each entry of the table from the entries that were there before it, which stand after it.
-pub data Grown {A : Type 0} (adds : List A → A → Bool) : List A → Type 0 where
-  no-entry : Grown adds []
-  entry : {t : List A} {x : A} → Grown adds t → T (adds t x) → Grown adds (x ∷ t)
+pub data Built {A : Type 0} (adds : List A → A → Bool) : List A → Type 0 where
+  no-entry : Built adds []
+  entry : {t : List A} {x : A} → Built adds t → T (adds t x) → Built adds (x ∷ t)
 
 -- What holds of each candidate that is derived from entries of which it holds, holds of all entries.
-pub grown-sound : {A : Type 0} {adds : List A → A → Bool} (P : A → Type 0)
+pub built-sound : {A : Type 0} {adds : List A → A → Bool} (P : A → Type 0)
     → ((t : List A) (x : A) → ((y : A) → List·Memᴰ y t → P y) → T (adds t x) → P x)
-    → {t : List A} → Grown adds t → (x : A) → List·Memᴰ x t → P x
-grown-sound P rule no-entry x m = absurd (List·Memᴰ·not-nil m)
-grown-sound P rule (entry {t = t} {x = y} g d) x m =
-    let before = grown-sound P rule g in
+    → {t : List A} → Built adds t → (x : A) → List·Memᴰ x t → P x
+built-sound P rule no-entry x m = absurd (List·Memᴰ·not-nil m)
+built-sound P rule (entry {t = t} {x = y} g d) x m =
+    let before = built-sound P rule g in
     ⊎-elim (λ e. subst P (sym e) (rule t y before d)) (before x) (List·Memᴰ·cases-cons m)
 
 -- A table that grew by the rule and has every candidate that the rule derives from it.
 pub record Saturated {A : Type 0} (adds : List A → A → Bool) (candidates : List A) : Type 0 where
   pub table : List A
-  pub grown : Grown adds table
+  pub built : Built adds table
   pub closed : (x : A) → List·Memᴰ x candidates → T (adds table x) → List·Memᴰ x table
 
 -- a member that passes the test, and the others
@@ -65,10 +65,10 @@ pick {A} f (y ∷ ys) = by-test (f y) refl (pick f ys)
 
 module _ {A : Type 0} (adds : List A → A → Bool) (candidates : List A) where
   -- from the table t on, where the candidates besides its entries are among the remaining ones, which are at most n
-  saturate-from : (n : ℕ) (remaining : List A) → length remaining ≤ n → (t : List A) → Grown adds t
+  saturate-from : (n : ℕ) (remaining : List A) → length remaining ≤ n → (t : List A) → Built adds t
       → ((x : A) → List·Memᴰ x candidates → List·Memᴰ x t ⊎ List·Memᴰ x remaining) → Saturated adds candidates
   saturate-from zero [] h t g covered =
-      record { table = t; grown = g; closed = λ x m d. ⊎-elim (λ k. k) (λ k. absurd (List·Memᴰ·not-nil k)) (covered x m) }
+      record { table = t; built = g; closed = λ x m d. ⊎-elim (λ k. k) (λ k. absurd (List·Memᴰ·not-nil k)) (covered x m) }
   saturate-from zero (y ∷ ys) h t g covered = absurd (omega arith)
   saturate-from (suc n) remaining h t g covered =
       ⊎-elim
@@ -78,7 +78,7 @@ module _ {A : Type 0} (adds : List A → A → Bool) (candidates : List A) where
       (λ k. inl (List·Memᴰ·tail k))
       (λ k. ⊎-elim (λ e. inl (List·Memᴰ·head e)) (λ l. inr l) (p .all x k))
       (covered x m)))
-      (λ none. record { table = t; grown = g; closed = λ x m d. ⊎-elim (λ k. k) (λ k. absurd (none x k d)) (covered x m) })
+      (λ none. record { table = t; built = g; closed = λ x m d. ⊎-elim (λ k. k) (λ k. absurd (none x k d)) (covered x m) })
       (pick (adds t) remaining)
 
   pub saturate : Saturated adds candidates

@@ -7,7 +7,7 @@ use native.Mathlib.Decide.{ℕ-discrete}
 use native.Mathlib.Omega.{arith}
 use lib.ListN.{length}
 use Rattle.sdtd.specs.Limits.{mostPairs}
-use Rattle.sdtd.specs.Schema.{Step, Block, Schema, blockOf, Leads, stay, go, BlockWithin}
+use Rattle.sdtd.specs.Schema.{Step, step, Block, Schema, blockOf, Leads, stay, go, BlockWithin}
 use Rattle.sdtd.specs.Trim.{Bears, none, both, AllBear}
 use Rattle.sdtd.specs.Competition.{pairNumber}
 use Rattle.sdtd.proofs.Fixpoint.{PairReached}
@@ -33,8 +33,8 @@ module _ (S : Schema) (b : Block) (number : ℕ → ℕ → ℕ) (p′ q′ : �
   -- a way of pairs from p, q to p′, q′ by a word, with the numbers of the pairs visited
   data Trail : ℕ → ℕ → List ℕ → List ℕ → Type 0 where
     arrived : Trail p′ q′ [] (number p′ q′ ∷ [])
-    next : {p q r s j : ℕ} {w v : List ℕ} → List·Memᴰ (record { from = p; by = j; to = r }) (b .steps)
-        → List·Memᴰ (record { from = q; by = j; to = s }) (b .steps) → Bears S j → Trail r s w v → Trail p q (j ∷ w) (number p q ∷ v)
+    next : {p q r s j : ℕ} {w v : List ℕ} → List·Memᴰ (step p j r) (b .steps)
+        → List·Memᴰ (step q j s) (b .steps) → Bears S j → Trail r s w v → Trail p q (j ∷ w) (number p q ∷ v)
 
   -- a way of pairs from p, q to p′, q′ that visits no number twice
   record Shortened (p q : ℕ) : Type 0 where
@@ -81,8 +81,8 @@ module _ {S : Schema} {b : Block} {number : ℕ → ℕ → ℕ} {p′ q′ : �
 module _ {S : Schema} {b : Block} {number : ℕ → ℕ → ℕ} {p′ q′ : ℕ}
     (one : (p q r s : ℕ) → number p q ≡ number r s → SamePair p q r s) where
   -- a step from p, q in front of a way; if the pair is visited already, the way goes on from there, perhaps with p and q swapped
-  extend : {p q r s j : ℕ} → List·Memᴰ (record { from = p; by = j; to = r }) (b .steps)
-      → List·Memᴰ (record { from = q; by = j; to = s }) (b .steps) → Bears S j → Shortened S b number p′ q′ r s
+  extend : {p q r s j : ℕ} → List·Memᴰ (step p j r) (b .steps)
+      → List·Memᴰ (step q j s) (b .steps) → Bears S j → Shortened S b number p′ q′ r s
       → Shortened S b number p′ q′ p q ⊎ Shortened S b number p′ q′ q p
   extend {p} {q} m n t l = cases (mem-dec (number p q) (l .visited))
     where
@@ -121,7 +121,7 @@ short-pair {S} {a} {p} {q} N number within start below one x = ⊎-elim result r
           short = omega (arith, trail-length (f .trail), full-length N (f .distinct) (trail-below within below (f .trail) start start));
         }
 
--- inside the limits, a word of at most 527 types
+-- inside the limits, a word of at most `mostWord` types
 pub short-pair-most : {S : Schema} {a p q : ℕ} → BlockWithin S (blockOf S a) → PairReached S a p q → ShortPair S a p q mostPairs
 short-pair-most {S} {a} w x =
     short-pair mostPairs pairNumber (λ s m. w .steps s m .to) (w .states-least)

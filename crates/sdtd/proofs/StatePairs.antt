@@ -3,13 +3,13 @@ use mathlib.Core.Path.{_≡_, refl, sym, subst₂}
 use mathlib.Core.Logic.{_⊎_, inl, inr}
 use mathlib.Core.List.{List, _∷_, map, List·Memᴰ, List·Memᴰ·head, List·Memᴰ·tail, Memᴰ·map, Memᴰ·cast}
 use Prim.Native.Nat.{ℕ}
-use Rattle.sdtd.specs.Schema.{Step, Schema, blockOf}
+use Rattle.sdtd.specs.Schema.{Step, step, Schema, blockOf}
 use Rattle.sdtd.specs.Trim.{Bears}
 use Rattle.sdtd.proofs.Fixpoint.{Forward, PairReached, PairClosed, pair-closed, pair-exact, forward-pair}
 use Rattle.sdtd.proofs.Tests.{Means, means-iff, Decision, decision, eq-means, and-means, or-means, Found, any-means}
-use Rattle.sdtd.proofs.Saturate.{grown-sound, Saturated, saturate}
+use Rattle.sdtd.proofs.Saturate.{built-sound, Saturated, saturate}
 use Rattle.sdtd.proofs.Occurring.{crossed, in-crossed}
-use Rattle.sdtd.proofs.Decide.{inTable, In, in-means, step}
+use Rattle.sdtd.proofs.Decide.{inTable, In, in-means}
 use Rattle.sdtd.proofs.LiveStates.{live-table}
 
 -- two steps by one tree-bearing type lead to the pair e from a pair of the table
@@ -66,8 +66,8 @@ module _ (S : Schema) (a : ℕ) (r : Saturated (λ t e. derives S (blockOf S a .
 
   sound : (p q : ℕ) → In (r .table) p q → PairReached S a p q
   sound p q =
-      grown-sound (λ e. PairReached S a (e .0) (e .1))
-      (λ t e below d. derived-reached S a t e below (derives S (blockOf S a .steps) t e .1 .says d)) (r .grown) (p, q)
+      built-sound (λ e. PairReached S a (e .0) (e .1))
+      (λ t e below d. derived-reached S a t e below (derives S (blockOf S a .steps) t e .1 .says d)) (r .built) (p, q)
 
 pub pair-table : (S : Schema) (a : ℕ) → (t : List (ℕ × ℕ)) × ((p q : ℕ) → Means (inTable t p q) (PairReached S a p q))
 pair-table S a =

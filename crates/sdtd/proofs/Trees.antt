@@ -32,8 +32,8 @@ record SameForest (f₁ f₂ : Forest) (a b : ℕ) (r₁ r₂ : List Event) : Ty
   rest : r₁ ≡ r₂
 
 -- a stream begins with no closing
-no-closing : (t : Tree) (r : List Event) {b : ℕ} {s : List Event} → stream t ++ r ≡ closing b ∷ s → ⊥
-no-closing (node a f) r e = let z : _≡_ {A = ℕ} 0 1 = cc in omega arith
+stream-opens : (t : Tree) (r : List Event) {b : ℕ} {s : List Event} → stream t ++ r ≡ closing b ∷ s → ⊥
+stream-opens (node a f) r e = let z : _≡_ {A = ℕ} 0 1 = cc in omega arith
 
 mutual
   same-tree : (t₁ t₂ : Tree) {r₁ r₂ : List Event} → stream t₁ ++ r₁ ≡ stream t₂ ++ r₂ → SameTree t₁ t₂ r₁ r₂
@@ -44,8 +44,8 @@ mutual
   same-forest : (f₁ f₂ : Forest) {a b : ℕ} {r₁ r₂ : List Event}
       → streams f₁ ++ (closing a ∷ r₁) ≡ streams f₂ ++ (closing b ∷ r₂) → SameForest f₁ f₂ a b r₁ r₂
   same-forest empty empty e = record { forest = refl; closed = cc; rest = cc }
-  same-forest empty (more t f) e = absurd (no-closing t _ (sym (simp append-assoc at e)))
-  same-forest (more t f) empty e = absurd (no-closing t _ (simp append-assoc at e))
+  same-forest empty (more t f) e = absurd (stream-opens t _ (sym (simp append-assoc at e)))
+  same-forest (more t f) empty e = absurd (stream-opens t _ (simp append-assoc at e))
   same-forest (more t f) (more u g) e =
       let s = same-tree t u (simp append-assoc at e) in
       let r = same-forest f g (s .rest) in

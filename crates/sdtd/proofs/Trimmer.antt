@@ -71,13 +71,13 @@ pub record RightTests (S : Schema) (t : TypeTests) : Type 0 where
 
 module _ {S : Schema} {t : TypeTests} (right : RightTests S t) where
   -- the tests of a block and of a step pass exactly if trimming keeps it
-  type-means : (a : ℕ) → Means (keepsType t a) (Useful S a)
+  keeps-type-means : (a : ℕ) → Means (keepsType t a) (Useful S a)
   unfolding keepsType
-  type-means a = and-means (right .reached a) (right .bears a)
+  keeps-type-means a = and-means (right .reached a) (right .bears a)
 
-  step-means : (a : ℕ) (s : Step) → Means (keepsStep t a s) (((Useful S a × Bears S (s .by)) × Live S a (s .from)) × Live S a (s .to))
+  keeps-step-means : (a : ℕ) (s : Step) → Means (keepsStep t a s) (((Useful S a × Bears S (s .by)) × Live S a (s .from)) × Live S a (s .to))
   unfolding keepsStep
-  step-means a s = and-means (and-means (and-means (type-means a) (right .bears (s .by))) (right .live a (s .from))) (right .live a (s .to))
+  keeps-step-means a s = and-means (and-means (and-means (keeps-type-means a) (right .bears (s .by))) (right .live a (s .from))) (right .live a (s .to))
 
   pub tests-trim : Trimmed S (trimmedByTests t S)
   unfolding trimmedByTests trimAt
@@ -88,14 +88,14 @@ module _ {S : Schema} {t : TypeTests} (right : RightTests S t) where
         root = refl;
         own-tags = λ a. ap (λ (b : Block). b .tag) (trim-block t S a);
         states = λ a. ap (λ (b : Block). b .states) (trim-block t S a);
-        accepting = λ a q. rw (trim-block t S a) (kept-if (type-means a));
+        accepting = λ a q. rw (trim-block t S a) (kept-if (keeps-type-means a));
         steps = λ a s.
             rw (trim-block t S a) (
               λ m.
                   let k = kept (keepsStep t a) (blockOf S a .steps) s m in
-                  let h = step-means a s .says (k .1) in
+                  let h = keeps-step-means a s .says (k .1) in
                   record { given = k .0; useful = h .0 .0 .0; by-bearing = h .0 .0 .1; from-live = h .0 .1; to-live = h .1 },
               λ p. keeps (keepsStep t a) (blockOf S a .steps) s (p .given)
-                  (step-means a s .passes (((p .useful, p .by-bearing), p .from-live), p .to-live)),
+                  (keeps-step-means a s .passes (((p .useful, p .by-bearing), p .from-live), p .to-live)),
             );
       }

@@ -4,19 +4,19 @@ use mathlib.Core.Path.{_≡_, refl, sym, _∙_, ap, fun-ext}
 use mathlib.Core.Logic.{_↔_}
 use mathlib.Core.List.{List, [], _∷_, List·Memᴰ, List·Memᴰ·head, List·Memᴰ·tail}
 use Prim.Native.Nat.{ℕ}
-use Rattle.sdtd.specs.Schema.{Schema, blockOf, tagOf, Leads, stay, go, Word}
+use Rattle.sdtd.specs.Schema.{step, Schema, blockOf, tagOf, Leads, stay, go, Word}
 use Rattle.sdtd.specs.Tree.{Tree, Forest, node, empty, more, label, labels, relabel, preorder, preorders, Derived, DerivedAll}
-use Rattle.sdtd.specs.Tree.{IsTyping}
+use Rattle.sdtd.specs.Tree.{IsRoot, IsTyping}
 use Rattle.sdtd.specs.Document.{Event, document, Valid, SomeValid}
-use Rattle.sdtd.specs.Trim.{Bears, All, none, both, AllBear, Reached, root, child, Used, Useful, KeptStep, Trimmed}
+use Rattle.sdtd.specs.Trim.{RootBears, All, none, both, AllBear, Reached, root, child, Used, Useful, KeptStep, Trimmed}
 use Rattle.sdtd.proofs.Automata.{all-append, all-mem, all-head, all-tail}
 use Rattle.sdtd.proofs.Bearing.{tree-bears, forest-bears}
 
 -- the root type bears a tree exactly when some document is valid
-pub root-bears : {S : Schema} → Bears S (S .root) ↔ SomeValid S
+pub root-bears : {S : Schema} → RootBears S ↔ SomeValid S
 root-bears {S} = (there, back)
   where
-    there : Bears S (S .root) → SomeValid S
+    there : RootBears S → SomeValid S
     there b =
         let tree = relabel (tagOf S) (b .tree) in
         record {
@@ -28,7 +28,7 @@ root-bears {S} = (there, back)
           };
         }
 
-    back : SomeValid S → Bears S (S .root)
+    back : SomeValid S → RootBears S
     back s =
         let t = s .valid .typing in
         record { tree = t .typed; at-root = t .is-typing .root; derived = t .is-typing .derived }
@@ -83,7 +83,7 @@ module _ {S S′ : Schema} (trimmed : Trimmed S S′) where
       → Useful S a → Leads (blockOf S a) p w r → List·Memᴰ r (blockOf S a .accepting) → AllBear S w → Leads (blockOf S′ a) p w r
   keep-leads u stay accepting bear = stay
   keep-leads {a} {p} {r} u (go {j = j} {q = q} {w = w} s l) accepting bear =
-      let kept : KeptStep S a (record { from = p; by = j; to = q }) = record {
+      let kept : KeptStep S a (step p j q) = record {
         given = s;
         useful = u;
         by-bearing = all-head bear;
@@ -129,17 +129,20 @@ module _ {S S′ : Schema} (trimmed : Trimmed S S′) where
   same-tags : (t : Tree) → relabel (tagOf S′) t ≡ relabel (tagOf S) t
   same-tags t = ap (λ (tag : ℕ → ℕ). relabel tag t) (fun-ext (trimmed .own-tags))
 
+  same-roots : (a : ℕ) → IsRoot S a ↔ IsRoot S′ a
+  same-roots a = (λ r. r ∙ sym (trimmed .root), λ r. r ∙ trimmed .root)
+
   -- trimming leaves exactly the same typings of exactly the same trees
   pub trimmed-same : (tree typed : Tree) → IsTyping S tree typed ↔ IsTyping S′ tree typed
   trimmed-same tree typed = (
     λ t. record {
       own-tags = same-tags typed ∙ t .own-tags;
-      root = t .root ∙ sym (trimmed .root);
+      root = same-roots (label typed) .0 (t .root);
       derived = keep-tree typed (root (t .root)) (t .derived);
     },
     λ t. record {
       own-tags = sym (same-tags typed) ∙ t .own-tags;
-      root = t .root ∙ trimmed .root;
+      root = same-roots (label typed) .1 (t .root);
       derived = given-tree typed (t .derived);
     },
   )

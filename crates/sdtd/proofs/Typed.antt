@@ -4,7 +4,7 @@ use mathlib.Core.List.{List, [], _∷_, _++_, map, cons≢nil, head-eq-of-cons-e
 use Prim.Native.Nat.{ℕ}
 use lib.ListN.{length}
 use Rattle.sdtd.specs.Schema.{Schema, tagOf}
-use Rattle.sdtd.specs.Tree.{Tree, relabel}
+use Rattle.sdtd.specs.Tree.{relabel}
 use Rattle.sdtd.specs.Document.{Event, document, openings, Valid, typesOf}
 use Rattle.sdtd.proofs.Trees.{relabelEvent, relabel-document, openings-relabel, opened, opened-document, length-opened}
 use Rattle.sdtd.proofs.Machine.{Run, start, document-run, run-document}

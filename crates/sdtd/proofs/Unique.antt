@@ -1,8 +1,7 @@
 -- With no competition a type once given stands: valid documents that share a beginning give its openings the same types, and a valid tree
 -- has one typing.
-use mathlib.Core.Path.{_≡_, refl, sym, ap, subst, _∙_}
-use mathlib.Core.List.{List, [], _∷_, _++_, append-nil}
-use Prim.Native.Nat.{ℕ}
+use mathlib.Core.Path.{_≡_, refl, sym, _∙_}
+use mathlib.Core.List.{List, [], _++_, append-nil}
 use lib.ListN.{take}
 use lib.Seq.{take-at}
 use Rattle.sdtd.specs.Schema.{Schema}
@@ -10,7 +9,7 @@ use Rattle.sdtd.specs.Tree.{Tree, Typing}
 use Rattle.sdtd.specs.Document.{Event, document, openings, Valid, typesOf, BeginningOf}
 use Rattle.sdtd.specs.Competition.{Competition}
 use Rattle.sdtd.proofs.Trees.{opened, stream-injective}
-use Rattle.sdtd.proofs.Machine.{Frame, Moves, Run, halt, move, ended}
+use Rattle.sdtd.proofs.Machine.{Frame, Run, halt, move, no-move, ended}
 use Rattle.sdtd.proofs.Typed.{valid-run, typedEvents}
 use Rattle.sdtd.proofs.Position.{Position, position, onward-only, onward-types, place-of}
 
@@ -31,13 +30,9 @@ module _ {S : Schema} (free : ¬ Competition S) where
   end-of : {d : List Event} (v : Valid S d) → Position S d []
   end-of v = record { events = typedEvents v; run = valid-run v .run; tags = valid-run v .tags; suspended = ended }
 
-  -- after the end nothing is read
   nothing-left : {τ : List Event} {fs : List Frame} → Run S [] τ fs → τ ≡ []
   nothing-left halt = refl
   nothing-left (move m r) = absurd (no-move m)
-    where
-      no-move : {x : Event} {gs : List Frame} → Moves S [] x gs → ⊥
-      no-move k = elim k [ ]
 
   same-events : {d : List Event} (v₁ v₂ : Valid S d) → typedEvents v₂ ≡ typedEvents v₁
   unfolding end-of

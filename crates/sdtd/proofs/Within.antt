@@ -1,14 +1,13 @@
 -- The limits as a check that antt computes; and what follows from them.
-use mathlib.Core.Path.{refl}
 use mathlib.Core.Bool.{Bool, _&&_}
-use mathlib.Core.List.{List, [], _∷_, List·Memᴰ, List·Memᴰ·head, List·Memᴰ·tail}
-use Prim.Native.Nat.{ℕ, zero, suc, _<_}
-use native.Mathlib.Omega.{arith}
+use mathlib.Core.List.{List, List·Memᴰ}
+use Prim.Native.Nat.{ℕ, _<_}
 use lib.Dec.{leb, ltb}
-use lib.ListN.{length, getD}
+use lib.ListN.{length}
 use Rattle.sdtd.specs.Limits.{mostTags, mostTypes, mostStates, mostSteps}
 use Rattle.sdtd.specs.Schema.{Step, Block, Schema, noBlock, blockOf, Leads, stay, go, stepsIn, StepWithin, BlockWithin, WithinLimits}
 use Rattle.sdtd.specs.Trim.{Bears, Live}
+use Rattle.sdtd.proofs.Basics.{getD-member}
 use Rattle.sdtd.proofs.Tests.{Means, means-iff, and-means, lt-means, le-means, every, every-means}
 use Rattle.sdtd.proofs.Bearing.{bears-word}
 use Rattle.sdtd.proofs.Questions.{TagsBelow, block-in}
@@ -16,8 +15,8 @@ use Rattle.sdtd.proofs.Questions.{TagsBelow, block-in}
 abbrev stepCheck : ℕ → ℕ → Step → Bool
 stepCheck states types s = ltb (s .from) states && ltb (s .by) types && ltb (s .to) states
 
-step-means : (states types : ℕ) (s : Step) → Means (stepCheck states types s) (StepWithin states types s)
-step-means states types s =
+step-within-means : (states types : ℕ) (s : Step) → Means (stepCheck states types s) (StepWithin states types s)
+step-within-means states types s =
     means-iff (and-means (and-means (lt-means (s .from) states) (lt-means (s .by) types)) (lt-means (s .to) states))
     (λ w. ((w .from, w .by), w .to), λ p. record { from = p .0 .0; by = p .0 .1; to = p .1 })
 
@@ -26,11 +25,11 @@ blockCheck S b =
     ltb (b .tag) (S .tags) && leb 1 (b .states) && leb (b .states) mostStates && every (λ q. ltb q (b .states)) (b .accepting)
     && every (stepCheck (b .states) (length (S .blocks))) (b .steps)
 
-block-means : (S : Schema) (b : Block) → Means (blockCheck S b) (BlockWithin S b)
-block-means S b =
+block-within-means : (S : Schema) (b : Block) → Means (blockCheck S b) (BlockWithin S b)
+block-within-means S b =
     let counts = and-means (and-means (lt-means (b .tag) (S .tags)) (le-means 1 (b .states))) (le-means (b .states) mostStates) in
     let states = and-means counts (every-means (λ q. lt-means q (b .states)) (b .accepting)) in
-    means-iff (and-means states (every-means (step-means (b .states) (length (S .blocks))) (b .steps))) (
+    means-iff (and-means states (every-means (step-within-means (b .states) (length (S .blocks))) (b .steps))) (
       λ w. ((((w .tag, w .states-least), w .states-most), w .accepting), w .steps),
       λ p.
           record {
@@ -54,7 +53,7 @@ limits-means S =
     let tags = and-means (le-means 1 (S .tags)) (le-means (S .tags) mostTags) in
     let types = and-means (and-means tags (le-means 1 n)) (le-means n mostTypes) in
     let counts = and-means (and-means types (le-means (stepsIn (S .blocks)) mostSteps)) (lt-means (S .root) n) in
-    means-iff (and-means counts (every-means (block-means S) (S .blocks))) (
+    means-iff (and-means counts (every-means (block-within-means S) (S .blocks))) (
       λ w. ((((((w .tags-least, w .tags-most), w .types-least), w .types-most), w .steps-most), w .root), w .blocks),
       λ p.
           record {
@@ -73,13 +72,8 @@ pub within-tags : {S : Schema} → WithinLimits S → TagsBelow S
 within-tags w b m = w .blocks b m .tag
 
 -- .. and each type's block is inside the limits
-in-blocks : (bs : List Block) (a : ℕ) → a < length bs → List·Memᴰ (getD bs a noBlock) bs
-in-blocks [] a l = absurd (omega arith)
-in-blocks (b ∷ bs) zero l = List·Memᴰ·head refl
-in-blocks (b ∷ bs) (suc a) l = List·Memᴰ·tail (in-blocks bs a (omega arith))
-
 pub block-within : {S : Schema} {a : ℕ} → WithinLimits S → a < length (S .blocks) → BlockWithin S (blockOf S a)
-block-within {S} {a} w l = w .blocks (blockOf S a) (in-blocks (S .blocks) a l)
+block-within {S} {a} w l = w .blocks (blockOf S a) (getD-member (S .blocks) a noBlock l)
 
 -- inside the limits a tree-bearing type is below the number of types, and its block is inside the limits
 pub bears-within : {S : Schema} {a : ℕ} → WithinLimits S → Bears S a → (a < length (S .blocks)) × BlockWithin S (blockOf S a)

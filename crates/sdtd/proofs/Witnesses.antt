@@ -1,4 +1,4 @@
--- Where there is competition, there is a witness: a word of at most 527 types in the smallest type in which two compete.
+-- Where there is competition, there is a witness: a word of at most `mostWord` types in the smallest type in which two compete.
 use mathlib.Core.Path.{refl}
 use mathlib.Core.List.{List}
 use Prim.Native.Nat.{ℕ}

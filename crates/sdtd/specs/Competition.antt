@@ -5,7 +5,7 @@ use Prim.Native.Nat.{ℕ, _+_, _*_, _/_, _%_, _≤_, _<_, min, max}
 use lib.ListN.{length}
 use Rattle.sdtd.specs.Limits.{mostWord}
 use Rattle.sdtd.specs.Schema.{Schema, blockOf, tagOf, Word, WithinLimits}
-use Rattle.sdtd.specs.Trim.{Bears, AllBear, Reached}
+use Rattle.sdtd.specs.Trim.{Bears, RootBears, AllBear, Reached}
 
 -- A word of a's automaton over tree-bearing types that begins with w and then j; the rest may be empty.
 pub record GoesOn (S : Schema) (a : ℕ) (w : List ℕ) (j : ℕ) : Type 0 where
@@ -59,5 +59,5 @@ pub record Witness (S : Schema) (bytes : List ℕ) : Type 0 where
 -- type bear a tree?" "Is there no competition?"
 pub record Accepted (S : Schema) : Type 0 where
   pub within : WithinLimits S
-  pub bears : Bears S (S .root)
+  pub bears : RootBears S
   pub no-competition : ¬ Competition S

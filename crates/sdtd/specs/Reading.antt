@@ -7,7 +7,7 @@ use lib.ListN.{length, getD}
 use Rattle.sdtd.specs.Limits.{mostLevels}
 use Rattle.sdtd.specs.Schema.{Schema, blockOf, Word}
 use Rattle.sdtd.specs.Document.{Event, opening, closing, finish, openings, Valid, typeAt, BeginningOf, Begins, EveryTypingGives}
-use Rattle.sdtd.specs.Answer.{Question, Answer, typed, taken, ask, Ordered}
+use Rattle.sdtd.specs.Answer.{Question, Answer, refused, typed, taken, ask, Ordered}
 
 -- An element that is open after some events: its tag, its place, which is the number of openings before its own, and the places of its
 -- children so far, in order.
@@ -15,6 +15,10 @@ pub record OpenElement : Type 0 where
   pub tag : ℕ
   pub place : ℕ
   pub children : List ℕ
+
+-- an element of the tag g, just opened at the place n
+abbrev pub newElement : ℕ → ℕ → OpenElement
+newElement g n = record { tag = g; place = n; children = [] }
 
 -- the innermost of the open elements has one child more, at the place n
 abbrev pub withChild : ℕ → List OpenElement → List OpenElement
@@ -24,7 +28,7 @@ withChild n (x ∷ xs) = record { tag = x .tag; place = x .place; children = x .
 -- the elements that are open, innermost first, after n openings, the open elements xs and then the events
 abbrev pub openAfter : ℕ → List OpenElement → List Event → List OpenElement
 openAfter n xs [] = xs
-openAfter n xs (opening g ∷ e) = openAfter (suc n) (record { tag = g; place = n; children = [] } ∷ withChild n xs) e
+openAfter n xs (opening g ∷ e) = openAfter (suc n) (newElement g n ∷ withChild n xs) e
 openAfter n xs (closing g ∷ e) = openAfter n (tail xs) e
 openAfter n xs (finish ∷ e) = openAfter n xs e
 
@@ -36,9 +40,13 @@ openElements e = openAfter 0 [] e
 abbrev pub depth : List Event → ℕ
 depth e = length (openElements e)
 
+-- what stands for the innermost open element where none is open
+abbrev pub noElement : OpenElement
+noElement = record { tag = 0; place = 0; children = [] }
+
 -- the innermost open element; it is asked for only where one is open
 abbrev pub innermost : List Event → OpenElement
-innermost e = getD (openElements e) 0 (record { tag = 0; place = 0; children = [] })
+innermost e = getD (openElements e) 0 noElement
 
 -- 11: "is the document not yet finished?"
 abbrev pub NotFinished : List Event → Type 0
@@ -59,10 +67,17 @@ pub record RootClosed (e : List Event) : Type 0 where
 -- The questions for the call x after the events e, in order.
 abbrev pub questions : Schema → List Event → Event → List (Question Answer)
 questions S e (opening g) =
-    ask 11 (NotFinished e) ∷ ask 12 (g < S .tags) ∷ ask 13 (Begins S (e ++ (opening g ∷ []))) ∷ ask 14 (depth e < mostLevels) ∷ []
+    ask (refused 11) (NotFinished e)
+    ∷ ask (refused 12) (g < S .tags)
+    ∷ ask (refused 13) (Begins S (e ++ (opening g ∷ [])))
+    ∷ ask (refused 14) (depth e < mostLevels) ∷ []
 questions S e (closing g) =
-    ask 11 (NotFinished e) ∷ ask 12 (g < S .tags) ∷ ask 15 (0 < depth e) ∷ ask 16 (innermost e .tag ≡ g) ∷ ask 17 (ChildrenFormWord S e) ∷ []
-questions S e finish = ask 11 (NotFinished e) ∷ ask 18 (RootClosed e) ∷ []
+    ask (refused 11) (NotFinished e)
+    ∷ ask (refused 12) (g < S .tags)
+    ∷ ask (refused 15) (0 < depth e)
+    ∷ ask (refused 16) (innermost e .tag ≡ g)
+    ∷ ask (refused 17) (ChildrenFormWord S e) ∷ []
+questions S e finish = ask (refused 11) (NotFinished e) ∷ ask (refused 18) (RootClosed e) ∷ []
 
 -- An opening of g after e is answered the type that every typing of every valid document with that beginning gives there.
 pub record TypeAnswered (S : Schema) (e : List Event) (g : ℕ) (a : Answer) : Type 0 where

@@ -3,9 +3,9 @@ use mathlib.Core.List.{List, [], _∷_, _++_}
 use Prim.Native.Nat.{ℕ}
 use lib.ListN.{replicate}
 use Rattle.sdtd.specs.Limits.{mostLevels}
-use Rattle.sdtd.specs.Schema.{Step, Block, Schema, WithinLimits}
+use Rattle.sdtd.specs.Schema.{Step, step, Block, Schema, WithinLimits}
 use Rattle.sdtd.specs.Document.{Event, opening, closing, finish}
-use Rattle.sdtd.specs.Trim.{Bears}
+use Rattle.sdtd.specs.Trim.{RootBears}
 use Rattle.sdtd.specs.Competition.{Witness, Accepted}
 use Rattle.sdtd.specs.Answer.{Answer, refused, typed, taken}
 use Rattle.sdtd.specs.Calls.{Exchange, RightCalls}
@@ -20,8 +20,8 @@ pub data Sample : Type 0 where
 -- accepted; 8; 9 with the witness; accepted, and the calls of the list, from a fresh reading, get these answers
 abbrev pub Holds : Sample → Type 0
 Holds (accepts S) = Accepted S
-Holds (refuses-8 S) = WithinLimits S × (¬ Bears S (S .root))
-Holds (refuses-9 S bytes) = WithinLimits S × Bears S (S .root) × Witness S bytes
+Holds (refuses-8 S) = WithinLimits S × (¬ RootBears S)
+Holds (refuses-9 S bytes) = WithinLimits S × RootBears S × Witness S bytes
 Holds (answers S xs) = Accepted S × RightCalls S xs
 
 -- every sample of the list holds
@@ -29,13 +29,17 @@ abbrev pub HoldAll : List Sample → Type 0
 HoldAll [] = Unit
 HoldAll (s ∷ ss) = Holds s × HoldAll ss
 
--- a step as document 01 writes it, from-type-to
-abbrev step : ℕ → ℕ → ℕ → Step
-step p j q = record { from = p; by = j; to = q }
+-- a type: its tag, the number of its states, the accepting ones, and its steps, as document 01 writes them, from-type-to
+abbrev block : ℕ → ℕ → List ℕ → List Step → Block
+block g n accepting steps = record { tag = g; states = n; accepting = accepting; steps = steps }
 
 -- a type whose only word is the empty one
 abbrev leaf : ℕ → Block
-leaf g = record { tag = g; states = 1; accepting = 0 ∷ []; steps = [] }
+leaf g = block g 1 (0 ∷ []) []
+
+-- a schema: the number of its tags, and its types, the root's first
+abbrev schema : ℕ → List Block → Schema
+schema n blocks = record { tags = n; blocks = blocks; root = 0 }
 
 -- a call and its answer
 abbrev says : Event → Answer → Exchange
@@ -43,27 +47,17 @@ says x a = record { call = x; answer = a }
 
 -- "R above"
 abbrev pub schemaR : Schema
-schemaR =
-    record {
-      tags = 3;
-      blocks =
-          record { tag = 0; states = 2; accepting = 1 ∷ []; steps = step 0 1 0 ∷ step 0 2 1 ∷ step 1 3 1 ∷ [] }
-          ∷ leaf 1 ∷ leaf 2 ∷ leaf 1 ∷ [];
-      root = 0;
-    }
+schemaR = schema 3 (block 0 2 (1 ∷ []) (step 0 1 0 ∷ step 0 2 1 ∷ step 1 3 1 ∷ []) ∷ leaf 1 ∷ leaf 2 ∷ leaf 1 ∷ [])
 
 -- 000's schema a → b1 or b2, b1 → c, b2 → d, types numbered in the order a, b1, b2, c, d; the last block is d's
 abbrev choice : Block → Schema
 choice d =
-    record {
-      tags = 4;
-      blocks =
-          record { tag = 0; states = 2; accepting = 1 ∷ []; steps = step 0 1 1 ∷ step 0 2 1 ∷ [] }
-          ∷ record { tag = 1; states = 2; accepting = 1 ∷ []; steps = step 0 3 1 ∷ [] }
-          ∷ record { tag = 1; states = 2; accepting = 1 ∷ []; steps = step 0 4 1 ∷ [] }
-          ∷ leaf 2 ∷ d ∷ [];
-      root = 0;
-    }
+    schema 4
+    (block 0 2 (1 ∷ []) (step 0 1 1 ∷ step 0 2 1 ∷ [])
+    ∷ block 1 2 (1 ∷ []) (step 0 3 1 ∷ [])
+    ∷ block 1 2 (1 ∷ []) (step 0 4 1 ∷ [])
+    ∷ leaf 2 ∷ d ∷ []
+    )
 
 -- d with the empty word
 abbrev pub schemaChoice : Schema
@@ -71,75 +65,50 @@ schemaChoice = choice (leaf 3)
 
 -- "The same, d without an accepting state"
 abbrev pub schemaNoD : Schema
-schemaNoD = choice (record { tag = 3; states = 1; accepting = []; steps = [] })
+schemaNoD = choice (block 3 1 [] [])
 
 -- "Type 0: steps 0-1-1, 0-1-2, 1-2-3, 2-3-3 (from-type-to), accepting 3; types 2 and 3 of one tag, types 1 to 3 leaves"
 abbrev pub schemaTwoWays : Schema
 schemaTwoWays =
-    record {
-      tags = 3;
-      blocks =
-          record { tag = 0; states = 4; accepting = 3 ∷ []; steps = step 0 1 1 ∷ step 0 1 2 ∷ step 1 2 3 ∷ step 2 3 3 ∷ [] }
-          ∷ leaf 1 ∷ leaf 2 ∷ leaf 2 ∷ [];
-      root = 0;
-    }
+    schema 3 (block 0 4 (3 ∷ []) (step 0 1 1 ∷ step 0 1 2 ∷ step 1 2 3 ∷ step 2 3 3 ∷ []) ∷ leaf 1 ∷ leaf 2 ∷ leaf 2 ∷ [])
 
 -- "003's a1(a2 or b1)": types a1, a2, b1 after the root
 abbrev pub schemaTwoTypes : Schema
-schemaTwoTypes =
-    record {
-      tags = 3;
-      blocks =
-          record { tag = 0; states = 3; accepting = 2 ∷ []; steps = step 0 1 1 ∷ step 1 2 2 ∷ step 1 3 2 ∷ [] }
-          ∷ leaf 1 ∷ leaf 1 ∷ leaf 2 ∷ [];
-      root = 0;
-    }
+schemaTwoTypes = schema 3 (block 0 3 (2 ∷ []) (step 0 1 1 ∷ step 1 2 2 ∷ step 1 3 2 ∷ []) ∷ leaf 1 ∷ leaf 1 ∷ leaf 2 ∷ [])
 
 -- "003's (a or b)* a (a or b), one type a tag": types a, b after the root
 abbrev pub schemaLastButOne : Schema
 schemaLastButOne =
-    record {
-      tags = 3;
-      blocks =
-          record {
-            tag = 0;
-            states = 3;
-            accepting = 2 ∷ [];
-            steps = step 0 1 0 ∷ step 0 2 0 ∷ step 0 1 1 ∷ step 1 1 2 ∷ step 1 2 2 ∷ [];
-          }
-          ∷ leaf 1 ∷ leaf 2 ∷ [];
-      root = 0;
-    }
+    schema 3 (block 0 3 (2 ∷ []) (step 0 1 0 ∷ step 0 2 0 ∷ step 0 1 1 ∷ step 1 1 2 ∷ step 1 2 2 ∷ []) ∷ leaf 1 ∷ leaf 2 ∷ [])
 
 -- "003's a1? b1 (b1 or c1)* a2 c1": types a1, b1, c1, a2 after the root
 abbrev pub schemaOptional : Schema
 schemaOptional =
-    record {
-      tags = 4;
-      blocks =
-          record {
-            tag = 0;
-            states = 5;
-            accepting = 4 ∷ [];
-            steps = step 0 1 1 ∷ step 0 2 2 ∷ step 1 2 2 ∷ step 2 2 2 ∷ step 2 3 2 ∷ step 2 4 3 ∷ step 3 3 4 ∷ [];
-          }
-          ∷ leaf 1 ∷ leaf 2 ∷ leaf 3 ∷ leaf 1 ∷ [];
-      root = 0;
-    }
+    schema 4
+    (block 0 5 (4 ∷ [])
+    (step 0 1 1 ∷ step 0 2 2 ∷ step 1 2 2 ∷ step 2 2 2 ∷ step 2 3 2 ∷ step 2 4 3 ∷ step 3 3 4 ∷ [])
+    ∷ leaf 1 ∷ leaf 2 ∷ leaf 3 ∷ leaf 1 ∷ []
+    )
 
 -- "Type 0 with step 0-0-1, accepting 1"
 abbrev pub schemaEndless : Schema
-schemaEndless =
-    record { tags = 1; blocks = record { tag = 0; states = 2; accepting = 1 ∷ []; steps = step 0 0 1 ∷ [] } ∷ []; root = 0 }
+schemaEndless = schema 1 (block 0 2 (1 ∷ []) (step 0 0 1 ∷ []) ∷ [])
 
 -- "Type 0 with step 0-0-0, accepting 0"
 abbrev pub schemaNested : Schema
-schemaNested =
-    record { tags = 1; blocks = record { tag = 0; states = 1; accepting = 0 ∷ []; steps = step 0 0 0 ∷ [] } ∷ []; root = 0 }
+schemaNested = schema 1 (block 0 1 (0 ∷ []) (step 0 0 0 ∷ []) ∷ [])
 
 -- "64 openings taken, the next 14": not starred, stated beside the group for the number of levels
 abbrev pub nested : Sample
 nested = answers schemaNested (replicate mostLevels (says (opening 0) (typed 0)) ++ (says (opening 0) (refused 14) ∷ []))
+
+-- "witness `00 01 02 00 00`"
+abbrev pub witnessChoice : List ℕ
+witnessChoice = 0x00 ∷ 0x01 ∷ 0x02 ∷ 0x00 ∷ 0x00 ∷ []
+
+-- "witness `00 02 03 01 00 01`"
+abbrev pub witnessTwoWays : List ℕ
+witnessTwoWays = 0x00 ∷ 0x02 ∷ 0x03 ∷ 0x01 ∷ 0x00 ∷ 0x01 ∷ []
 
 -- The starred samples, in document 01's order. Where a sample names elements a, b, c their tags are 1, 2, 3; the root's is 0.
 abbrev pub starred : List Sample
@@ -157,12 +126,12 @@ starred =
     -- "R, a second opening of tag 2: 13"
     ∷ answers schemaR
     (says (opening 0) (typed 0) ∷ says (opening 2) (typed 2) ∷ says (closing 2) taken ∷ says (opening 2) (refused 13) ∷ [])
-    -- "9, witness 00 01 02 00 00"
-    ∷ refuses-9 schemaChoice (0 ∷ 1 ∷ 2 ∷ 0 ∷ 0 ∷ [])
+    -- "9"
+    ∷ refuses-9 schemaChoice witnessChoice
     -- "The same, d without an accepting state: accepted."
     ∷ accepts schemaNoD
-    -- "9, witness 00 02 03 01 00 01"
-    ∷ refuses-9 schemaTwoWays (0 ∷ 2 ∷ 3 ∷ 1 ∷ 0 ∷ 1 ∷ [])
+    -- "9"
+    ∷ refuses-9 schemaTwoWays witnessTwoWays
     -- "003's a1(a2 or b1): accepted."
     ∷ accepts schemaTwoTypes
     -- "accepted; one child a, then closing: 17"

@@ -10,6 +10,10 @@ pub record Step : Type 0 where
   pub by : ℕ
   pub to : ℕ
 
+-- the step from the state p by the type j to the state q
+abbrev pub step : ℕ → ℕ → ℕ → Step
+step p j q = record { from = p; by = j; to = q }
+
 -- "Each type has one tag and one content automaton: 1 to 32 states, start state 0, some accepting states, steps".
 -- The list of steps may hold several from one state that carry one type.
 pub record Block : Type 0 where
@@ -40,7 +44,7 @@ tagOf S a = (blockOf S a) .tag
 -- The types of the list lead, step by step, from the state p to the state q: a run of the automaton.
 pub data Leads (b : Block) : ℕ → List ℕ → ℕ → Type 0 where
   stay : {p : ℕ} → Leads b p [] p
-  go : {p j q r : ℕ} {w : List ℕ} → List·Memᴰ (record { from = p; by = j; to = q }) (b .steps) → Leads b q w r → Leads b p (j ∷ w) r
+  go : {p j q r : ℕ} {w : List ℕ} → List·Memᴰ (step p j q) (b .steps) → Leads b q w r → Leads b p (j ∷ w) r
 
 -- The types of w lead from the state p to an accepting state.
 pub record Accepts (b : Block) (p : ℕ) (w : List ℕ) : Type 0 where

@@ -15,6 +15,10 @@ pub record Bears (S : Schema) (a : ℕ) : Type 0 where
   pub at-root : label tree ≡ a
   pub derived : Derived S tree
 
+-- "Does the root type bear a tree?"
+abbrev pub RootBears : Schema → Type 0
+RootBears S = Bears S (S .root)
+
 -- every number of the list has the property
 pub data All (P : ℕ → Type 0) : List ℕ → Type 0 where
   none : All P []

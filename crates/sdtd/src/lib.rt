@@ -1,4 +1,4 @@
-// Tags and types are numbered separately; neither number stands for the other.
+// Tags and types, numbered separately so that neither number stands for the other; and number and place, or fine.
 ghost use mathlib.Core.Path.{_≡_};
 ghost use lib.Dec.{eqb, ltb};
 
@@ -31,4 +31,10 @@ impl TypeNo {
     {
         self.0 < other.0
     }
+}
+
+// A refusal's number and place, or that there is none.
+pub enum Verdict {
+    Fine,
+    RefusedAt(u8, usize),
 }

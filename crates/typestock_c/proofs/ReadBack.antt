@@ -1,18 +1,15 @@
 -- The answer is read back from its numbers: a schema file's is 0 to 9, and no refusal has the number 0, so 0 is accepted alone.
 use mathlib.Core.Path.{_≡_, refl, sym, ap, subst, _∙_}
-use mathlib.Core.Bool.{Bool, true, false, cond}
 use mathlib.Core.Logic.{_⊎_, inl, inr, ⊎-elim}
 use mathlib.Core.List.{List}
-use Prim.Native.Nat.{ℕ, zero, suc, _+_, _≤_}
+use Prim.Native.Nat.{ℕ, _≤_}
 use native.Mathlib.Omega.{arith}
-use lib.Dec.{eqb, leb, eqb·suc-zero}
-use lib.ListN.{length}
-use Rattle.commands.specs.Command.{commandAt, size}
-use Rattle.commands.specs.File.{Stated, Commands, stopped, states, ended, nothingStated, failed, after, commandsFrom, commands}
-use Rattle.commands.proofs.Passing.{stopped-most}
+use Rattle.commands.specs.File.{Commands, stopped, states, commands}
+use Rattle.commands.proofs.Passing.{stopped-least, stopped-most}
+use Rattle.sdtd.proofs.Verdicts.{verdictNumber, refused-not-fine}
 use Rattle.schema_file.specs.Answer.{AnswerBy, AnswerIs}
-use Rattle.schema_file.specs.declared.file.FileAnswer.{FileAnswer}
-use Rattle.schema_file.specs.declared.file.FileAnswer.the-variants.{Accepted, Refused}
+use Rattle.sdtd.specs.declared.Verdict.{Verdict}
+use Rattle.sdtd.specs.declared.Verdict.the-variants.{Fine, RefusedAt}
 use Rattle.reading.specs.declared.event_file.EventFile.{EventFile}
 use Rattle.typing.specs.declared.job.Job.the-variants.{EventsRead}
 use Rattle.typestock_c.specs.Numbers.{schemaNumbers, documentNumbers}
@@ -20,78 +17,52 @@ use Rattle.typestock_c.specs.Exports.{SchemaMeans, DocumentMeans}
 use Rattle.typestock_c.specs.declared.TypestockSchema.{TypestockSchema}
 use Rattle.typestock_c.specs.declared.TypestockDocument.{TypestockDocument}
 
--- the commands are not refused, or with a number above 0
-abbrev Above : Commands → Type 0
-Above (stopped n p) = 1 ≤ n
-Above (states g) = Unit
+-- one of 1 to 9
+record InRange (n : ℕ) : Type 0 where
+  above : 1 ≤ n
+  most : n ≤ 9
 
-by-test : (b : Bool) (x y : Commands) → Above x → Above y → Above (cond b x y)
-by-test true x y p q = p
-by-test false x y p q = q
+-- accepted, or refused with one of 1 to 9
+abbrev Known : Verdict → Type 0
+Known a = (a ≡ Fine) ⊎ InRange (verdictNumber a)
 
-by-number : (n i : ℕ) (x : Commands) → Above x → Above (cond (eqb n 0) x (stopped n i))
-by-number zero i x p = p
-by-number (suc n) i x p = rw (eqb·suc-zero n) (omega arith)
+numbered : {a : Verdict} {n p : ℕ} → a ≡ RefusedAt n p → 1 ≤ n → n ≤ 9 → InRange (verdictNumber a)
+numbered e l m = record { above = omega (arith, ap verdictNumber e); most = omega (arith, ap verdictNumber e) }
 
-above-from : (fuel : ℕ) (file : List ℕ) (i : ℕ) (g : Stated) → Above (commandsFrom fuel file i g)
-unfolding commandsFrom
-above-from zero file i g = omega arith
-above-from (suc fuel) file i g =
-    let c = commandAt file i in
-    by-test (eqb (g .phase) ended) _ _ (by-test (leb (length file) i) _ _ tt (omega arith))
-    (by-number (failed g c) i _ (above-from fuel file (i + size c) (after g i c)))
+-- a command is refused with 2 to 6, and after them come 7 to 9
+known-by : (file : List ℕ) (k : Commands) (a : Verdict) → commands file ≡ k → AnswerBy k a → Known a
+known-by file (stopped n p) a e r =
+    inr (numbered r (omega (arith, stopped-least file e)) (omega (arith, stopped-most file e)))
+known-by file (states g) a e (inl o) = inr (numbered (o .1) (omega arith) (omega arith))
+known-by file (states g) a e (inr (k, inl o)) = inr (numbered (o .1) (omega arith) (omega arith))
+known-by file (states g) a e (inr (k, inr (b, inl o))) = inr (numbered (o .1) (omega arith) (omega arith))
+known-by file (states g) a e (inr (k, inr (b, inr (n, o)))) = inl o
 
-above : (file : List ℕ) → Above (commands file)
-unfolding commands
-above file = above-from (suc (length file)) file 0 nothingStated
+known : (file was : List ℕ) (a : Verdict) → AnswerIs file was a → Known a
+known file was a (inl o) = inr (numbered (o .1) (omega arith) (omega arith))
+known file was a (inr o) = known-by file (commands file) a refl (o .1)
 
--- a refusal's number, and 1 for accepted, which has none
-abbrev number : FileAnswer → ℕ
-number Accepted = 1
-number (Refused n p) = n
-
-above-by : (k : Commands) (a : FileAnswer) → Above k → AnswerBy k a → 1 ≤ number a
-above-by (stopped n p) a q r = omega (arith, ap number r)
-above-by (states g) a q (inl o) = omega (arith, ap number (o .1))
-above-by (states g) a q (inr (k, inl o)) = omega (arith, ap number (o .1))
-above-by (states g) a q (inr (k, inr (b, inl o))) = omega (arith, ap number (o .1))
-above-by (states g) a q (inr (k, inr (b, inr (n, o)))) = omega (arith, ap number o)
-
-pub refused-above : (file was : List ℕ) (a : FileAnswer) → AnswerIs file was a → 1 ≤ number a
-refused-above file was a (inl o) = omega (arith, ap number (o .1))
-refused-above file was a (inr o) = above-by (commands file) a (above file) (o .1)
-
--- a command is refused with at most 6
-most-by : (file : List ℕ) (k : Commands) (a : FileAnswer) → commands file ≡ k → AnswerBy k a → number a ≤ 9
-most-by file (stopped n p) a e r = omega (arith, ap number r, stopped-most file e)
-most-by file (states g) a e (inl o) = omega (arith, ap number (o .1))
-most-by file (states g) a e (inr (k, inl o)) = omega (arith, ap number (o .1))
-most-by file (states g) a e (inr (k, inr (b, inl o))) = omega (arith, ap number (o .1))
-most-by file (states g) a e (inr (k, inr (b, inr (n, o)))) = omega (arith, ap number o)
-
-pub refused-most : (file was : List ℕ) (a : FileAnswer) → AnswerIs file was a → number a ≤ 9
-refused-most file was a (inl o) = omega (arith, ap number (o .1))
-refused-most file was a (inr o) = most-by file (commands file) a refl (o .1)
-
-numbers-most : (a : FileAnswer) → number a ≤ 9 → schemaNumbers a .number ≤ 9
-numbers-most Accepted q = omega arith
-numbers-most (Refused n p) q = q
+numbers-most : (a : Verdict) → Known a → schemaNumbers a .number ≤ 9
+numbers-most Fine k = omega arith
+numbers-most (RefusedAt n p) (inl f) = refused-not-fine refl f
+numbers-most (RefusedAt n p) (inr r) = r .most
 
 -- A schema's number is 0 to 9.
 pub schema-range : {file was is : List ℕ} {r : TypestockSchema} → SchemaMeans file was is r → r .number ≤ 9
 schema-range {file} {was} m =
     subst (λ (x : TypestockSchema). x .number ≤ 9) (sym (m .numbers))
-    (numbers-most (m .read .answer) (refused-most file was (m .read .answer) (m .means .answer)))
+    (numbers-most (m .read .answer) (known file was (m .read .answer) (m .means .answer)))
 
-accepted-by : (a : FileAnswer) → 1 ≤ number a → schemaNumbers a .number ≡ 0 → a ≡ Accepted
-accepted-by Accepted q z = refl
-accepted-by (Refused n p) q z = absurd (omega arith)
+accepted-by : (a : Verdict) → Known a → schemaNumbers a .number ≡ 0 → a ≡ Fine
+accepted-by a (inl f) z = f
+accepted-by Fine (inr r) z = refl
+accepted-by (RefusedAt n p) (inr r) z = absurd (omega (arith, r .above))
 
 -- A schema that is answered 0 is accepted.
 pub zero-accepted : {file was is : List ℕ} {r : TypestockSchema} (m : SchemaMeans file was is r) → r .number ≡ 0
-    → m .read .answer ≡ Accepted
+    → m .read .answer ≡ Fine
 zero-accepted {file} {was} m z =
-    accepted-by (m .read .answer) (refused-above file was (m .read .answer) (m .means .answer))
+    accepted-by (m .read .answer) (known file was (m .read .answer) (m .means .answer))
     (sym (ap (λ (x : TypestockSchema). x .number) (m .numbers)) ∙ z)
 
 -- A job's numbers where its schema is refused: the schema's 1 to 9 and its place, twice, and no opening.
@@ -104,16 +75,21 @@ pub record RefusedNumbers (r : TypestockDocument) : Type 0 where
 
 -- A job read its events, or has those numbers.
 read-or-refused : {schema events wasWitness isWitness wasTypes isTypes : List ℕ} {r : TypestockDocument}
-    (m : DocumentMeans schema events wasWitness isWitness wasTypes isTypes r) (a : FileAnswer) → m .means .file .answer ≡ a
+    (m : DocumentMeans schema events wasWitness isWitness wasTypes isTypes r) (a : Verdict) → m .means .file .answer ≡ a
     → ((e : EventFile) × (m .job ≡ EventsRead e)) ⊎ RefusedNumbers r
-read-or-refused m Accepted q = let (e, s, h) = m .means .accepted q in inl (e, s)
-read-or-refused {schema} {wasWitness = wasWitness} m (Refused n p) q =
-    let a = m .means .file .answer in
-    let low = refused-above schema wasWitness a (m .means .schema-file .answer) in
-    let high = refused-most schema wasWitness a (m .means .schema-file .answer) in
-    let w = ap number q in
+read-or-refused m Fine q = let (e, s, h) = m .means .accepted q in inl (e, s)
+read-or-refused {schema} {wasWitness = wasWitness} m (RefusedAt n p) q =
     inr (subst RefusedNumbers (sym (m .numbers ∙ ap documentNumbers (m .means .refused n p q .0)))
-    (record { above = omega arith; most = omega arith; same-number = refl; same-place = refl; no-opening = refl }))
+    (⊎-elim (refused-not-fine q)
+    (λ r.
+    record {
+      above = omega (arith, r .above, ap verdictNumber q);
+      most = omega (arith, r .most, ap verdictNumber q);
+      same-number = refl;
+      same-place = refl;
+      no-opening = refl;
+    })
+    (known schema wasWitness (m .means .file .answer) (m .means .schema-file .answer))))
 
 module _ {schema events wasWitness isWitness wasTypes isTypes : List ℕ} {r : TypestockDocument}
     (m : DocumentMeans schema events wasWitness isWitness wasTypes isTypes r) where

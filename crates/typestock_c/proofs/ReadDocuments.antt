@@ -10,7 +10,8 @@ use Rattle.sdtd.specs.Document.{Event, openings, Valid, typesOf}
 use Rattle.sdtd.specs.Calls.{ValidWithin}
 use Rattle.sdtd.proofs.Typed.{openings-types}
 use Rattle.commands.specs.File.{StatesSchema}
-use Rattle.reading.specs.EventMeaning.{bytesOf}
+use Rattle.events.specs.Events.{bytesOf}
+use Rattle.reading.specs.EventFile.{numberOf, placeOf}
 use Rattle.reading.specs.declared.event_file.EventFile.{EventFile}
 use Rattle.typing.specs.Job.{JobMeans, JobMeets}
 use Rattle.typing.specs.declared.job.Job.the-variants.{EventsRead}
@@ -44,11 +45,13 @@ pub record TakenDocument (schemaFile events wasTypes isTypes : List ℕ) (r : Ty
 
 taken : {schema events wasTypes isTypes : List ℕ} {r : TypestockDocument} → ReadNumbers schema events wasTypes isTypes r → r .number ≡ 0
     → TakenDocument schema events wasTypes isTypes r
-taken {wasTypes = wasTypes} x z =
+taken {events = events} {wasTypes} x z =
     let j = x .meets in
-    let number : x .answer .number ≡ 0 = sym (ap (λ (n : TypestockDocument). n .number) (x .numbers)) ∙ z in
-    let (d, bytes, valid, room) = j .meets .taken-exactly .0 number in
-    let typed : (w : Valid (j .schema) d) → j .types ≡ typesOf w = λ w. j .meets .types number d bytes w in
+    let number : numberOf (j .verdict) ≡ 0 =
+    sym (j .told .number) ∙ sym (ap (λ (n : TypestockDocument). n .number) (x .numbers)) ∙ z in
+    let all-fine = j .meets .zero-taken number in
+    let (d, bytes, valid, room) = j .meets .taken-exactly .0 all-fine in
+    let typed : (w : Valid (j .schema) d) → j .types ≡ typesOf w = λ w. j .meets .types all-fine d bytes w in
     let v : Valid (j .schema) d = record { tree = valid .tree; is-document = valid .is-document; typing = valid .typing } in
     record {
       schema = j .schema;
@@ -56,9 +59,9 @@ taken {wasTypes = wasTypes} x z =
       document = d;
       bytes = bytes;
       valid = valid;
-      types = λ w. j .buffer ∙ ap (λ (ts : List ℕ). ts ++ drop (length ts) wasTypes) (typed w);
-      count = ap (λ (n : TypestockDocument). n .count) (x .numbers) ∙ j .count ∙ ap length (typed v) ∙ sym (openings-types v);
-      place = ap (λ (n : TypestockDocument). n .place) (x .numbers) ∙ j .meets .place number;
+      types = λ w. j .told .buffer ∙ ap (λ (ts : List ℕ). ts ++ drop (length ts) wasTypes) (typed w);
+      count = ap (λ (n : TypestockDocument). n .count) (x .numbers) ∙ j .told .count ∙ ap length (typed v) ∙ sym (openings-types v);
+      place = ap (λ (n : TypestockDocument). n .place) (x .numbers) ∙ j .told .place ∙ ap (placeOf (length events)) all-fine;
     }
 
 module _ {schema events wasWitness isWitness wasTypes isTypes : List ℕ} {r : TypestockDocument}

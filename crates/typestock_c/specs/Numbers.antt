@@ -1,21 +1,21 @@
 -- The answers as numbers: of each case of an answer, what each field of the exported struct is.
 use mathlib.Core.Bool.{true, false}
 use Prim.Native.Nat.{ℕ}
-use Rattle.schema_file.specs.declared.file.FileAnswer.{FileAnswer}
-use Rattle.schema_file.specs.declared.file.FileAnswer.the-variants.{Accepted, Refused}
+use Rattle.sdtd.specs.declared.Verdict.{Verdict}
+use Rattle.sdtd.specs.declared.Verdict.the-variants.{Fine, RefusedAt}
 use Rattle.typing.specs.declared.job.Job.{Job}
 use Rattle.typing.specs.declared.job.Job.the-variants.{SchemaRefused, EventsRead}
-use Rattle.typing.specs.declared.outline.Cursor.{Cursor}
-use Rattle.typing.specs.declared.outline.Found.{Found}
-use Rattle.typing.specs.declared.outline.Found.the-variants.{Opening, NoOpening}
+use Rattle.events.specs.declared.outline.Cursor.{Cursor}
+use Rattle.events.specs.declared.outline.NextOpening.{NextOpening}
+use Rattle.events.specs.declared.outline.NextOpening.the-variants.{Opening, NoOpening}
 use Rattle.typestock_c.specs.declared.TypestockSchema.{TypestockSchema}
 use Rattle.typestock_c.specs.declared.TypestockDocument.{TypestockDocument}
 use Rattle.typestock_c.specs.declared.TypestockOpening.{TypestockOpening}
 
 -- "A refusal answers number and place". Document 01 gives an accepted schema neither: it has 0 and 0, and no refusal has the number 0.
-abbrev pub schemaNumbers : FileAnswer → TypestockSchema
-schemaNumbers Accepted = record { number = 0; place = 0 }
-schemaNumbers (Refused n p) = record { number = n; place = p }
+abbrev pub schemaNumbers : Verdict → TypestockSchema
+schemaNumbers Fine = record { number = 0; place = 0 }
+schemaNumbers (RefusedAt n p) = record { number = n; place = p }
 
 -- A refused schema's number and place, in both answers, so that 0 is said of no document but one that is taken; no opening is. An accepted
 -- one's 0 and 0, and beside them "a number (0 for taken), a place (of the refused event; the file's length for 0) and the count of openings
@@ -30,6 +30,6 @@ abbrev pub cursorAt : ℕ → ℕ → Cursor
 cursorAt at level = record { at = at; level = level }
 
 -- An opening's tag, and the cursor past it, which is at the opening's level; with none the tag 0 and the cursor handed in.
-abbrev pub openingNumbers : Cursor → Found → TypestockOpening
+abbrev pub openingNumbers : Cursor → NextOpening → TypestockOpening
 openingNumbers from (Opening g past) = record { found = true; tag = g .0; at = past .at; level = past .level }
 openingNumbers from NoOpening = record { found = false; tag = 0; at = from .at; level = from .level }

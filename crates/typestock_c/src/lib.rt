@@ -1,14 +1,14 @@
-// The engine for callers in other languages: the calls of `schema_file` and `typing`, with their answers as numbers. c/typestock.h declares
+// The engine for callers in other languages: the calls of `schema_file`, `typing` and `events`, with their answers as numbers. c/typestock.h declares
 // them for C, and rust/typestock wraps them for Rust.
-use schema_file::FileAnswer;
+use events::Cursor;
+use events::NextOpening;
+use events::next_opening;
 use schema_file::read;
-use typing::Cursor;
-use typing::Found;
+use sdtd::Verdict;
 use typing::Job;
-use typing::next_opening;
 use typing::type_document;
 ghost use mathlib.Core.Path.{_≡_};
-ghost use Rattle.typing.specs.Outline.{found};
+ghost use Rattle.events.specs.Outline.{nextOpening};
 ghost use Rattle.typestock_c.specs.Numbers.{cursorAt, schemaNumbers, documentNumbers, openingNumbers};
 ghost use Rattle.typestock_c.specs.Exports.{SchemaMeans, DocumentMeans};
 
@@ -38,15 +38,15 @@ pub struct TypestockOpening {
     pub level: usize,
 }
 
-fn schema_numbers(answer: FileAnswer) -> TypestockSchema
+fn schema_numbers(answer: Verdict) -> TypestockSchema
     ensures { λ r. ⌜ r ≡ schemaNumbers answer ⌝ }
 {
     match answer {
-        FileAnswer::Accepted => TypestockSchema {
+        Verdict::Fine => TypestockSchema {
             number: 0,
             place: 0,
         },
-        FileAnswer::Refused(number, place) => TypestockSchema { number, place },
+        Verdict::RefusedAt(number, place) => TypestockSchema { number, place },
     }
 }
 
@@ -71,17 +71,17 @@ fn document_numbers(job: Job) -> TypestockDocument
     }
 }
 
-fn opening_numbers(from: Cursor, next: Found) -> TypestockOpening
+fn opening_numbers(from: Cursor, next: NextOpening) -> TypestockOpening
     ensures { λ r. ⌜ r ≡ openingNumbers from next ⌝ }
 {
     match next {
-        Found::Opening(tag, past) => TypestockOpening {
+        NextOpening::Opening(tag, past) => TypestockOpening {
             found: true,
             tag: tag.0,
             at: past.at,
             level: past.level,
         },
-        Found::NoOpening => TypestockOpening {
+        NextOpening::NoOpening => TypestockOpening {
             found: false,
             tag: 0,
             at: from.at,
@@ -117,7 +117,7 @@ pub extern "C" fn typestock_type_document(
 // The first opening from the place on, where so many elements are open.
 #[no_mangle]
 pub extern "C" fn typestock_next_opening(events: &[u8], at: usize, level: usize) -> TypestockOpening
-    ensures { λ r. ⌜ r ≡ openingNumbers (cursorAt at level) (found (now (events .entry)) (cursorAt at level)) ⌝ }
+    ensures { λ r. ⌜ r ≡ openingNumbers (cursorAt at level) (nextOpening (now (events .entry)) (cursorAt at level)) ⌝ }
 {
     let from = Cursor { at, level };
     opening_numbers(from, next_opening(events, from))

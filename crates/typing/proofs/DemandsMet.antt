@@ -1,10 +1,10 @@
 -- The demands are met.
 use mathlib.Core.Path.{_≡_, refl, sym, subst}
 use mathlib.Core.Logic.{inl, inr, ⊎-elim}
-use mathlib.Core.List.{List, [], _++_}
+use mathlib.Core.List.{List, []}
 use Prim.Native.Nat.{ℕ}
 use native.Mathlib.Omega.{arith}
-use lib.ListN.{length, drop}
+use lib.ListN.{length}
 use Rattle.schema.specs.Value.{meaning}
 use Rattle.sdtd.specs.Schema.{WithinLimits}
 use Rattle.sdtd.specs.Schema.{Schema as Meaning}
@@ -18,48 +18,36 @@ use Rattle.competition.specs.Search.{Written}
 use Rattle.commands.specs.File.{Stated, Commands, stopped, states, commands, schemaBy, unknown, StatesSchema}
 use Rattle.commands.proofs.StatedLimits.{stated-within}
 use Rattle.schema_file.specs.Answer.{AnswerBy, OfStated, FileMeans}
-use Rattle.schema_file.specs.declared.file.FileAnswer.{FileAnswer}
-use Rattle.schema_file.specs.declared.file.FileAnswer.the-variants.{Refused}
+use Rattle.sdtd.specs.declared.Verdict.{Verdict}
+use Rattle.sdtd.specs.declared.Verdict.the-variants.{RefusedAt}
 use Rattle.schema_file.specs.declared.file.SchemaFile.{SchemaFile}
-use Rattle.competition.proofs.Outcome.{written-competes}
+use Rattle.competition.proofs.Answers.{written-competes}
 use Rattle.schema_file.proofs.FileAnswers.{file-ambiguous, accepted-file}
 use Rattle.schema_file.proofs.FileExists.{one-file-answer, buffer-exists}
 use Rattle.reading.proofs.AnswerExists.{one-answer}
 use Rattle.reading.proofs.OneAnswer.{refused-unchanged}
 use Rattle.reading.proofs.ListOfCalls.{list-meets, whole-meets}
 use Rattle.reading.specs.Levels.{fresh}
-use Rattle.reading.specs.EventFile.{eventsOf, Walk, EventsMean}
-use Rattle.reading.proofs.EventWalk.{events-unique}
+use Rattle.events.specs.Events.{eventsOf}
+use Rattle.reading.specs.Passage.{Passes}
+use Rattle.reading.specs.EventFile.{byCalls, verdictWith, typesWith, EventsMean}
+use Rattle.reading.proofs.EventWalk.{passage-unique, passage-exists, events-exist, events-unique}
 use Rattle.reading.proofs.EventTheory.{event-file-meets}
-use Rattle.reading.proofs.WalkExists.{walk-exists, one-walk}
-use Rattle.typing.specs.Demands.{One, Walked, Answered, Demand1, Demand2, Demand2File, Demand3, NotTestable}
+use Rattle.typing.specs.Demands.{One, AnswerAndBuffer, Demand1, Demand2, Demand2File, Demand3, NotTestable}
 
-walked : (S : Meaning) (file was : List ℕ)
-    → One (λ (w : Walked). Walk S fresh (length was) 0 (eventsOf file) (w .verdict) (w .types))
-walked S file was =
-    let w = one-walk S fresh (length was) 0 (eventsOf file) in
-    record {
-      it = record { verdict = w .0; types = w .1 };
-      has = w .2;
-      only = λ o h. let same = w .3 (o .verdict) (o .types) h in λ i. record { verdict = sym (same .0) i; types = sym (same .1) i };
-    }
+one-passage : (S : Meaning) (file : List ℕ) → One (Passes (byCalls S) fresh 0 (eventsOf file))
+one-passage S file =
+    let (p, f) = passage-exists S fresh 0 (eventsOf file) in
+    record { it = p; has = f; only = λ q g. passage-unique S fresh 0 (eventsOf file) g f }
 
--- the answer and the buffer of the walk's verdict and types
-answered : (S : Meaning) (file was : List ℕ) → One (λ (a : Answered). EventsMean S file was (a .buffer) (a .answer))
+-- the answer and the buffer
+answered : (S : Meaning) (file was : List ℕ) → One (λ (a : AnswerAndBuffer). EventsMean S file was (a .buffer) (a .answer))
 answered S file was =
-    let w = walk-exists S fresh (length was) 0 (eventsOf file) in
-    let means :
-    EventsMean S file was (w .1 ++ drop (length (w .1)) was)
-    (record { number = w .0 .number; place = w .0 .place; count = length (w .1) }) =
-    record { types = w .1; walk = w .2; count = refl; buffer = refl } in
+    let (r, is, m) = events-exist S file was in
     record {
-      it =
-          record {
-            answer = record { number = w .0 .number; place = w .0 .place; count = length (w .1) };
-            buffer = w .1 ++ drop (length (w .1)) was;
-          };
-      has = means;
-      only = λ o h. let same = events-unique h means in λ i. record { answer = same .0 i; buffer = same .1 i };
+      it = record { answer = r; buffer = is };
+      has = m;
+      only = λ o h. let same = events-unique h m in λ i. record { answer = same .0 i; buffer = same .1 i };
     }
 
 pub demand-1 : Demand1
@@ -70,7 +58,7 @@ demand-1 =
       left = λ file was is f m. m .buffer;
       call = λ v r x. let a = one-answer (meaning v) r x in record { it = a .0; has = a .1; only = λ b h. sym (a .2 b h) };
       unchanged = λ v r x n number m e. refused-unchanged (meaning v) r x m e;
-      events = λ v file was. walked (meaning v) file was;
+      events = λ v file. one-passage (meaning v) file;
       events-lent = λ v file was. answered (meaning v) file was;
     }
 
@@ -78,7 +66,12 @@ pub demand-2 : Demand2
 demand-2 file was is f m a xs calls = whole-meets (accepted-file m a .schema) xs calls
 
 pub demand-2-file : Demand2File
-demand-2-file file was is f m a events lent after r e = event-file-meets (accepted-file m a .schema) events (length lent) (e .walk)
+demand-2-file file was is f m a events lent after r e = (
+  verdictWith (length lent) (e .passage),
+  typesWith (length lent) (e .passage),
+  e .told,
+  event-file-meets (accepted-file m a .schema) events (length lent) (e .passage) (e .passes),
+)
 
 pub demand-3 : Demand3
 demand-3 file was is f m =
@@ -89,12 +82,12 @@ demand-3 file was is f m =
     }
 
 -- a file that is answered 9 has passed question 7
-nine-known : (g : Stated) (a : FileAnswer) → a ≡ Refused 9 0 → AnswerBy (states g) a → unknown g ≡ []
+nine-known : (g : Stated) (a : Verdict) → a ≡ RefusedAt 9 0 → AnswerBy (states g) a → unknown g ≡ []
 nine-known g a q (inl o) = let z : _≡_ {A = ℕ} 9 7 = cc in absurd (omega arith)
 nine-known g a q (inr o) = o .0
 
 -- it states a schema, which is ambiguous: its witness shows two rivals
-nine-ambiguous : (file was is : List ℕ) (k : Commands) → commands file ≡ k → (a : FileAnswer) → a ≡ Refused 9 0 → AnswerBy k a
+nine-ambiguous : (file was is : List ℕ) (k : Commands) → commands file ≡ k → (a : Verdict) → a ≡ RefusedAt 9 0 → AnswerBy k a
     → OfStated k (λ g. Written (schemaBy g) was is) → (S : Meaning) × StatesSchema file S × Ambiguous S
 nine-ambiguous file was is (stopped n p) e a q b w = absurd w
 nine-ambiguous file was is (states g) e a q b w = (
@@ -103,7 +96,7 @@ nine-ambiguous file was is (states g) e a q b w = (
   competition-is-ambiguity .0 (written-competes w),
 )
 
-refused-ambiguous : {file was is : List ℕ} {f : SchemaFile} → FileMeans file was is f → f .answer ≡ Refused 9 0
+refused-ambiguous : {file was is : List ℕ} {f : SchemaFile} → FileMeans file was is f → f .answer ≡ RefusedAt 9 0
     → (S : Meaning) × StatesSchema file S × Ambiguous S
 refused-ambiguous {file} {was} {is} {f} m q =
     ⊎-elim (λ o. let z : _≡_ {A = ℕ} 9 1 = cc in absurd (omega arith))
@@ -120,7 +113,7 @@ not-testable file was is f m =
       had-to-be = refused-ambiguous m;
       keeps-type = λ a e d₁ d₂ v₁ v₂. same-types (accepted-file m a .schema .no-competition) v₁ v₂ e;
       trimmed = λ S x. trimmed-exists S;
-      by-tables = λ S x t tables. tables-trim (tables .inside (states-within x));
+      by-tables = λ S x t tables. tables-trim (tables .exact (states-within x));
       same-documents = λ S S′ x t d. let s = trimmed-valid t d in (λ v. s .0 v .valid, λ v. s .1 v .valid);
       same-typings = λ S S′ x t. trimmed-same t;
     }

@@ -1,26 +1,31 @@
 -- The numbers that an event file can be answered, and how long a types buffer is always enough.
-use mathlib.Core.Path.{_≡_, sym, ap, subst}
+use mathlib.Core.Path.{_≡_, refl, sym, ap, subst, _∙_}
 use mathlib.Core.Bool.{Bool, true, false, cond}
-use mathlib.Core.Logic.{_⊎_, _≢_, inl, inr}
-use mathlib.Core.List.{List, [], _∷_, _++_}
-use Prim.Native.Nat.{ℕ, zero, suc, _+_, _*_, _≤_}
+use mathlib.Core.Logic.{_⊎_, _≢_, inl, inr, ⊎-elim}
+use mathlib.Core.List.{List, [], _∷_}
+use Prim.Native.Nat.{ℕ, suc, _*_, _≤_}
 use native.Mathlib.Omega.{arith}
 use lib.Dec.{eqb}
 use lib.ListN.{length}
 use Rattle.sdtd.specs.Schema.{Schema}
 use Rattle.sdtd.specs.Document.{Event, opening, closing, finish}
-use Rattle.sdtd.specs.Answer.{Question, Ordered, Answer, refused, typed, taken}
+use Rattle.sdtd.specs.Answer.{Question, Ordered, Answer, refused, typed, taken, Verdict}
 use Rattle.sdtd.specs.Reading.{TakenAnswer, Right}
 use Rattle.sdtd.specs.Reading.{questions as questionsAfter}
 use Rattle.reading.specs.declared.value.Reading.{Reading}
 use Rattle.reading.specs.declared.calls.Next.{Next}
 use Rattle.reading.specs.declared.event_file.EventFile.{EventFile}
 use Rattle.reading.specs.Levels.{fresh}
-use Rattle.reading.specs.Questions.{questions, TakenBy, CallMeans}
+use Rattle.reading.specs.Questions.{given, questions, TakenBy, CallMeans}
 use Rattle.reading.specs.Calls.{answerOf}
-use Rattle.reading.specs.EventFile.{Events, ends, stray, event, eventsOf, sizeOf, Verdict, verdict, Follows, Walk, EventsMean}
-use Rattle.reading.specs.EventMeaning.{Judged}
-use Rattle.typing.specs.Outline.{shallower, outline}
+use Rattle.events.specs.Events.{Events, ends, stray, event, eventsOf}
+use Rattle.events.specs.Outline.{shallower, outline}
+use Rattle.reading.specs.Passage.{TakenCall, takenCall, Passage, Answerer, Passes}
+use Rattle.reading.specs.EventFile.{byCalls, typesGiven, verdictWith, numberOf, EventsMean}
+use Rattle.reading.specs.EventMeaning.{byDocuments, EventFileMeets}
+use Rattle.reading.proofs.Passages.{passes-each}
+use Rattle.reading.proofs.EventWalk.{answer-read}
+use Rattle.reading.proofs.RoomLaws.{room-enough, room-or-20}
 
 -- what holds of each question's refusal
 abbrev Each : {A : Type 0} → (A → Type 0) → List (Question A) → Type 0
@@ -73,80 +78,68 @@ right-answer S e finish a m =
     ordered-has (CanAnswer 11 finish) (TakenAnswer S e finish) (questionsAfter S e finish) (omega arith, (omega arith, tt))
     (λ t. subst (CanAnswer 11 finish) (sym t) tt) m
 
--- The number of a verdict is 0, or from `least` to 20; it is not 20 where the room is enough for all the openings.
-record Number (least openings room number : ℕ) : Type 0 where
-  pub range : (number ≡ 0) ⊎ ((least ≤ number) × (number ≤ 20))
-  pub enough : openings ≤ room → number ≢ 20
+-- a number is 0, or from `least` to `most`
+abbrev pub Range : ℕ → ℕ → ℕ → Type 0
+Range least most n = (n ≡ 0) ⊎ ((least ≤ n) × (n ≤ most))
 
--- the same of other openings and another room, which are enough only where these are
-of-later : {least openings room number : ℕ} → Number least openings room number → (all left : ℕ) → (all ≤ left → openings ≤ room)
-    → Number least all left number
-of-later n all left h = record { range = n .range; enough = λ k. n .enough (h k) }
+-- at most one type for each line of the outline
+abbrev FewTypes : Events → List TakenCall → Type 0
+FewTypes es cs = (level : ℕ) → length (typesGiven cs) ≤ length (outline level es)
 
-not-20 : {least openings room : ℕ} (number k : ℕ) → number ≡ k → least ≤ k → k ≤ 19 → Number least openings room number
-not-20 number k q l m = record { range = inr (omega arith, omega arith); enough = λ h z. omega arith }
+one-more : (least : ℕ) (x : Event) (es : Events) (a : Answer) (at : ℕ) (cs : List TakenCall) → CanAnswer least x a → FewTypes es cs
+    → FewTypes (event x es) (takenCall at x a ∷ cs)
+one-more least (opening g) es (refused n) at cs c later level = omega (arith, later (suc level))
+one-more least (opening g) es (typed j) at cs c later level = omega (arith, later (suc level))
+one-more least (opening g) es taken at cs c later level = omega (arith, later (suc level))
+one-more least (closing g) es (refused n) at cs c later level = later (shallower level)
+one-more least (closing g) es (typed j) at cs c later level = absurd c
+one-more least (closing g) es taken at cs c later level = later (shallower level)
+one-more least finish es (refused n) at cs c later level = later level
+one-more least finish es (typed j) at cs c later level = absurd c
+one-more least finish es taken at cs c later level = later level
 
-zero-number : {least openings room : ℕ} (number : ℕ) → number ≡ 0 → Number least openings room number
-zero-number number q = record { range = inl q; enough = λ h z. omega arith }
+-- A walk whose events can be answered so.
+module _ {A : Type 0} (k : Answerer A) (least : ℕ) (small : least ≤ 18)
+    (can : (s : A) (x : Event) (a : Answer) (after : A) → k .Answers s x a after → CanAnswer least x a) where
+  -- its number is 0, or from `least` to 19
+  passes-range : (s : A) (at : ℕ) (es : Events) (p : Passage A) → Passes k s at es p → Range least 19 (numberOf (p .verdict))
+  passes-range =
+      passes-each k (λ s at es p. Range least 19 (numberOf (p .verdict)))
+      (λ s at h. inl refl)
+      (λ s at n. inr (omega arith, omega arith))
+      (λ s at. inr (omega arith, omega arith))
+      (λ s at x es n after m. let c = can s x (refused n) after m in inr (c .0, omega (arith, c .1)))
+      (λ s at x es a after q t m later. later)
 
-number-is : {v w : Verdict} → v ≡ w → v .number ≡ w .number
-number-is q = ap (λ (u : Verdict). u .number) q
+  -- it gives at most one type for each line of the outline
+  few-types : (s : A) (at : ℕ) (es : Events) (p : Passage A) → Passes k s at es p → FewTypes es (p .calls)
+  few-types =
+      passes-each k (λ s at es p. FewTypes es (p .calls)) (λ s at h level. omega arith) (λ s at n level. omega arith)
+      (λ s at level. omega arith)
+      (λ s at x es n after m level. omega arith)
+      (λ s at x es a after q t m later. one-more least x es a at (q .calls) (can s x a after m) later)
 
-module _ (least : ℕ) (small : least ≤ 18) (v : Verdict) where
-  -- the openings of the events have their room
-  abbrev Of : Events → ℕ → ℕ → Type 0
-  Of es level room = Number least (length (outline level es)) room (v .number)
+-- laid on it, the buffer can make the number 20
+laid-range : {A : Type 0} (least room : ℕ) (p : Passage A) → least ≤ 18 → Range least 19 (numberOf (p .verdict))
+    → Range least 20 (numberOf (verdictWith room p))
+laid-range least room p small range =
+    ⊎-elim
+    (λ h.
+    subst (λ (v : Verdict). Range least 20 (numberOf v)) (sym (room-enough room (typesGiven (p .calls)) (p .verdict) h))
+    (⊎-elim (λ z. inl z) (λ r. inr (r .0, omega (arith, r .1))) range))
+    (λ (h, at, q). subst (λ (v : Verdict). Range least 20 (numberOf v)) (sym q) (inr (omega arith, omega arith)))
+    (room-or-20 room (typesGiven (p .calls)) (p .verdict))
 
-  typed-number : (x : Event) (es : Events) (level room : ℕ) → IsOpening x → ((l : ℕ) → Of es l room) → Of (event x es) level (suc room)
-  typed-number (opening g) es level room o later = of-later (later (suc level)) _ _ (λ h. omega arith)
-  typed-number (closing g) es level room o later = absurd o
-  typed-number finish es level room o later = absurd o
-
-  full-number : (x : Event) (es : Events) (level : ℕ) → IsOpening x → v .number ≡ 20 → Of (event x es) level zero
-  full-number (opening g) es level o q = record { range = inr (omega arith, omega arith); enough = λ h z. omega arith }
-  full-number (closing g) es level o q = absurd o
-  full-number finish es level o q = absurd o
-
-  taken-number : (x : Event) (es : Events) (level room : ℕ) → ((l : ℕ) → Of es l room) → Of (event x es) level room
-  taken-number (opening g) es level room later = of-later (later (suc level)) _ _ (λ h. omega arith)
-  taken-number (closing g) es level room later = later (shallower level)
-  taken-number finish es level room later = later level
-
-  followed-number : (x : Event) (es : Events) (level : ℕ) (a : Answer) (room at : ℕ) (ts : List ℕ) {on : ℕ → List ℕ → Type 0}
-      → CanAnswer least x a → ((left : ℕ) (us : List ℕ) → on left us → (l : ℕ) → Of es l left) → Follows a room at v ts on
-      → Of (event x es) level room
-  followed-number x es level (refused k) room at ts c later f = not-20 (v .number) k (number-is (f .0)) (c .0) (omega (arith, c .1))
-  followed-number x es level (typed j) zero at ts c later f = full-number x es level c (number-is (f .0))
-  followed-number x es level (typed j) (suc room) at ts c later (us, p, f) = typed-number x es level room c (later room us f)
-  followed-number x es level taken room at ts c later f = taken-number x es level room (later room ts f)
-
--- the end of the file, by the mark of a finish
-mark-number : {openings room : ℕ} (b : Bool) (at : ℕ) {v : Verdict} → v ≡ cond b (verdict 0 at) (verdict 19 at)
-    → Number 10 openings room (v .number)
-mark-number true at {v} q = zero-number (v .number) (number-is q)
-mark-number false at {v} q = not-20 (v .number) 19 (number-is q) (omega arith) (omega arith)
-
-walk-number : (S : Schema) (r : Reading) (room at : ℕ) (es : Events) (v : Verdict) (ts : List ℕ) → Walk S r room at es v ts → (level : ℕ)
-    → Number 10 (length (outline level es)) room (v .number)
-walk-number S r room at ends v ts w level = mark-number (r .finished) at (w .0)
-walk-number S r room at stray v ts w level = not-20 (v .number) 19 (number-is (w .0)) (omega arith) (omega arith)
-walk-number S r room at (event x es) v ts (n, m, f) level =
-    followed-number 10 (omega arith) v x es level (answerOf (n .answer)) room at ts (call-answer S r x n m)
-    (λ left us w l. walk-number S (n .reading) left (at + sizeOf x) es v us w l) f
-
-judged-number : (S : Schema) (e : List Event) (room at : ℕ) (es : Events) (v : Verdict) (ts : List ℕ) → Judged S e room at es v ts
-    → (level : ℕ) → Number 11 (length (outline level es)) room (v .number)
-judged-number S e room at ends v ts (inl o, t) level = not-20 (v .number) 19 (number-is (o .1)) (omega arith) (omega arith)
-judged-number S e room at ends v ts (inr o, t) level = zero-number (v .number) (number-is (o .1))
-judged-number S e room at stray v ts w level = not-20 (v .number) 19 (number-is (w .0)) (omega arith) (omega arith)
-judged-number S e room at (event x es) v ts (a, m, f) level =
-    followed-number 11 (omega arith) v x es level a room at ts (right-answer S e x a m)
-    (λ left us w l. judged-number S (e ++ (x ∷ [])) left (at + sizeOf x) es v us w l) f
+by-calls : (S : Schema) (r : Reading) (x : Event) (a : Answer) (after : Reading) → byCalls S .Answers r x a after → CanAnswer 10 x a
+by-calls S r x a after m = subst (CanAnswer 10 x) (answer-read a) (call-answer S r x (given a after) m)
 
 -- Under an accepted schema the number is 0, or 11 to 20.
-pub judged-range : (S : Schema) (room : ℕ) (file : List ℕ) (v : Verdict) (ts : List ℕ) → Judged S [] room 0 (eventsOf file) v ts
-    → (v .number ≡ 0) ⊎ ((11 ≤ v .number) × (v .number ≤ 20))
-judged-range S room file v ts w = judged-number S [] room 0 (eventsOf file) v ts w 0 .range
+pub judged-range : {S : Schema} {room : ℕ} {file : List ℕ} {v : Verdict} {ts : List ℕ} → EventFileMeets S room file v ts
+    → Range 11 20 (numberOf v)
+judged-range {S} {room} {file} m =
+    subst (λ (v : Verdict). Range 11 20 (numberOf v)) (sym (m .verdict))
+    (laid-range 11 room (m .passage) (omega arith)
+    (passes-range (byDocuments S) 11 (omega arith) (λ e x a after r. right-answer S e x a (r .0)) [] 0 (eventsOf file) (m .passage) (m .judged)))
 
 -- at most half as many lines as bytes
 abbrev Half : Events → ℕ → Type 0
@@ -170,11 +163,17 @@ pub half-openings : (file : List ℕ) → 2 * length (outline 0 (eventsOf file))
 half-openings file = half-from file 0
 
 module _ {S : Schema} {file was is : List ℕ} {r : EventFile} (m : EventsMean S file was is r) where
+  range : Range 10 19 (numberOf (m .passage .verdict))
+  range = passes-range (byCalls S) 10 (omega arith) (by-calls S) fresh 0 (eventsOf file) (m .passage) (m .passes)
+
   -- Under any schema the number is 0, or 10 to 20.
-  pub events-range : (r .number ≡ 0) ⊎ ((10 ≤ r .number) × (r .number ≤ 20))
-  events-range = walk-number S fresh (length was) 0 (eventsOf file) _ (m .types) (m .walk) 0 .range
+  pub events-range : Range 10 20 (r .number)
+  events-range = subst (Range 10 20) (sym (m .told .number)) (laid-range 10 (length was) (m .passage) (omega arith) range)
 
   -- A byte for every two of the event file is always enough: the answer is never 20, under any schema.
   pub always-enough : length file ≤ 2 * length was → r .number ≢ 20
-  always-enough h =
-      walk-number S fresh (length was) 0 (eventsOf file) _ (m .types) (m .walk) 0 .enough (omega (arith, half-openings file))
+  always-enough h z =
+      let few = few-types (byCalls S) 10 (omega arith) (by-calls S) fresh 0 (eventsOf file) (m .passage) (m .passes) 0 in
+      let same = room-enough (length was) (typesGiven (m .passage .calls)) (m .passage .verdict) (omega (arith, half-openings file)) in
+      let number : r .number ≡ numberOf (m .passage .verdict) = m .told .number ∙ ap numberOf same in
+      ⊎-elim (λ q. omega arith) (λ q. omega arith) range

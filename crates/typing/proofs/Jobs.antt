@@ -11,41 +11,43 @@ use Rattle.schema.specs.declared.value.Schema.{Schema}
 use Rattle.commands.specs.File.{Commands, stopped, states, commands}
 use Rattle.commands.specs.Value.{StatedValue}
 use Rattle.schema_file.specs.Answer.{OfStated, FileMeans}
-use Rattle.schema_file.specs.declared.file.FileAnswer.{FileAnswer}
-use Rattle.schema_file.specs.declared.file.FileAnswer.the-variants.{Accepted, Refused}
+use Rattle.sdtd.specs.declared.Verdict.{Verdict}
+use Rattle.sdtd.specs.declared.Verdict.the-variants.{Fine, RefusedAt}
 use Rattle.schema_file.specs.declared.file.SchemaFile.{SchemaFile}
-use Rattle.schema_file.proofs.FileAnswers.{file-unique, refused-accepted, accepted-file}
-use Rattle.reading.specs.EventFile.{eventsOf, EventsMean}
+use Rattle.sdtd.proofs.Verdicts.{refused-not-fine}
+use Rattle.schema_file.proofs.FileAnswers.{file-unique, accepted-file}
+use Rattle.events.specs.Events.{eventsOf}
+use Rattle.reading.specs.EventFile.{verdictWith, typesWith, EventsMean}
 use Rattle.reading.specs.declared.event_file.EventFile.{EventFile}
 use Rattle.reading.proofs.EventWalk.{events-unique}
 use Rattle.reading.proofs.EventTheory.{event-file-meets}
 use Rattle.typing.specs.declared.job.Job.{Job}
 use Rattle.typing.specs.declared.job.Job.the-variants.{SchemaRefused, EventsRead}
 use Rattle.typing.specs.Job.{JobMeans, JobMeets}
-use Rattle.typing.specs.Outline.{outline}
-use Rattle.typing.proofs.Outlines.{outline-depths}
+use Rattle.events.specs.Outline.{outline}
+use Rattle.events.proofs.Outlines.{outline-depths}
 use Rattle.typing.proofs.Lines.{line-tags, lines-enough}
-use Rattle.typing.proofs.EventNumbers.{judged-range, always-enough}
+use Rattle.typing.proofs.EventNumbers.{Range, judged-range, always-enough}
 
 module _ {file wasWitness isWitness : List ℕ} {f : SchemaFile} (m : FileMeans file wasWitness isWitness f) where
-  pub job-refused : {events types : List ℕ} {n p : ℕ} → f .answer ≡ Refused n p
+  pub job-refused : {events types : List ℕ} {n p : ℕ} → f .answer ≡ RefusedAt n p
       → JobMeans file events wasWitness isWitness types types (SchemaRefused n p)
   job-refused {n = n} {p} q =
       record {
         file = f;
         schema-file = m;
-        refused = λ k l h. let same : Refused n p ≡ Refused k l = sym q ∙ h in (cc, refl);
-        accepted = λ a. refused-accepted q a;
+        refused = λ k l h. let same : RefusedAt n p ≡ RefusedAt k l = sym q ∙ h in (cc, refl);
+        accepted = λ a. refused-not-fine q a;
       }
 
-  pub job-read : {events wasTypes isTypes : List ℕ} {e : EventFile} → f .answer ≡ Accepted
+  pub job-read : {events wasTypes isTypes : List ℕ} {e : EventFile} → f .answer ≡ Fine
       → EventsMean (meaning (f .schema)) events wasTypes isTypes e
       → JobMeans file events wasWitness isWitness wasTypes isTypes (EventsRead e)
   job-read {e = e} q k =
       record {
         file = f;
         schema-file = m;
-        refused = λ n p h. refused-accepted h q;
+        refused = λ n p h. refused-not-fine h q;
         accepted = λ a. (e, refl, k);
       }
 
@@ -61,12 +63,12 @@ module _ {file events wasWitness is₁ is₂ wasTypes types₁ types₂ : List �
   same-answer : j .file .answer ≡ k .file .answer
   same-answer = file-unique file wasWitness (j .schema-file .answer) (k .schema-file .answer)
 
-  by-answer : (a : FileAnswer) → j .file .answer ≡ a → (r₁ ≡ r₂) × (types₁ ≡ types₂)
-  by-answer (Refused n p) q =
+  by-answer : (a : Verdict) → j .file .answer ≡ a → (r₁ ≡ r₂) × (types₁ ≡ types₂)
+  by-answer (RefusedAt n p) q =
       let x = j .refused n p q in
       let y = k .refused n p (sym same-answer ∙ q) in
       (x .0 ∙ sym (y .0), x .1 ∙ sym (y .1))
-  by-answer Accepted q =
+  by-answer Fine q =
       let p = sym same-answer ∙ q in
       let (e, s, m) = j .accepted q in
       let (d, t, n) = k .accepted p in
@@ -80,18 +82,18 @@ module _ {file events wasWitness is₁ is₂ wasTypes types₁ types₂ : List �
 -- A job that read its events.
 module _ {file events wasWitness isWitness wasTypes isTypes : List ℕ} {e : EventFile}
     (j : JobMeans file events wasWitness isWitness wasTypes isTypes (EventsRead e)) where
-  read-by : (a : FileAnswer) → j .file .answer ≡ a
-      → (j .file .answer ≡ Accepted) × EventsMean (meaning (j .file .schema)) events wasTypes isTypes e
-  read-by (Refused n p) q =
+  read-by : (a : Verdict) → j .file .answer ≡ a
+      → (j .file .answer ≡ Fine) × EventsMean (meaning (j .file .schema)) events wasTypes isTypes e
+  read-by (RefusedAt n p) q =
       let s = j .refused n p q .0 in
       let z : _≡_ {A = ℕ} 0 1 = cc in absurd (omega arith)
-  read-by Accepted q =
+  read-by Fine q =
       let (d, s, n) = j .accepted q in
       let same : d ≡ e = cc in
       (q, subst (EventsMean (meaning (j .file .schema)) events wasTypes isTypes) same n)
 
   -- its schema was accepted, and the answer is the events'
-  was-read : (j .file .answer ≡ Accepted) × EventsMean (meaning (j .file .schema)) events wasTypes isTypes e
+  was-read : (j .file .answer ≡ Fine) × EventsMean (meaning (j .file .schema)) events wasTypes isTypes e
   was-read = read-by (j .file .answer) refl
 
   -- It meets demands 2 and 3, and its lines belong to the openings taken.
@@ -102,12 +104,12 @@ module _ {file events wasWitness isWitness wasTypes isTypes : List ℕ} {e : Eve
       record {
         schema = meaning (j .file .schema);
         stated = a .states;
-        types = m .types;
-        meets = event-file-meets (a .schema) events (length wasTypes) (m .walk);
-        count = m .count;
+        verdict = verdictWith (length wasTypes) (m .passage);
+        types = typesWith (length wasTypes) (m .passage);
+        told = m .told;
+        meets = event-file-meets (a .schema) events (length wasTypes) (m .passage) (m .passes);
         lines = line-tags m;
         levels = outline-depths [] (eventsOf events);
-        buffer = m .buffer;
       }
 
   -- Each opening that the count counts has its line in the outline of the events.
@@ -116,7 +118,7 @@ module _ {file events wasWitness isWitness wasTypes isTypes : List ℕ} {e : Eve
 
   -- Its number is 0, or 11 to 20: "10 never comes".
   pub job-range : (e .number ≡ 0) ⊎ ((11 ≤ e .number) × (e .number ≤ 20))
-  job-range = judged-range (job-meets .schema) (length wasTypes) events _ (job-meets .types) (job-meets .meets .judged)
+  job-range = subst (Range 11 20) (sym (job-meets .told .number)) (judged-range (job-meets .meets))
 
   -- A byte for every two of the event file is always enough.
   pub job-enough : length events ≤ 2 * length wasTypes → e .number ≢ 20
@@ -124,4 +126,4 @@ module _ {file events wasWitness isWitness wasTypes isTypes : List ℕ} {e : Eve
 
   -- It leaves the witness buffer as it was.
   pub job-witness : isWitness ≡ wasWitness
-  job-witness = j .schema-file .buffer .1 (λ q. refused-accepted q (was-read .0))
+  job-witness = j .schema-file .buffer .1 (λ q. refused-not-fine q (was-read .0))

@@ -3,7 +3,6 @@ pub mod DemandsMet
 pub mod SampleFiles
 pub mod SampleWitnesses
 pub mod SamplesHold
-pub mod Outlines
 pub mod Lines
 pub mod EventNumbers
 pub mod Jobs

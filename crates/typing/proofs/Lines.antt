@@ -1,13 +1,15 @@
 -- Each opening that is taken has its line in the outline, with the tag of the type that it was given.
-use mathlib.Core.Path.{_≡_, refl, sym, ap, ap₂, subst, _∙_}
+use mathlib.Core.Path.{_≡_, refl, sym, ap, ap₂, _∙_}
 use mathlib.Core.List.{List, [], _∷_, map}
-use Prim.Native.Nat.{ℕ, zero, suc, _+_, _≤_}
+use Prim.Native.Nat.{ℕ, zero, suc, _≤_}
 use native.Mathlib.Omega.{arith}
 use lib.ListN.{length, take, length-take, length-map}
 use Rattle.sdtd.specs.Numbered.{typeNo}
 use Rattle.sdtd.specs.Schema.{Schema, tagOf}
 use Rattle.sdtd.specs.Document.{Event, opening, closing, finish}
 use Rattle.sdtd.specs.declared.TypeNo.{TypeNo}
+use Rattle.sdtd.specs.Answer.{Answer, refused, typed, taken}
+use Rattle.sdtd.specs.Calls.{IsTaken}
 use Rattle.sdtd.proofs.Answers.{ordered-taken}
 use Rattle.reading.specs.declared.value.Reading.{Reading}
 use Rattle.reading.specs.declared.calls.EventAnswer.{EventAnswer}
@@ -15,18 +17,18 @@ use Rattle.reading.specs.declared.calls.EventAnswer.the-variants.{Typed, Taken,
 use Rattle.reading.specs.declared.calls.Next.{Next}
 use Rattle.reading.specs.declared.event_file.EventFile.{EventFile}
 use Rattle.reading.specs.Levels.{fresh}
-use Rattle.reading.specs.Questions.{gives, OpeningTaken, questions, TakenBy, CallMeans}
-use Rattle.reading.specs.Calls.{answerOf}
-use Rattle.reading.specs.EventFile.{Events, ends, stray, event, eventsOf, sizeOf, Verdict, Follows, Walk, EventsMean}
+use Rattle.reading.specs.Questions.{gives, given, OpeningTaken, questions, TakenBy, CallMeans}
+use Rattle.events.specs.Events.{Events, event, eventsOf}
+use Rattle.reading.specs.Passage.{TakenCall, takenCall, Passage, Passes}
+use Rattle.reading.specs.EventFile.{byCalls, typesWith, EventsMean}
+use Rattle.reading.proofs.Passages.{passes-each}
+use Rattle.reading.proofs.RoomLaws.{typesIn}
 use Rattle.reading.proofs.OneAnswer.{typed-refused, taken-refused}
-use Rattle.typing.specs.Outline.{shallower, Line, outline}
+use Rattle.events.specs.Outline.{shallower, Line, outline}
 
 -- the first of the lines, one for each type, have the types' tags
-abbrev Tags : Schema → List ℕ → List Line → Type 0
+abbrev pub Tags : Schema → List ℕ → List Line → Type 0
 Tags S ts ls = map (λ (l : Line). l .tag) (take (length ts) ls) ≡ map (tagOf S) ts
-
-no-types : (S : Schema) {ts : List ℕ} (ls : List Line) → ts ≡ [] → Tags S ts ls
-no-types S ls q = subst (λ (us : List ℕ). Tags S us ls) (sym q) refl
 
 typed-taken : {A : Type 0} {a : EventAnswer} {j : TypeNo} → a ≡ Typed j → a ≡ Taken → A
 typed-taken p q = absurd (let z : _≡_ {A = ℕ} 0 1 = cc in omega arith)
@@ -70,38 +72,50 @@ module _ (S : Schema) (r : Reading) (n : Next) where
   other-lines (closing g) es level ts m e later = later (shallower level)
   other-lines finish es level ts m e later = later level
 
-  -- by the call's answer, where the events after it have their lines
-  followed : (x : Event) (es : Events) (level : ℕ) (a : EventAnswer) → n .answer ≡ a → (room at : ℕ) (v : Verdict) (ts : List ℕ)
-      {on : ℕ → List ℕ → Type 0} → CallMeans S r x n → ((left : ℕ) (us : List ℕ) → on left us → (l : ℕ) → Tags S us (outline l es))
-      → Follows (answerOf a) room at v ts on → Tags S ts (outline level (event x es))
-  followed x es level (Refused k) e room at v ts m later f = no-types S (outline level (event x es)) (f .1)
-  followed x es level (Typed j) e zero at v ts m later f = no-types S (outline level (event x es)) (f .1)
-  followed x es level (Typed j) e (suc room) at v ts m later (us, p, f) =
-      subst (λ (ks : List ℕ). Tags S ks (outline level (event x es))) (sym p) (typed-line x es level us m e (later room us f))
-  followed x es level Taken e room at v ts m later f = other-lines x es level ts m e (later room ts f)
+-- by the answer to the event, where the events after it have their lines
+taken-lines : (S : Schema) (r : Reading) (at : ℕ) (x : Event) (es : Events) (a : Answer) (after : Reading) (cs : List TakenCall) → IsTaken a
+    → CallMeans S r x (given a after) → ((level : ℕ) → Tags S (typesIn cs) (outline level es)) → (level : ℕ)
+    → Tags S (typesIn (takenCall at x a ∷ cs)) (outline level (event x es))
+taken-lines S r at x es (refused n) after cs t m later level = absurd t
+taken-lines S r at x es (typed j) after cs t m later level = typed-line S r (given (typed j) after) x es level (typesIn cs) m refl later
+taken-lines S r at x es taken after cs t m later level = other-lines S r (given taken after) x es level (typesIn cs) m refl later
 
-walk-tags : (S : Schema) (r : Reading) (room at : ℕ) (es : Events) (v : Verdict) (ts : List ℕ) → Walk S r room at es v ts → (level : ℕ)
-    → Tags S ts (outline level es)
-walk-tags S r room at ends v ts w level = no-types S [] (w .1)
-walk-tags S r room at stray v ts w level = no-types S [] (w .1)
-walk-tags S r room at (event x es) v ts (n, m, f) level =
-    followed S r n x es level (n .answer) refl room at v ts m
-    (λ left us w l. walk-tags S (n .reading) left (at + sizeOf x) es v us w l) f
+passage-tags : (S : Schema) (r : Reading) (at : ℕ) (es : Events) (p : Passage Reading) → Passes (byCalls S) r at es p → (level : ℕ)
+    → Tags S (typesIn (p .calls)) (outline level es)
+passage-tags S =
+    passes-each (byCalls S) (λ r at es p. (level : ℕ) → Tags S (typesIn (p .calls)) (outline level es)) (λ r at h level. refl)
+    (λ r at n level. refl)
+    (λ r at level. refl)
+    (λ r at x es n after m level. refl)
+    (λ r at x es a after q t m later. taken-lines S r at x es a after (q .calls) t m later)
+
+-- the first of the types have their lines where all have
+first-tags : (S : Schema) (room : ℕ) (ts : List ℕ) (ls : List Line) → Tags S ts ls → Tags S (take room ts) ls
+first-tags S zero ts ls h = refl
+first-tags S (suc room) [] ls h = refl
+first-tags S (suc room) (t ∷ ts) [] h = absurd (omega (arith, ap length h))
+first-tags S (suc room) (t ∷ ts) (l ∷ ls) h =
+    let head : l .tag ≡ tagOf S t = cc in
+    let rest : Tags S ts ls = cc in
+    ap₂ (λ (g : ℕ) (gs : List ℕ). g ∷ gs) head (first-tags S room ts ls rest)
 
 module _ {S : Schema} {file was is : List ℕ} {r : EventFile} (m : EventsMean S file was is r) where
   -- The openings taken are the first of the outline, in order, and each has the tag of the type that it was given.
-  pub line-tags : map (λ (l : Line). l .tag) (take (length (m .types)) (outline 0 (eventsOf file))) ≡ map (tagOf S) (m .types)
-  line-tags = walk-tags S fresh (length was) 0 (eventsOf file) _ (m .types) (m .walk) 0
+  pub line-tags : Tags S (typesWith (length was) (m .passage)) (outline 0 (eventsOf file))
+  line-tags =
+      first-tags S (length was) (typesIn (m .passage .calls)) (outline 0 (eventsOf file))
+      (passage-tags S fresh 0 (eventsOf file) (m .passage) (m .passes) 0)
 
   -- so each of them has its line
   pub lines-enough : r .count ≤ length (outline 0 (eventsOf file))
   lines-enough =
-      let ls = take (length (m .types)) (outline 0 (eventsOf file)) in
+      let ts = typesWith (length was) (m .passage) in
+      let ls = take (length ts) (outline 0 (eventsOf file)) in
       omega (
         arith,
-        m .count,
+        m .told .count,
         ap length line-tags,
         length-map ls (λ (l : Line). l .tag),
-        length-map (m .types) (tagOf S),
-        length-take (length (m .types)) (outline 0 (eventsOf file)),
+        length-map ts (tagOf S),
+        length-take (length ts) (outline 0 (eventsOf file)),
       )

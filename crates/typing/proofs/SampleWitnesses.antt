@@ -9,23 +9,23 @@ use lib.Dec.{lit≤}
 use lib.ListN.{length, drop}
 use Rattle.sdtd.specs.Schema.{Step, Schema, blockOf, Leads}
 use Rattle.sdtd.specs.Competition.{Compete, Witness, witnessBytes}
-use Rattle.sdtd.specs.Samples.{schemaChoice, schemaTwoWays}
+use Rattle.sdtd.specs.Samples.{schemaChoice, schemaTwoWays, witnessChoice, witnessTwoWays}
 use Rattle.sdtd.proofs.Automata.{first-step}
 use Rattle.sdtd.proofs.SampleSchemas.{refusedChoice, refusedTwoWays}
 use Rattle.competition.specs.Search.{Written}
 use Rattle.commands.specs.File.{Commands, schemaBy, StatesSchema}
 use Rattle.schema_file.specs.Answer.{OfStated}
-use Rattle.schema_file.specs.Samples.{HoldsFor}
-use Rattle.schema_file.specs.declared.file.FileAnswer.the-variants.{Refused}
+use Rattle.schema_file.specs.Samples.{FileSample, HoldsFor}
+use Rattle.sdtd.specs.declared.Verdict.the-variants.{RefusedAt}
 use Rattle.schema_file.proofs.FileAnswers.{file-unique}
-use Rattle.typing.specs.Samples.{SchemaGets, gets}
+use Rattle.typing.specs.Samples.{SchemaGets}
 
 -- the property of each step of the list
-abbrev Each : (Step → Type 0) → List Step → Type 0
-Each P [] = Unit
-Each P (s ∷ ss) = P s × Each P ss
+abbrev EachStep : (Step → Type 0) → List Step → Type 0
+EachStep P [] = Unit
+EachStep P (s ∷ ss) = P s × EachStep P ss
 
-each-step : (P : Step → Type 0) {s : Step} (ss : List Step) → Each P ss → List·Memᴰ s ss → P s
+each-step : (P : Step → Type 0) {s : Step} (ss : List Step) → EachStep P ss → List·Memᴰ s ss → P s
 each-step P [] e m = absurd (List·Memᴰ·not-nil m)
 each-step P (t ∷ ss) e m = ⊎-elim (λ q. subst P (sym q) (e .0)) (each-step P ss (e .1)) (List·Memᴰ·cases-cons m)
 
@@ -69,7 +69,7 @@ choice-only w j k c =
     let n = choice-way w k (c .goes-on-k .rest) (c .goes-on-k .word .leads) in
     (m .0, omega (arith, c .order), omega (arith, c .order))
 
-pub choice-witness : (bytes : List ℕ) → Witness schemaChoice bytes → bytes ≡ 0 ∷ 1 ∷ 2 ∷ 0 ∷ 0 ∷ []
+pub choice-witness : (bytes : List ℕ) → Witness schemaChoice bytes → bytes ≡ witnessChoice
 choice-witness bytes x = only-bytes {j = 1} {k = 2} {w = []} x (refusedChoice .2) choice-only
 
 -- the sixth's steps: by type 1 from state 0 to 1 or 2, and by the type after the state from there to 3
@@ -117,15 +117,15 @@ ways-only w j k c =
     both h (inr m) (inl n) = absurd (omega arith)
     both h (inr m) (inr n) = (m .0, omega arith, omega arith)
 
-pub ways-witness : (bytes : List ℕ) → Witness schemaTwoWays bytes → bytes ≡ 0 ∷ 2 ∷ 3 ∷ 1 ∷ 0 ∷ 1 ∷ []
+pub ways-witness : (bytes : List ℕ) → Witness schemaTwoWays bytes → bytes ≡ witnessTwoWays
 ways-witness bytes x = only-bytes {j = 2} {k = 3} {w = 1 ∷ []} x (refusedTwoWays .2) ways-only
 
 -- A sample that is answered 9, where its witness is the schema's only one.
-pub nine-gets : {file bytes : List ℕ} {S : Schema} → StatesSchema file S → HoldsFor (gets file (Refused 9 0) bytes)
-    → ((other : List ℕ) → Witness S other → other ≡ bytes) → SchemaGets (gets file (Refused 9 0) bytes)
-nine-gets {file} x h only was is f l m =
-    let same = file-unique file was (m .answer) (h was l .0) in
+pub nine-gets : (s : FileSample) {S : Schema} → s .answer ≡ RefusedAt 9 0 → StatesSchema (s .bytes) S → HoldsFor s
+    → ((other : List ℕ) → Witness S other → other ≡ s .witness) → SchemaGets s
+nine-gets s nine x h only was is f l m =
+    let same = file-unique (s .bytes) was (m .answer) (h was l .0) in
     let w : Written (schemaBy (x .stated)) was is =
-    subst (λ (k : Commands). OfStated k (λ g. Written (schemaBy g) was is)) (x .passes) (m .buffer .0 same) in
+    subst (λ (k : Commands). OfStated k (λ g. Written (schemaBy g) was is)) (x .passes) (m .buffer .0 (same ∙ nine)) in
     let bytes = only (w .bytes) (subst (λ (R : Schema). Witness R (w .bytes)) (x .schema) (w .witness)) in
     (same, w .filled ∙ ap (λ (b : List ℕ). b ++ drop (length b) was) bytes)

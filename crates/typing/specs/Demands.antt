@@ -12,6 +12,7 @@ use Rattle.sdtd.specs.Schema.{Schema as Meaning}
 use Rattle.sdtd.specs.Tree.{Tree, IsTyping}
 use Rattle.sdtd.specs.Document.{Event, Valid, SomeValid, openings, typesOf, BeginningOf, Ambiguous}
 use Rattle.sdtd.specs.Trim.{Trimmed}
+use Rattle.sdtd.specs.Answer.{Verdict}
 use Rattle.sdtd.specs.Calls.{Exchange, ListMeets, WholeMeets}
 use Rattle.schema.specs.Value.{meaning}
 use Rattle.schema.specs.Trimming.{TrimMeans, trimmedByTables}
@@ -19,13 +20,15 @@ use Rattle.schema.specs.declared.value.Schema.{Schema}
 use Rattle.schema.specs.declared.tables.Trimming.{Trimming}
 use Rattle.commands.specs.File.{commands, StatesSchema}
 use Rattle.schema_file.specs.Answer.{AnswerIs, BufferBy, FileMeans, Demand3File}
-use Rattle.schema_file.specs.declared.file.FileAnswer.{FileAnswer}
-use Rattle.schema_file.specs.declared.file.FileAnswer.the-variants.{Accepted, Refused}
+use Rattle.sdtd.specs.declared.Verdict.{Verdict as CodeVerdict}
+use Rattle.sdtd.specs.declared.Verdict.the-variants.{Fine, RefusedAt}
 use Rattle.schema_file.specs.declared.file.SchemaFile.{SchemaFile}
 use Rattle.reading.specs.Levels.{fresh}
 use Rattle.reading.specs.Questions.{CallMeans}
 use Rattle.reading.specs.Calls.{Called}
-use Rattle.reading.specs.EventFile.{eventsOf, Verdict, verdict, Walk, EventsMean}
+use Rattle.events.specs.Events.{eventsOf}
+use Rattle.reading.specs.Passage.{Passes}
+use Rattle.reading.specs.EventFile.{byCalls, EventsTold, EventsMean}
 use Rattle.reading.specs.EventMeaning.{EventFileMeets}
 use Rattle.reading.specs.declared.value.Reading.{Reading}
 use Rattle.reading.specs.declared.calls.EventAnswer.the-variants.{Refused as CallRefused}
@@ -38,13 +41,8 @@ pub record One {A : Type 0} (P : A → Type 0) : Type 0 where
   pub has : P it
   pub only : (other : A) → P other → other ≡ it
 
--- what a walk over an event file gives: number and place, and the types of the openings taken
-pub record Walked : Type 0 where
-  pub verdict : Verdict
-  pub types : List ℕ
-
 -- what the event file's call leaves: its answer, and the buffer
-pub record Answered : Type 0 where
+pub record AnswerAndBuffer : Type 0 where
   pub answer : EventFile
   pub buffer : List ℕ
 
@@ -54,33 +52,33 @@ pub record Demand1 : Type 0 where
   -- a schema file has one answer, whatever its bytes and the buffer's are; what the buffer holds after that answer can be had, and what the
   -- call leaves there is that
   pub file : (file was : List ℕ) → One (AnswerIs file was)
-  pub lent : (file was : List ℕ) (a : FileAnswer) → AnswerIs file was a → (is : List ℕ) × BufferBy (commands file) was is a
+  pub lent : (file was : List ℕ) (a : CodeVerdict) → AnswerIs file was a → (is : List ℕ) × BufferBy (commands file) was is a
   pub left : (file was is : List ℕ) (f : SchemaFile) → FileMeans file was is f → BufferBy (commands file) was is (f .answer)
   -- a call has one answer, with the whole reading beside it, whatever the schema value and the reading are
   pub call : (v : Schema) (r : Reading) (x : Event) → One (CallMeans (meaning v) r x)
   pub unchanged : (v : Schema) (r : Reading) (x : Event) (n : Next) (number : ℕ) → CallMeans (meaning v) r x n
       → n .answer ≡ CallRefused number → n .reading ≡ r
-  -- an event file has one number and place and one list of types, whatever the schema value, the bytes and the buffer's length are; and so
-  -- its call has one answer, and each byte of the buffer after it is fixed
-  pub events : (v : Schema) (file was : List ℕ)
-      → One (λ (w : Walked). Walk (meaning v) fresh (length was) 0 (eventsOf file) (w .verdict) (w .types))
-  pub events-lent : (v : Schema) (file was : List ℕ) → One (λ (a : Answered). EventsMean (meaning v) file was (a .buffer) (a .answer))
+  -- an event file has one passage, whatever the schema value and the bytes are: one verdict, one list of calls taken, and one reading where
+  -- the walk stops; and so, whatever the buffer, its call has one answer, and each byte of the buffer after it is fixed
+  pub events : (v : Schema) (file : List ℕ) → One (Passes (byCalls (meaning v)) fresh 0 (eventsOf file))
+  pub events-lent : (v : Schema) (file was : List ℕ) → One (λ (a : AnswerAndBuffer). EventsMean (meaning v) file was (a .buffer) (a .answer))
 
 -- Demand 2: "Under an accepted schema, an event list is taken whole, through its finish, exactly when it is the tag stream of a valid tree,
 -- by the published definition of specialised DTDs, nested at most 64 deep; the types given out are then that tree's typing."
 abbrev pub Demand2 : Type 0
 Demand2 =
-    (file was is : List ℕ) (f : SchemaFile) → FileMeans file was is f → f .answer ≡ Accepted
+    (file was is : List ℕ) (f : SchemaFile) → FileMeans file was is f → f .answer ≡ Fine
     → (xs : List Exchange) → Called (meaning (f .schema)) fresh xs
     → WholeMeets (meaning (f .schema)) xs
 
--- Demand 2 of event files: one is answered 0 exactly when its bytes are the encoding of the document of a valid tree nested at most 64 deep
--- and the buffer has a byte for each opening; the types written are then that tree's typing.
+-- Demand 2 of event files: the answer tells a verdict and types that meet it. One is answered 0 exactly when its bytes are the encoding of
+-- the document of a valid tree nested at most 64 deep and the buffer has a byte for each opening; the types written are then that tree's
+-- typing.
 abbrev pub Demand2File : Type 0
 Demand2File =
-    (file was is : List ℕ) (f : SchemaFile) → FileMeans file was is f → f .answer ≡ Accepted
-    → (events lent after : List ℕ) (r : EventFile) (m : EventsMean (meaning (f .schema)) events lent after r)
-    → EventFileMeets (meaning (f .schema)) (length lent) events (verdict (r .number) (r .place)) (m .types)
+    (file was is : List ℕ) (f : SchemaFile) → FileMeans file was is f → f .answer ≡ Fine
+    → (events lent after : List ℕ) (r : EventFile) → EventsMean (meaning (f .schema)) events lent after r
+    → (v : Verdict) × (types : List ℕ) × EventsTold events lent after v types r × EventFileMeets (meaning (f .schema)) (length lent) events v types
 
 -- Demand 3 of a file and what its call gave.
 pub record Demand3Of (file was : List ℕ) (f : SchemaFile) : Type 0 where
@@ -90,8 +88,8 @@ pub record Demand3Of (file was : List ℕ) (f : SchemaFile) : Type 0 where
   pub refused-exactly : (S : Meaning) → leastWitness ≤ length was → StatesSchema file S → SomeValid S → Demand3File S (f .answer)
   -- "and then what follows holds for every list of opening, closing and finishing calls from a fresh reading, with any tags and refused
   -- calls included, where each call gets the reading as the last one left it."
-  pub states : f .answer ≡ Accepted → StatesSchema file (meaning (f .schema))
-  pub calls : f .answer ≡ Accepted → (xs : List Exchange) → Called (meaning (f .schema)) fresh xs → ListMeets (meaning (f .schema)) xs
+  pub states : f .answer ≡ Fine → StatesSchema file (meaning (f .schema))
+  pub calls : f .answer ≡ Fine → (xs : List Exchange) → Called (meaning (f .schema)) fresh xs → ListMeets (meaning (f .schema)) xs
 
 abbrev pub Demand3 : Type 0
 Demand3 = (file was is : List ℕ) (f : SchemaFile) → FileMeans file was is f → Demand3Of file was f
@@ -99,12 +97,12 @@ Demand3 = (file was is : List ℕ) (f : SchemaFile) → FileMeans file was is f 
 -- "What could not be tested", of a file and what its call gave.
 pub record NotTestableOf (file : List ℕ) (f : SchemaFile) : Type 0 where
   -- "That no schema we accept has two readings"
-  pub one-reading : f .answer ≡ Accepted → ¬ Ambiguous (meaning (f .schema))
+  pub one-reading : f .answer ≡ Fine → ¬ Ambiguous (meaning (f .schema))
   -- "That a refused schema had to be refused": for competition
-  pub had-to-be : f .answer ≡ Refused 9 0 → (S : Meaning) × StatesSchema file S × Ambiguous S
+  pub had-to-be : f .answer ≡ RefusedAt 9 0 → (S : Meaning) × StatesSchema file S × Ambiguous S
   -- "That an element typed early keeps its type, however the supplier goes on": whatever follows the events e in valid documents, each
   -- opening of e has one type in all of them. Demand 3 says that this type is given out.
-  pub keeps-type : f .answer ≡ Accepted
+  pub keeps-type : f .answer ≡ Fine
       → (e d₁ d₂ : List Event) (v₁ : Valid (meaning (f .schema)) d₁) (v₂ : Valid (meaning (f .schema)) d₂) → BeginningOf e d₁ → BeginningOf e d₂
       → take (openings e) (typesOf v₁) ≡ take (openings e) (typesOf v₂)
   -- "That trimming unused types loses no document": a schema that a file states, accepted or not, can be trimmed, and the tables that

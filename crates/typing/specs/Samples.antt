@@ -9,10 +9,8 @@ use Rattle.schema.specs.Value.{meaning}
 use Rattle.schema_file.specs.Answer.{FileMeans}
 use Rattle.schema_file.specs.Samples.{FileSample, fileR, fileChoice, fileNoD, fileTwoWays, fileTwoTypes, fileLastButOne, fileOptional}
 use Rattle.schema_file.specs.Samples.{fileEndless}
-use Rattle.schema_file.specs.declared.file.FileAnswer.{FileAnswer}
-use Rattle.schema_file.specs.declared.file.FileAnswer.the-variants.{Accepted, Refused}
 use Rattle.schema_file.specs.declared.file.SchemaFile.{SchemaFile}
-use Rattle.reading.specs.EventFile.{EventsMean}
+use Rattle.reading.specs.EventFile.{typeBytes, EventsMean}
 use Rattle.reading.specs.declared.event_file.EventFile.{EventFile}
 
 -- an event file, and the number, the place and the types of the openings taken that it gets
@@ -22,13 +20,13 @@ pub record EventSample : Type 0 where
   pub place : ℕ
   pub types : List ℕ
 
--- a schema file alone, or an accepted one's bytes with an event file
+-- a schema file alone, or with an event file
 pub data Sample : Type 0 where
   schemaFile : FileSample → Sample
-  eventFile : List ℕ → EventSample → Sample
+  eventFile : FileSample → EventSample → Sample
 
--- Whatever the schema file's call gives with a buffer of at least 532 bytes: the answer is the sample's, and the buffer begins with the
--- sample's witness and has its other bytes as they were.
+-- Whatever the schema file's call gives with a buffer that is long enough: the answer is the sample's, and the buffer begins with the sample's
+-- witness and has its other bytes as they were.
 abbrev pub SchemaGets : FileSample → Type 0
 SchemaGets s =
     (was is : List ℕ) (f : SchemaFile) → leastWitness ≤ length was → FileMeans (s .bytes) was is f
@@ -36,19 +34,16 @@ SchemaGets s =
 
 -- Whatever the event file's call gives under the schema value of the schema file's call, with a byte of the buffer for each type: number,
 -- place and count are the sample's, and the buffer begins with the sample's types and has its other bytes as they were.
-abbrev pub EventsGet : List ℕ → EventSample → Type 0
+abbrev pub EventsGet : FileSample → EventSample → Type 0
 EventsGet file s =
-    (was is : List ℕ) (f : SchemaFile) → leastWitness ≤ length was → FileMeans file was is f
+    (was is : List ℕ) (f : SchemaFile) → leastWitness ≤ length was → FileMeans (file .bytes) was is f
     → (lent after : List ℕ) (r : EventFile) → length (s .types) ≤ length lent → EventsMean (meaning (f .schema)) (s .bytes) lent after r
     → (r ≡ record { number = s .number; place = s .place; count = length (s .types) })
-    × (after ≡ s .types ++ drop (length (s .types)) lent)
-
-abbrev pub gets : List ℕ → FileAnswer → List ℕ → FileSample
-gets bytes answer witness = record { bytes = bytes; answer = answer; witness = witness }
+    × (after ≡ typeBytes (s .types) ++ drop (length (typeBytes (s .types))) lent)
 
 abbrev pub Holds : Sample → Type 0
 Holds (schemaFile s) = SchemaGets s
-Holds (eventFile file s) = SchemaGets (gets file Accepted []) × EventsGet file s
+Holds (eventFile file s) = SchemaGets file × EventsGet file s
 
 -- every sample of the list holds
 abbrev pub HoldAll : List Sample → Type 0
@@ -96,10 +91,10 @@ starred =
     eventFile fileR first
     ∷ eventFile fileR second
     ∷ eventFile fileR third
-    ∷ schemaFile (gets fileChoice (Refused 9 0) (0x00 ∷ 0x01 ∷ 0x02 ∷ 0x00 ∷ 0x00 ∷ []))
-    ∷ schemaFile (gets fileNoD Accepted [])
-    ∷ schemaFile (gets fileTwoWays (Refused 9 0) (0x00 ∷ 0x02 ∷ 0x03 ∷ 0x01 ∷ 0x00 ∷ 0x01 ∷ []))
-    ∷ schemaFile (gets fileTwoTypes Accepted [])
+    ∷ schemaFile fileChoice
+    ∷ schemaFile fileNoD
+    ∷ schemaFile fileTwoWays
+    ∷ schemaFile fileTwoTypes
     ∷ eventFile fileLastButOne eighth
     ∷ eventFile fileOptional ninth
-    ∷ schemaFile (gets fileEndless (Refused 8 0) []) ∷ []
+    ∷ schemaFile fileEndless ∷ []

@@ -1,8 +1,8 @@
 // The whole job: a schema file, and under an accepted one an event file.
 use reading::EventFile;
 use reading::read_events;
-use schema_file::FileAnswer;
 use schema_file::read;
+use sdtd::Verdict;
 ghost use Rattle.typing.specs.Job.{JobMeans};
 
 // The schema file's refusal, its number and place; or what the event file got.
@@ -19,8 +19,8 @@ pub fn type_document(file: &[u8], events: &[u8], witness: &mut [u8], types: &mut
     let told = read(file, witness);
     let answer = told.answer;
     match answer {
-        FileAnswer::Refused(n, p) => Job::SchemaRefused(n, p),
-        FileAnswer::Accepted => {
+        Verdict::RefusedAt(n, p) => Job::SchemaRefused(n, p),
+        Verdict::Fine => {
             let schema = told.schema;
             let got = read_events(schema, events, types);
             Job::EventsRead(got)

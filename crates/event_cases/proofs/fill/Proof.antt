@@ -1,4 +1,4 @@
--- `event_cases::fill` is safe and ends. The buffer keeps its length; the measure is what is left of it. Assumes nothing.
+-- `event_cases::fill` is safe and ends. The buffer keeps its length; the measure is what is left of it.
 use Prim.Native.Nat.{_-_}
 use borrow.Author.Needs.{needs}
 use mathlib.Core.Path.{_≡_, refl}

@@ -1,5 +1,4 @@
 -- `reading_cases::run_case` is safe and ends. The part lent has as many bytes as its count says, since the array is as long.
--- Assumes nothing.
 use borrow.Author.Needs.{needs}
 use mathlib.Core.Path.{sym}
 use lib.Seq.{length-take-le}

@@ -1,5 +1,4 @@
 -- `reading_cases::run_list` is safe and ends. The measure is the number of items left; nothing has to hold from turn to turn.
--- Assumes nothing.
 use Prim.Native.Nat.{_-_}
 use borrow.Author.Needs.{needs}
 use Rattle.reading_cases.proofs.run_list.Statement.{statement}

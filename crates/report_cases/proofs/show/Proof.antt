@@ -1,4 +1,4 @@
--- `report_cases::show` is safe and ends: the part written has as many bytes as the report's count says. Assumes nothing.
+-- `report_cases::show` is safe and ends: the part written has as many bytes as the report's count says.
 use borrow.Author.Needs.{needs}
 use mathlib.Core.Path.{sym}
 use lib.Seq.{length-take-le}

@@ -1,7 +1,5 @@
 -- `schema_file_cases::main` is safe and ends. The measure is the number of cases that may still come; nothing has to hold from turn to turn.
--- Assumes nothing.
-use Prim.Native.Nat.{_-_}
-use borrow.Author.Needs.{needs}
+use Prim.Native.Nat.{_-_, _^_}
 use native.Mathlib.Omega.{arith}
 use Rattle.schema_file_cases.proofs.main.Statement.{statement}
 use Rattle.schema_file_cases.proofs.main.Tie as tie
@@ -10,7 +8,7 @@ abbrev Inv-loop : tie.InvT-loop
 Inv-loop case₀ case = Unit {0}
 
 abbrev μ-loop : tie.MeasureT-loop
-μ-loop case₀ case = 65536 - case
+μ-loop case₀ case = 2 ^ 16 - case
 
 loop-holds : tie.Need-loop-holds Inv-loop μ-loop
 loop-holds c = tt

@@ -1,8 +1,8 @@
 -- `schema_file_cases::print_word` is safe and ends. The measure is what is left of the buffer; nothing has to hold from turn to turn.
--- Assumes nothing.
 use Prim.Native.Nat.{_-_}
 use borrow.Author.Needs.{needs}
 use native.Mathlib.Omega.{arith}
+use Rattle.competition.specs.Witness.{wordPlace}
 use Rattle.schema_file_cases.proofs.print_word.Statement.{statement}
 use Rattle.schema_file_cases.proofs.print_word.Tie as tie
 
@@ -10,7 +10,7 @@ abbrev Inv-loop : tie.InvT-loop
 Inv-loop buffer n i₀ i = Unit {0}
 
 abbrev μ-loop : tie.MeasureT-loop
-μ-loop buffer n i₀ i = 595 - i
+μ-loop buffer n i₀ i = 600 - wordPlace - i
 
 loop-holds : tie.Need-loop-holds Inv-loop μ-loop
 loop-holds c = tt

@@ -1,7 +1,5 @@
 -- `schema_file_cases::run_case` is safe and ends. Each part lent has as many bytes as its count says, since the array is as long.
--- Assumes nothing.
 use borrow.Author.Needs.{needs}
-use native.Mathlib.Omega.{arith}
 use mathlib.Core.Path.{sym}
 use lib.Seq.{length-take-le}
 use Rattle.schema_file_cases.proofs.run_case.Statement.{statement}

@@ -1,22 +1,23 @@
 -- `commands::commands::first_unknown` meets its contract. The loop's invariant: the steps left that name no given type are all of them.
-use mathlib.Core.Path.{_≡_, refl, sym, _∙_}
-use mathlib.Core.List.{List, []}
+use mathlib.Core.Path.{_≡_, refl, _∙_}
+use mathlib.Core.Logic.{inl, inr}
+use mathlib.Core.List.{List, [], cons≢nil}
 use Prim.Native.Nat.{ℕ, suc, _+_, _-_, _≤_, _<_}
 use native.Mathlib.Numerals.{add-one}
 use native.Mathlib.Omega.{arith}
 use borrow.Author.Tests.{lt-ltb, le-ltb}
-use lib.ListN.{length, getD}
-use Rattle.commands.specs.Tables.{unknownAt}
+use lib.ListN.{getD}
+use Rattle.sdtd.specs.declared.Verdict.the-variants.{RefusedAt}
+use Rattle.commands.specs.Progress.{unknownAt, KnownVerdict}
 use Rattle.commands.proofs.commands.first_unknown.Statement.{statement}
 use Rattle.commands.proofs.commands.first_unknown.Tie as tie
 
 module _ (by places : List ℕ) (types i : ℕ) where
-  here : (n : ℕ) → 0 < n → types ≤ getD by i 0
-      → (getD (unknownAt by places types i n) 0 0 ≡ getD places i 0) × (0 < length (unknownAt by places types i n))
+  here : (n : ℕ) → 0 < n → types ≤ getD by i 0 → KnownVerdict (unknownAt by places types i n) (RefusedAt 7 (getD places i 0))
   unfolding unknownAt
   here n l h =
       let e : n ≡ suc (n - 1) = omega arith in
-      rw (e, le-ltb (getD by i 0) types h) (refl, omega arith)
+      rw (e, le-ltb (getD by i 0) types h) (inl (cons≢nil, refl))
 
   later : (count : ℕ) → i < count → getD by i 0 < types
       → unknownAt by places types (i + 1) (count - (i + 1)) ≡ unknownAt by places types i (count - i)
@@ -64,7 +65,9 @@ loop-again : tie.Need-loop-again Inv-loop μ-loop
 loop-again c = (omega arith, later _ _ _ _ _ (omega arith) (c .if1 .left) ∙ c .before .before .before .before .loop .inv .1)
 
 returns-2 : tie.Need-returns-2 Inv-loop μ-loop
-returns-2 c = sym (c .before .loop .inv .1) ∙ none-left _ _ _ _ _ (omega arith)
+returns-2 c =
+    let a = c .before .before .args in
+    rw (← c .before .loop .inv .1, none-left (a .by .now) (a .places .now) (a .types) (c .before .loop .i) (a .count - c .before .loop .i) (omega arith)) (inr (refl, refl))
 
 pub first-unknown-spec : {M : Type 1} → statement M
 first-unknown-spec =

@@ -1,7 +1,7 @@
 -- `commands::tables::has_step` meets its contract. The loop's invariant: the step was found, or is one of those left, exactly where it is
 -- one of all.
-use mathlib.Core.Path.{_≡_, refl, sym, _∙_}
-use mathlib.Core.Bool.{Bool, true, false, _||_}
+use mathlib.Core.Path.{_≡_, sym, _∙_}
+use mathlib.Core.Bool.{Bool, _||_, or-assoc, or-false}
 use mathlib.Core.List.{List}
 use Prim.Native.Nat.{ℕ, suc, _+_, _-_, _≤_, _<_}
 use native.Mathlib.Numerals.{add-one}
@@ -9,17 +9,9 @@ use native.Mathlib.Omega.{arith}
 use borrow.Author.Needs.{needs}
 use Rattle.schema.specs.Value.{stepAt}
 use Rattle.commands.specs.File.{sameStep}
-use Rattle.commands.specs.Tables.{givenIn}
+use Rattle.commands.specs.Progress.{givenIn}
 use Rattle.commands.proofs.tables.has_step.Statement.{statement}
 use Rattle.commands.proofs.tables.has_step.Tie as tie
-
-or-step : (a b d : Bool) → ((a || b) || d) ≡ (a || (b || d))
-or-step true b d = refl
-or-step false b d = refl
-
-or-none : (a : Bool) → (a || false) ≡ a
-or-none true = refl
-or-none false = refl
 
 module _ (from by to : List ℕ) (p j q i : ℕ) (found : Bool) where
   later : (end : ℕ) → i < end
@@ -28,11 +20,11 @@ module _ (from by to : List ℕ) (p j q i : ℕ) (found : Bool) where
   unfolding givenIn
   later end l =
       let e : end - i ≡ suc (end - (i + 1)) = omega arith in
-      rw (e, add-one i) (or-step found _ _)
+      rw (e, add-one i) (or-assoc found _ _)
 
   none-left : (n : ℕ) → n ≡ 0 → (found || givenIn from by to p j q i n) ≡ found
   unfolding givenIn
-  none-left n e = rw e (or-none found)
+  none-left n e = rw e (or-false found)
 
 abbrev Inv-loop : tie.InvT-loop
 Inv-loop from by to start n p j q end found₀ i₀ found i =

@@ -5,6 +5,7 @@ use Prim.Native.Nat.{ℕ, _+_, _≤_, _<_}
 use lib.ListN.{getD, set}
 use borrow.Author.Needs.{needs}
 use borrow.Author.Tests.{lt-ltb, le-ltb}
+use Rattle.sdtd.specs.Limits.{mostPairs}
 use Rattle.sdtd.specs.Competition.{pairNumber}
 use Rattle.competition.specs.Marks.{Marks, markOf, entryOf}
 use Rattle.competition.specs.Marks.{marks}
@@ -17,15 +18,15 @@ unfolding markOf
 known m p q link n e t = rw (← e, t)
 
 -- a full queue takes no more
-full : (m : Marks) (p q link n : ℕ) → n ≡ pairNumber p q → getD (m .reached) n false ≡ false → 528 ≤ m .count → m ≡ markOf m p q link
+full : (m : Marks) (p q link n : ℕ) → n ≡ pairNumber p q → getD (m .reached) n false ≡ false → mostPairs ≤ m .count → m ≡ markOf m p q link
 unfolding markOf
-full m p q link n e t l = rw (← e, t, le-ltb (m .count) 528 l)
+full m p q link n e t l = rw (← e, t, le-ltb (m .count) mostPairs l)
 
 -- a new pair is marked and queued
-new : (m : Marks) (p q link n : ℕ) → n ≡ pairNumber p q → getD (m .reached) n false ≡ false → m .count < 528
+new : (m : Marks) (p q link n : ℕ) → n ≡ pairNumber p q → getD (m .reached) n false ≡ false → m .count < mostPairs
     → marks (set (m .reached) n true) (set (m .queue) (m .count) (entryOf p q link)) (m .count + 1) ≡ markOf m p q link
 unfolding markOf
-new m p q link n e t l = rw (← e, t, lt-ltb (m .count) 528 l)
+new m p q link n e t l = rw (← e, t, lt-ltb (m .count) mostPairs l)
 
 number-requires : tie.Need-number-requires
 number-requires c κs = search needs
@@ -46,20 +47,11 @@ returns-2 c =
 element-write-reached : tie.Need-element-write-reached
 element-write-reached c = search needs
 
+entry-of-requires : tie.Need-entry-of-requires
+entry-of-requires c κs = search needs
+
 mul-queue : tie.Need-mul-queue
 mul-queue c = search needs
-
-add-queue : tie.Need-add-queue
-add-queue c = search needs
-
-mul-queue-2 : tie.Need-mul-queue-2
-mul-queue-2 c = search needs
-
-add-queue-2 : tie.Need-add-queue-2
-add-queue-2 c = search needs
-
-mul-queue-3 : tie.Need-mul-queue-3
-mul-queue-3 c = search needs
 
 element-write-queue : tie.Need-element-write-queue
 element-write-queue c = search needs
@@ -69,8 +61,8 @@ add-result c = search needs
 
 returns-3 : tie.Need-returns-3
 returns-3 c =
-    let n = c .before .before .before .number in
-    new _ _ _ _ (n .result) (n .ensures .0) (c .before .if1 .left) (c .if2 .left)
+    let n = c .before .before .before .before .number in
+    rw (c .entry-of .ensures) (new _ _ _ _ (n .result) (n .ensures .0) (c .before .before .if1 .left) (c .before .if2 .left))
 
 pub mark-spec : {M : Type 1} → statement M
 mark-spec =
@@ -81,11 +73,8 @@ mark-spec =
     returns
     returns-2
     element-write-reached
+    entry-of-requires
     mul-queue
-    add-queue
-    mul-queue-2
-    add-queue-2
-    mul-queue-3
     element-write-queue
     add-result
     returns-3)

@@ -6,6 +6,7 @@ use Prim.Native.Nat.{ℕ, suc, _+_, _-_, _≤_, _<_}
 use native.Mathlib.Numerals.{add-one}
 use native.Mathlib.Omega.{arith}
 use borrow.Author.Needs.{needs}
+use Rattle.sdtd.specs.Limits.{mostStates}
 use Rattle.schema.specs.States.{member}
 use Rattle.competition.specs.Marks.{Marks, markRow, markProduct}
 use Rattle.competition.specs.Marks.{marks}
@@ -14,11 +15,11 @@ use Rattle.competition.proofs.marks.mark_product.Statement.{statement}
 use Rattle.competition.proofs.marks.mark_product.Tie as tie
 
 -- the row of one state, and then the others
-turn : (x y link s : ℕ) (m m′ r : Marks) → s < 32 → m′ ≡ cond (member s x) (markRow s y link 0 32 m) m
-    → markProduct x y link s (32 - s) m ≡ r → markProduct x y link (s + 1) (32 - (s + 1)) m′ ≡ r
+turn : (x y link s : ℕ) (m m′ r : Marks) → s < mostStates → m′ ≡ cond (member s x) (markRow s y link 0 mostStates m) m
+    → markProduct x y link s (mostStates - s) m ≡ r → markProduct x y link (s + 1) (mostStates - (s + 1)) m′ ≡ r
 unfolding markProduct
 turn x y link s m m′ r h e i =
-    let left : 32 - s ≡ suc (32 - (s + 1)) = omega arith in
+    let left : mostStates - s ≡ suc (mostStates - (s + 1)) = omega arith in
     rw (e, add-one s) (rw (left, add-one s) at i)
 
 done : (x y link s n : ℕ) (m : Marks) → n ≡ 0 → m ≡ markProduct x y link s n m
@@ -26,17 +27,18 @@ unfolding markProduct
 done x y link s n m e = rw e
 
 -- the empty set has no rows
-none : (x y link : ℕ) (m : Marks) → x ≡ 0 → m ≡ markProduct x y link 0 32 m
+none : (x y link : ℕ) (m : Marks) → x ≡ 0 → m ≡ markProduct x y link 0 mostStates m
 unfolding markProduct
 none x y link m e = rw e
 
 abbrev Inv-loop : tie.InvT-loop
-Inv-loop reached₀ queue₀ count left right link found₀ p₀ reached queue found p =
-    (p ≤ 32)
-    × (markProduct left right link p (32 - p) (marks reached queue found) ≡ markProduct left right link 0 32 (marks reached₀ queue₀ count))
+Inv-loop reached₀ queue₀ count left right link queued₀ p₀ reached queue queued p =
+    (p ≤ mostStates)
+    × (markProduct left right link p (mostStates - p) (marks reached queue queued)
+    ≡ markProduct left right link 0 mostStates (marks reached₀ queue₀ count))
 
 abbrev μ-loop : tie.MeasureT-loop
-μ-loop reached₀ queue₀ count left right link found₀ p₀ reached queue found p = 32 - p
+μ-loop reached₀ queue₀ count left right link queued₀ p₀ reached queue queued p = mostStates - p
 
 loop-holds : tie.Need-loop-holds Inv-loop μ-loop
 loop-holds c = (omega arith, refl)

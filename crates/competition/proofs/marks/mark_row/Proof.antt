@@ -6,6 +6,7 @@ use Prim.Native.Nat.{ℕ, suc, _+_, _-_, _≤_, _<_}
 use native.Mathlib.Numerals.{add-one}
 use native.Mathlib.Omega.{arith}
 use borrow.Author.Needs.{needs}
+use Rattle.sdtd.specs.Limits.{mostStates}
 use Rattle.schema.specs.States.{member}
 use Rattle.competition.specs.Marks.{Marks, markOf, markRow}
 use Rattle.competition.specs.Marks.{marks}
@@ -14,11 +15,11 @@ use Rattle.competition.proofs.marks.mark_row.Statement.{statement}
 use Rattle.competition.proofs.marks.mark_row.Tie as tie
 
 -- one state of the row, and then the others
-turn : (p y link s : ℕ) (m m′ x : Marks) → s < 32 → m′ ≡ cond (member s y) (markOf m p s link) m
-    → markRow p y link s (32 - s) m ≡ x → markRow p y link (s + 1) (32 - (s + 1)) m′ ≡ x
+turn : (p y link s : ℕ) (m m′ x : Marks) → s < mostStates → m′ ≡ cond (member s y) (markOf m p s link) m
+    → markRow p y link s (mostStates - s) m ≡ x → markRow p y link (s + 1) (mostStates - (s + 1)) m′ ≡ x
 unfolding markRow
 turn p y link s m m′ x h e i =
-    let left : 32 - s ≡ suc (32 - (s + 1)) = omega arith in
+    let left : mostStates - s ≡ suc (mostStates - (s + 1)) = omega arith in
     rw (e, add-one s) (rw (left, add-one s) at i)
 
 done : (p y link s n : ℕ) (m : Marks) → n ≡ 0 → m ≡ markRow p y link s n m
@@ -26,11 +27,13 @@ unfolding markRow
 done p y link s n m e = rw e
 
 abbrev Inv-loop : tie.InvT-loop
-Inv-loop reached₀ queue₀ count p right link found₀ q₀ reached queue found q =
-    (q ≤ 32) × (markRow p right link q (32 - q) (marks reached queue found) ≡ markRow p right link 0 32 (marks reached₀ queue₀ count))
+Inv-loop reached₀ queue₀ count p right link queued₀ q₀ reached queue queued q =
+    (q ≤ mostStates)
+    × (markRow p right link q (mostStates - q) (marks reached queue queued)
+    ≡ markRow p right link 0 mostStates (marks reached₀ queue₀ count))
 
 abbrev μ-loop : tie.MeasureT-loop
-μ-loop reached₀ queue₀ count p right link found₀ q₀ reached queue found q = 32 - q
+μ-loop reached₀ queue₀ count p right link queued₀ q₀ reached queue queued q = mostStates - q
 
 loop-holds : tie.Need-loop-holds Inv-loop μ-loop
 loop-holds c = (omega arith, refl)

@@ -10,19 +10,20 @@ mul-entry c = search needs
 element-copy-out-entry : tie.Need-element-copy-out-entry
 element-copy-out-entry c = search needs
 
-cast-p : tie.Need-cast-p
-cast-p c = search needs
+first-of-requires : tie.Need-first-of-requires
+first-of-requires c κs = search needs
 
-cast-q : tie.Need-cast-q
-cast-q c = search needs
+second-of-requires : tie.Need-second-of-requires
+second-of-requires c κs = search needs
 
 mark-types-requires : tie.Need-mark-types-requires
 mark-types-requires c κs = search needs
 
 returns : tie.Need-returns
 unfolding markStep
-returns c = c .mark-types .ensures
+returns c =
+    rw (c .before .before .before .before .first-of .ensures, c .before .before .before .second-of .ensures) at (c .mark-types .ensures)
 
 pub search-step-spec : {M : Type 1} → statement M
 search-step-spec =
-    tie.close (tie.spec mul-entry element-copy-out-entry cast-p cast-q mark-types-requires returns)
+    tie.close (tie.spec mul-entry element-copy-out-entry first-of-requires second-of-requires mark-types-requires returns)

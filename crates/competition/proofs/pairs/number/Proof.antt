@@ -1,18 +1,19 @@
 -- `competition::pairs::number` meets its contract: each arm has the larger state's row and the smaller state.
 use mathlib.Core.Path.{_≡_, _∙_}
-use Prim.Native.Nat.{ℕ, _+_, _*_, _/_, _≤_, _<_, min, max}
+use Prim.Native.Nat.{ℕ, _+_, _-_, _*_, _/_, _≤_, _<_, min, max}
 use native.Mathlib.Nat.{mul-le-mul}
 use native.Mathlib.Omega.{arith}
 use borrow.Author.Needs.{needs}
+use Rattle.sdtd.specs.Limits.{mostStates, mostPairs}
 use Rattle.sdtd.specs.Competition.{pairNumber}
 use Rattle.sdtd.proofs.Pairs.{pair-swap-number, pair-below-most}
 use Rattle.competition.proofs.pairs.number.Statement.{statement}
 use Rattle.competition.proofs.pairs.number.Tie as tie
 
-small : (p : ℕ) → p < 32 → p * (p + 1) ≤ 31 * 32
+small : (p : ℕ) → p < mostStates → p * (p + 1) ≤ (mostStates - 1) * mostStates
 small p h =
-    let below : p ≤ 31 = omega arith in
-    let next : p + 1 ≤ 32 = omega arith in
+    let below : p ≤ mostStates - 1 = omega arith in
+    let next : p + 1 ≤ mostStates = omega arith in
     mul-le-mul below next
 
 ordered : (q p : ℕ) → q ≤ p → p * (p + 1) / 2 + q ≡ pairNumber q p
@@ -22,7 +23,7 @@ ordered q p h =
     rw (large, least)
 
 -- what both arms return, for q the smaller state
-numbered : (q p : ℕ) → q ≤ p → p < 32 → (p * (p + 1) / 2 + q ≡ pairNumber q p) × (p * (p + 1) / 2 + q < 528)
+numbered : (q p : ℕ) → q ≤ p → p < mostStates → (p * (p + 1) / 2 + q ≡ pairNumber q p) × (p * (p + 1) / 2 + q < mostPairs)
 numbered q p h b = (ordered q p h, rw ordered (pair-below-most q p (omega arith) b))
 
 add-result : tie.Need-add-result

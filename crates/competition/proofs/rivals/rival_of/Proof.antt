@@ -1,5 +1,5 @@
 -- `competition::rivals::rival_of` meets its contract. The loop's invariant: no type before i is a rival. The measure is what is left of the
--- types. Assumes nothing.
+-- types.
 use mathlib.Core.Path.{sym, _∙_}
 use mathlib.Core.Logic.{⊎-elim}
 use Prim.Native.Nat.{ℕ, _-_, _≤_, _<_}

@@ -1,5 +1,5 @@
 -- `competition::rivals::rivals_at` meets its contract. The loop's invariant: no type before i has a rival. The measure is what is left of the
--- types. Assumes nothing.
+-- types.
 use mathlib.Core.Logic.{⊎-elim}
 use Prim.Native.Nat.{ℕ, _-_, _≤_, _<_}
 use native.Mathlib.Omega.{arith}

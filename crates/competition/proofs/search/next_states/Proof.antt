@@ -1,5 +1,5 @@
 -- `competition::search::next_states` meets its contract. The loop's invariant: the steps from i on give what all the steps give.
-use mathlib.Core.Path.{_≡_, _∙_}
+use mathlib.Core.Path.{_≡_, refl, _∙_}
 use mathlib.Core.List.{List}
 use Prim.Native.Nat.{ℕ, suc, _+_, _-_, _≤_, _<_}
 use native.Mathlib.Nat.{add-sub-cancel-left}
@@ -7,7 +7,7 @@ use native.Mathlib.Numerals.{add-one}
 use native.Mathlib.Omega.{arith}
 use borrow.Author.Needs.{needs}
 use Rattle.schema.specs.Value.{upFrom, stepAt, stepsOf}
-use Rattle.competition.specs.Marks.{nextStep, nextSteps}
+use Rattle.competition.specs.Tables.{nextStep, nextSteps}
 use Rattle.schema.proofs.Values.{steps-cons}
 use Rattle.competition.proofs.search.next_states.Statement.{statement}
 use Rattle.competition.proofs.search.next_states.Tie as tie
@@ -25,23 +25,23 @@ unfolding nextSteps stepsOf upFrom
 done from by to i n t e = rw e
 
 abbrev Inv-loop : tie.InvT-loop
-Inv-loop from by to start n next₀ end i₀ next i =
-    (i ≤ end) × (nextSteps (stepsOf from by to i (end - i)) next ≡ nextSteps (stepsOf from by to start n) next₀)
+Inv-loop from by to next₀ end i₀ next i =
+    (i ≤ end) × (nextSteps (stepsOf from by to i (end - i)) next ≡ nextSteps (stepsOf from by to i₀ (end - i₀)) next₀)
 
 abbrev μ-loop : tie.MeasureT-loop
-μ-loop from by to start n next₀ end i₀ next i = end - i
+μ-loop from by to next₀ end i₀ next i = end - i
 
 add-end : tie.Need-add-end Inv-loop μ-loop
 add-end c = omega arith
 
 loop-holds : tie.Need-loop-holds Inv-loop μ-loop
-loop-holds c = (omega arith, rw add-sub-cancel-left)
+loop-holds c = (omega arith, refl)
 
 element-copy-out-next-step : tie.Need-element-copy-out-next-step Inv-loop μ-loop
 element-copy-out-next-step c = omega arith
 
-element-copy-out-t18 : tie.Need-element-copy-out-t18 Inv-loop μ-loop
-element-copy-out-t18 c = omega arith
+element-copy-out-t17 : tie.Need-element-copy-out-t17 Inv-loop μ-loop
+element-copy-out-t17 c = omega arith
 
 element-copy-out-next-step-2 : tie.Need-element-copy-out-next-step-2 Inv-loop μ-loop
 element-copy-out-next-step-2 c = omega arith
@@ -61,7 +61,7 @@ loop-again c =
     (omega arith, turn _ _ _ _ _ _ _ _ (omega arith) (c .next-step .ensures) (l .inv .1))
 
 returns : tie.Need-returns Inv-loop μ-loop
-returns c = done _ _ _ _ _ _ (omega arith) ∙ c .before .loop .inv .1
+returns c = rw add-sub-cancel-left at (done _ _ _ _ _ _ (omega arith) ∙ c .before .loop .inv .1)
 
 pub next-states-spec : {M : Type 1} → statement M
 next-states-spec =
@@ -72,7 +72,7 @@ next-states-spec =
     add-end
     loop-holds
     element-copy-out-next-step
-    element-copy-out-t18
+    element-copy-out-t17
     element-copy-out-next-step-2
     next-step-requires
     add-i

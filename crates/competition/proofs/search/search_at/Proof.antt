@@ -1,23 +1,40 @@
 -- `competition::search::search_at` meets its contract. A type that is not reached, or bears no tree, is not useful; of another the
 -- search tells.
-use mathlib.Core.Bool.{Bool, false}
+use mathlib.Core.Path.{_≡_}
+use mathlib.Core.Bool.{false, true, not}
 use mathlib.Core.List.{List}
 use Prim.Native.Nat.{ℕ}
 use lib.Dec.{T}
 use lib.ListN.{getD}
 use borrow.Author.Needs.{needs}
 use borrow.Author.Tests.{not-true, not-false}
-use Rattle.competition.specs.Queue.{FoundMeans, SearchedAt, isUseful}
-use Rattle.competition.specs.declared.search.Found.{Found}
-use Rattle.competition.specs.declared.search.Found.the-variants.{At, Nowhere}
+use Rattle.schema.specs.States.{bearsIn}
+use Rattle.competition.specs.Queue.{PairFoundMeans, SearchedAt, isUseful, RestrainedIn}
+use Rattle.competition.specs.declared.tables.TypeTables.{TypeTables}
+use Rattle.competition.specs.declared.search.PairFound.{PairFound}
+use Rattle.competition.specs.declared.search.PairFound.the-variants.{At, Nowhere}
 use Rattle.competition.proofs.search.search_at.Statement.{statement}
 use Rattle.competition.proofs.search.search_at.Tie as tie
 
--- what the search of a useful type finds
-useful-searched : (next live tag : List ℕ) (reached : List Bool) (types a : ℕ) (queue : List ℕ) (r : Found) → T (isUseful live reached a)
-    → FoundMeans next live tag (getD live a 0) types queue r → SearchedAt next live tag reached types a queue r
-useful-searched next live tag reached types a queue (At at j k) t f = record { useful = t; found = f }
-useful-searched next live tag reached types a queue Nowhere t f = λ u. f
+module _ (next : List ℕ) (t : TypeTables) (a : ℕ) where
+  -- of a type that is not reached there is nothing to show
+  unreached : not (getD (t .reached) a false) ≡ true → RestrainedIn next t a
+  unreached e u = absurd (rw (not-true (getD (t .reached) a false) e) at u)
+
+  module _ (reached : not (getD (t .reached) a false) ≡ false) where
+    -- nor of a reached one that bears no tree
+    treeless : not (bearsIn (t .bears) a) ≡ true → RestrainedIn next t a
+    treeless e u =
+        absurd (rw (not-false (getD (t .reached) a false) reached, not-true (bearsIn (t .bears) a) e) at u)
+
+    useful : not (bearsIn (t .bears) a) ≡ false → T (isUseful t a)
+    useful e = rw (not-false (getD (t .reached) a false) reached, not-false (bearsIn (t .bears) a) e) tt
+
+  -- what the search of a useful type finds
+  searched : (queue : List ℕ) (r : PairFound) → T (isUseful t a)
+      → PairFoundMeans next (t .bears) (t .tag) (getD (t .live) a 0) (t .types) queue r → SearchedAt next t a queue r
+  searched queue (At at j k) u f = record { useful = u; to-rivals = f }
+  searched queue Nowhere u f = λ v. f
 
 cast-i : tie.Need-cast-i
 cast-i c = search needs
@@ -26,29 +43,22 @@ element-copy-out-if1 : tie.Need-element-copy-out-if1
 element-copy-out-if1 c = search needs
 
 returns : tie.Need-returns
-returns c t =
-    let a = c .before .before .before .args in
-    absurd (rw (not-true (getD (a .reached .now) (a .a .0) false) (c .if1 .taken)) at t)
+returns c = unreached _ (c .before .before .before .args .t5) (c .before .before .before .args .a .0) (c .if1 .taken)
+
+bears-in-requires : tie.Need-bears-in-requires
+bears-in-requires c κs = search needs
+
+returns-2 : tie.Need-returns-2
+returns-2 c =
+    let e = c .before .before .before .before in
+    let a = e .before .before .before .args in
+    treeless _ (a .t5) (a .a .0) (e .if1 .left) (rw (c .before .bears-in .ensures) at (c .if2 .taken))
 
 mul-own : tie.Need-mul-own
 mul-own c = search needs
 
 element-copy-out-own : tie.Need-element-copy-out-own
 element-copy-out-own c = search needs
-
-has-requires : tie.Need-has-requires
-has-requires c κs = search needs
-
-returns-2 : tie.Need-returns-2
-returns-2 c t =
-    let h = c .before in
-    let a = h .before .before .before .before .before .args in
-    absurd
-    (rw (
-      not-false (getD (a .reached .now) (a .a .0) false) (h .before .before .if1 .left),
-      ← h .has .ensures,
-      not-true (h .has .result) (c .if2 .taken),
-    ) at t)
 
 next-states-requires : tie.Need-next-states-requires
 next-states-requires c κs = search needs
@@ -58,19 +68,13 @@ search-type-requires c κs = search needs
 
 returns-3 : tie.Need-returns-3
 returns-3 c =
-    let n = c .before .before .before in
-    let h = n .before .before in
-    let a = h .before .before .before .before .before .args in
-    let t : T (isUseful (a .live .now) (a .reached .now) (a .a .0)) =
-    rw (
-      not-false (getD (a .reached .now) (a .a .0) false) (h .before .before .if1 .left),
-      ← h .has .ensures,
-      not-false (h .has .result) (n .before .if2 .left),
-    ) tt
-    in
-    rw (← n .next-states .ensures)
-    (useful-searched (n .next-states .result) (a .live .now) (a .tag .now) (a .reached .now) (a .types) (a .a .0) _ (c .search-type .result) t
-    (c .search-type .ensures))
+    let n = c .before .before .before .before .before .before .next-states in
+    let b = c .before .before .before .before .before .before .before .before in
+    let e = b .before .before .before .before in
+    let a = e .before .before .before .args in
+    rw (← n .ensures)
+    (searched (n .result) (a .t5) (a .a .0) _ (c .search-type .result)
+    (useful (n .result) (a .t5) (a .a .0) (e .if1 .left) (rw (b .before .bears-in .ensures) at (b .if2 .left))) (c .search-type .ensures))
 
 pub search-at-spec : {M : Type 1} → statement M
 search-at-spec =
@@ -79,10 +83,10 @@ search-at-spec =
     cast-i
     element-copy-out-if1
     returns
+    bears-in-requires
+    returns-2
     mul-own
     element-copy-out-own
-    has-requires
-    returns-2
     next-states-requires
     search-type-requires
     returns-3)

@@ -1,11 +1,12 @@
 -- `competition::search::search_type` meets its contract. The loop's invariant: the pairs of the entries before the place `at` are done.
--- The measure is what is left of the 528 places.
+-- The measure is what is left of the queue's places.
 use Prim.Native.Nat.{_-_}
 use native.Mathlib.Numerals.{add-one}
 use native.Mathlib.Omega.{arith}
 use borrow.Author.Needs.{needs}
+use Rattle.sdtd.specs.Limits.{mostPairs}
 use Rattle.competition.specs.Marks.{marks}
-use Rattle.competition.proofs.Queues.{SearchInv, search-first, search-next, search-done, search-found}
+use Rattle.competition.proofs.Queues.{SearchInv, search-first, search-next, search-done, search-rivals}
 use Rattle.competition.proofs.search.search_type.Statement.{statement}
 use Rattle.competition.proofs.search.search_type.Tie as tie
 
@@ -14,7 +15,7 @@ Inv-loop next bears tag own types queue₀ reached₀ count₀ at₀ queue reach
     SearchInv next bears tag own types at (marks reached queue count)
 
 abbrev μ-loop : tie.MeasureT-loop
-μ-loop next bears tag own types queue₀ reached₀ count₀ at₀ queue reached count at = 528 - at
+μ-loop next bears tag own types queue₀ reached₀ count₀ at₀ queue reached count at = mostPairs - at
 
 array-write-reached : tie.Need-array-write-reached Inv-loop μ-loop
 array-write-reached c = search needs
@@ -22,7 +23,7 @@ array-write-reached c = search needs
 slice-write-entries : tie.Need-slice-write-entries Inv-loop μ-loop
 slice-write-entries c = omega arith
 
--- that the array behind the reference has 528 elements is known from its use as a slice
+-- that the array behind the reference has its elements is known from its use as a slice
 loop-holds : tie.Need-loop-holds Inv-loop μ-loop
 loop-holds c = search-first (c .before .args .queue .now) (c .entries .given .0 .1)
 
@@ -32,11 +33,11 @@ mul-entry c = omega arith
 element-copy-out-entry : tie.Need-element-copy-out-entry Inv-loop μ-loop
 element-copy-out-entry c = omega arith
 
-cast-p : tie.Need-cast-p Inv-loop μ-loop
-cast-p c = omega arith
+first-of-requires : tie.Need-first-of-requires Inv-loop μ-loop
+first-of-requires c κs = tt
 
-cast-q : tie.Need-cast-q Inv-loop μ-loop
-cast-q c = omega arith
+second-of-requires : tie.Need-second-of-requires Inv-loop μ-loop
+second-of-requires c κs = tt
 
 rivals-at-requires : tie.Need-rivals-at-requires Inv-loop μ-loop
 rivals-at-requires c κs = omega arith
@@ -47,8 +48,9 @@ enum-known-rivals c = c .match .keys1
 returns : tie.Need-returns Inv-loop μ-loop
 returns c =
     let r = c .before .before .before in
-    let l = r .before .before .before .loop in
-    search-found (l .inv) (r .before .before .loop-test .taken) (rw (c .before .rivals .given .1) at (r .rivals-at .ensures))
+    let l = r .before .before .before .before .before .loop in
+    search-rivals (l .inv) (r .before .before .before .before .loop-test .taken)
+    (rw (r .before .before .first-of .ensures, r .before .second-of .ensures, c .before .rivals .given .1) at (r .rivals-at .ensures))
 
 enum-told : tie.Need-enum-told Inv-loop μ-loop
 enum-told c = c .match .keys2
@@ -66,10 +68,14 @@ loop-again : tie.Need-loop-again Inv-loop μ-loop
 loop-again c =
     let s = c .before .search-step in
     let r = c .before .before .before .before .before in
-    let l = r .before .before .before .loop in
+    let l = r .before .before .before .before .before .loop in
     rw (add-one, s .ensures)
-    (search-next (l .inv) (r .before .before .loop-test .taken) (omega arith)
-    (rw (c .before .before .before .enum-told .given .1) at (r .rivals-at .ensures)))
+    (search-next (l .inv) (r .before .before .before .before .loop-test .taken) (omega arith)
+    (rw (
+      r .before .before .first-of .ensures,
+      r .before .second-of .ensures,
+      c .before .before .before .enum-told .given .1,
+    ) at (r .rivals-at .ensures)))
 
 returns-2 : tie.Need-returns-2 Inv-loop μ-loop
 returns-2 c = (c .before .loop .reached, search-done (c .before .loop .inv) (c .loop-test .left))
@@ -85,8 +91,8 @@ search-type-spec =
     loop-holds
     mul-entry
     element-copy-out-entry
-    cast-p
-    cast-q
+    first-of-requires
+    second-of-requires
     rivals-at-requires
     enum-known-rivals
     returns

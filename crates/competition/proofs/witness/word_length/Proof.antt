@@ -1,5 +1,5 @@
 -- `competition::witness::word_length` meets its contract. The loop's invariant: i is at most `at`, and what is counted so far and the length
--- of the word to i are together the length of the word to `at`. The measure is i. Assumes nothing.
+-- of the word to i are together the length of the word to `at`. The measure is i.
 use mathlib.Core.Path.{_≡_}
 use Prim.Native.Nat.{_+_, _≤_}
 use native.Mathlib.Omega.{arith}
@@ -23,25 +23,25 @@ back-from c =
 loop-holds : tie.Need-loop-holds Inv-loop μ-loop
 loop-holds c = omega arith
 
-mul-i : tie.Need-mul-i Inv-loop μ-loop
-mul-i c = omega arith
+mul-parent-of : tie.Need-mul-parent-of Inv-loop μ-loop
+mul-parent-of c = omega arith
 
-element-copy-out-i : tie.Need-element-copy-out-i Inv-loop μ-loop
-element-copy-out-i c = omega arith
+element-copy-out-parent-of : tie.Need-element-copy-out-parent-of Inv-loop μ-loop
+element-copy-out-parent-of c = omega arith
 
-cast-i : tie.Need-cast-i Inv-loop μ-loop
-cast-i c = omega (arith, back-from (c .before))
+parent-of-requires : tie.Need-parent-of-requires Inv-loop μ-loop
+parent-of-requires c κs = tt
 
 add-n : tie.Need-add-n Inv-loop μ-loop
 add-n c =
-    let a = c .before .before .before .args in
+    let a = c .before .before .before .before .args in
     omega (arith, word-short (a .queue .now) (a .at) (a .at))
 
 loop-less : tie.Need-loop-less Inv-loop μ-loop
-loop-less c = back-from (c .before) .earlier
+loop-less c = rw (c .parent-of .ensures) (back-from (c .before .before) .earlier)
 
 loop-again : tie.Need-loop-again Inv-loop μ-loop
-loop-again c = omega (arith, back-from (c .before))
+loop-again c = rw (c .parent-of .ensures) (omega (arith, back-from (c .before .before)))
 
 returns : tie.Need-returns Inv-loop μ-loop
 returns c =
@@ -56,9 +56,9 @@ word-length-spec =
     Inv-loop
     μ-loop
     loop-holds
-    mul-i
-    element-copy-out-i
-    cast-i
+    mul-parent-of
+    element-copy-out-parent-of
+    parent-of-requires
     add-n
     loop-less
     loop-again

@@ -1,4 +1,4 @@
--- `competition::witness::write_rivals` meets its contract. Assumes nothing.
+-- `competition::witness::write_rivals` meets its contract.
 use mathlib.Core.Path.{_≡_, sym, _∙_}
 use Prim.Native.Nat.{min, max}
 use native.Mathlib.Omega.{arith}

@@ -1,5 +1,4 @@
 -- `show::first_change` is safe and ends. The measure is what is left of the buffer; nothing has to hold from turn to turn.
--- Assumes nothing.
 use Prim.Native.Nat.{_-_}
 use borrow.Author.Needs.{needs}
 use lib.ListN.{length}

@@ -1,5 +1,4 @@
 -- `show::show_types` is safe and ends. The measure is the number of types left; nothing has to hold from turn to turn.
--- Assumes nothing.
 use Prim.Native.Nat.{_-_}
 use borrow.Author.Needs.{needs}
 use Rattle.event_cases.proofs.show.show_types.Statement.{statement}

@@ -1,60 +1,75 @@
--- `reading::coming::join` meets its contract: its two comparisons decide as the definition's.
-use mathlib.Core.Path.{_≡_, sym, _∙_}
-use mathlib.Core.Bool.{true, false}
-use Prim.Native.Nat.{ℕ}
+-- `reading::coming::join` meets its contract.
+use mathlib.Core.Path.{_≡_, refl, sym, _∙_}
+use mathlib.Core.Bool.{Bool, true, false, true≢false, cond, not, _&&_, _||_}
+use Prim.Native.Nat.{ℕ, _<_}
+use native.Mathlib.Decide.{decLe}
 use native.Mathlib.Omega.{arith}
-use borrow.Author.Needs.{needs}
-use borrow.Author.Tests.{eqb-true, eqb-false, ltb-false, lt-ltb, le-ltb}
 use lib.Dec.{eqb, ltb}
-use Rattle.reading.specs.Coming.{join}
+use borrow.Author.Needs.{needs}
+use borrow.Author.Tests.{eq-eqb, ltb-true, ltb-false, lt-ltb, le-ltb}
+use Rattle.schema.specs.States.{insert, noStates}
+use Rattle.reading.specs.declared.coming.Least.{Least}
+use Rattle.reading.specs.Coming.{least, join}
 use Rattle.reading.proofs.coming.join.Statement.{statement}
 use Rattle.reading.proofs.coming.join.Tie as tie
 
--- one of two types is the smaller, or they are the same
-even : (j k : ℕ) → eqb j k ≡ true → (ltb j k ≡ false) × (ltb k j ≡ false)
-even j k e = let s = eqb-true j k e in (le-ltb j k (omega arith), le-ltb k j (omega arith))
+-- is a smaller type there, by the three tests?
+abbrev smaller : Bool → Bool → Bool → Bool
+smaller a k l = not a && (not k && l)
 
-larger : (j k : ℕ) → eqb j k ≡ false → ltb j k ≡ false → ltb k j ≡ true
-larger j k d l =
-    let n = eqb-false j k d in
-    let m = ltb-false j k l in
-    lt-ltb k j (omega arith)
+-- by the tests: the same type, none kept yet, a smaller type kept, a larger one kept
+stays-by : (c : Least) (j q : ℕ) (a k l m : Bool) → (l ≡ true → m ≡ false) → smaller a k l ≡ true
+    → c ≡ cond a (least j (insert q (c .kept))) (cond (k || m) (least j (insert q noStates)) c)
+stays-by c j q true k l m f e = absurd (true≢false (sym e))
+stays-by c j q false true l m f e = absurd (true≢false (sym e))
+stays-by c j q false false l true f e = absurd (true≢false (f e))
+stays-by c j q false false l false f e = refl
 
-same-requires : tie.Need-same-requires
-same-requires c κs = search needs
+grows-by : (c : Least) (j q : ℕ) (a k l m : Bool) → (a ≡ false → l ≡ false → m ≡ true) → smaller a k l ≡ false
+    → least j (insert q (cond a (c .kept) noStates)) ≡ cond a (least j (insert q (c .kept))) (cond (k || m) (least j (insert q noStates)) c)
+grows-by c j q true k l m f e = refl
+grows-by c j q false true l m f e = refl
+grows-by c j q false false l true f e = refl
+grows-by c j q false false l false f e = absurd (true≢false (sym (f refl e)))
+
+module _ (c : Least) (j q : ℕ) where
+  stays : smaller (eqb j (c .of .0)) (eqb (c .kept) noStates) (ltb (c .of .0) j) ≡ true → c ≡ join c j q
+  unfolding join
+  stays e =
+      stays-by c j q (eqb j (c .of .0)) (eqb (c .kept) noStates) (ltb (c .of .0) j) (ltb j (c .of .0))
+      (λ l. let below = ltb-true (c .of .0) j l in le-ltb j (c .of .0) (omega arith)) e
+
+  larger : eqb j (c .of .0) ≡ false → ltb (c .of .0) j ≡ false → j < c .of .0
+  larger a l =
+      elim (decLe (c .of .0) j) [
+        | yes h ↦ let least = ltb-false (c .of .0) j l in absurd (true≢false (sym (eq-eqb j (c .of .0) (omega arith)) ∙ a))
+        | no h ↦ omega arith
+      ]
+
+  grows : smaller (eqb j (c .of .0)) (eqb (c .kept) noStates) (ltb (c .of .0) j) ≡ false
+      → least j (insert q (cond (eqb j (c .of .0)) (c .kept) noStates)) ≡ join c j q
+  unfolding join
+  grows e =
+      grows-by c j q (eqb j (c .of .0)) (eqb (c .kept) noStates) (ltb (c .of .0) j) (ltb j (c .of .0))
+      (λ a l. lt-ltb j (c .of .0) (larger a l)) e
+
+smaller-there-requires : tie.Need-smaller-there-requires
+smaller-there-requires c κs = search needs
+
+returns : tie.Need-returns
+returns c = stays _ _ _ (sym (c .before .smaller-there .ensures) ∙ c .if1 .taken)
+
+kept-for-requires : tie.Need-kept-for-requires
+kept-for-requires c κs = search needs
 
 with-requires : tie.Need-with-requires
 with-requires c κs = search needs
 
-returns : tie.Need-returns
-unfolding join
-returns c =
-    let s = c .before .before in
-    let a = s .before .before .args in
-    let e = even (a .j .0) (a .best .of .0) (sym (s .same .ensures) ∙ c .before .if1 .taken) in
-    rw (e .0, e .1, c .with .ensures)
-
-before-requires : tie.Need-before-requires
-before-requires c κs = search needs
-
-with-requires-2 : tie.Need-with-requires-2
-with-requires-2 c κs = search needs
-
 returns-2 : tie.Need-returns-2
-unfolding join
 returns-2 c =
-    let b = c .before .before in
-    rw (sym (b .before2 .ensures) ∙ c .before .if2 .taken, c .with2 .ensures)
-
-returns-3 : tie.Need-returns-3
-unfolding join
-returns-3 c =
-    let b = c .before in
-    let d = b .before in
-    let l = sym (b .before2 .ensures) ∙ c .if2 .left in
-    let a = d .before .before .before .args in
-    rw (l, larger (a .j .0) (a .best .of .0) (sym (d .before .same .ensures) ∙ d .if1 .left) l)
+    let k = c .before in
+    let e = k .before in
+    rw (c .with .ensures, k .kept-for .ensures) (grows _ _ _ (sym (e .before .smaller-there .ensures) ∙ e .if1 .left))
 
 pub join-spec : {M : Type 1} → statement M
-join-spec =
-    tie.close (tie.spec same-requires with-requires returns before-requires with-requires-2 returns-2 returns-3)
+join-spec = tie.close (tie.spec smaller-there-requires returns kept-for-requires with-requires returns-2)

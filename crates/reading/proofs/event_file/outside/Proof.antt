@@ -3,10 +3,10 @@ use mathlib.Core.Path.{_≡_, refl, sym, ap, _∙_}
 use mathlib.Core.List.{[], _∷_}
 use types.Run.{OneOf, miss}
 use denote.Enum.Declared.{tagOf}
-use Rattle.reading.specs.declared.events.FileEvent.{FileEvent}
-use Rattle.reading.specs.declared.events.FileEvent.the-variants.{Open, Close, Finish, NoEvent}
+use Rattle.events.specs.declared.decoder.FileEvent.{FileEvent}
+use Rattle.events.specs.declared.decoder.FileEvent.the-variants.{Open, Close, Finish, NoEvent}
 use Rattle.reading.specs.Turns.{outsideNumber}
-use Rattle.reading.proofs.events.FileEvent.{the-type}
+use Rattle.events.proofs.decoder.FileEvent.{the-type}
 use borrow.Author.Needs.{needs}
 use Rattle.reading.proofs.event_file.outside.Statement.{statement}
 use Rattle.reading.proofs.event_file.outside.Tie as tie

@@ -1,96 +1,134 @@
 -- `reading::event_file::read_events` meets its contract. The loop's invariant: the walk is sound. The measure is what is left of the file.
-use mathlib.Core.Path.{_≡_, refl}
+use mathlib.Core.Path.{refl}
 use Prim.Native.Nat.{ℕ}
+use native.Mathlib.Omega.{arith}
 use borrow.Author.Needs.{needs}
-use lib.ListN.{length, getD}
+use lib.ListN.{getD}
 use mir.Syntax.{w32}
 use mir.Val.{Fits as FitsIn}
-use Rattle.sdtd.specs.Limits.{mostSteps}
 use Rattle.sdtd.specs.Schema.{WithinLimits}
 use Rattle.schema.specs.Value.{meaning}
 use Rattle.schema.specs.declared.value.Schema.{Schema}
 use Rattle.schema.proofs.FirstTables.{Fits}
-use Rattle.schema.proofs.LimitLaws.{passed}
-use Rattle.reading.specs.declared.examined.Examined.{Examined}
-use Rattle.reading.specs.Examined.{Tables}
-use Rattle.reading.specs.Turns.{stateOf}
-use Rattle.reading.proofs.LevelLaws.{failed}
-use Rattle.reading.proofs.StepLaws.{stands-inside}
-use Rattle.reading.proofs.StepSound.{Sound, out-long}
-use Rattle.reading.proofs.TurnLaws.{first-sound, turn-sound, toGo, turn-less, last-means, outside-means}
+use Rattle.schema.proofs.LimitLaws.{passed, failed}
+use Rattle.reading.specs.declared.layout.Layout.{Layout}
+use Rattle.reading.specs.Examined.{LaidOut}
+use Rattle.reading.specs.Turns.{walkedOf}
+use Rattle.reading.proofs.StepLaws.{stands-fit}
+use Rattle.reading.proofs.StepSound.{TurnSound}
+use Rattle.reading.proofs.TurnLaws.{turn-sound, toGo, turn-less}
+use Rattle.reading.proofs.LayLaws.{LaidSound, first-laid, out-long, lay-none, lay-type, full-means, last-means, outside-means}
 use Rattle.reading.proofs.event_file.read_events.Statement.{statement}
 use Rattle.reading.proofs.event_file.read_events.Tie as tie
 
 abbrev Inv-loop : tie.InvT-loop
-Inv-loop events out₀ schema examined root opens types₀ sets₀ w₀ out types sets w = Sound (meaning schema) events out₀ (stateOf w types sets out)
+Inv-loop schema events out₀ layout types₀ sets₀ w₀ count₀ out types sets w count =
+    LaidSound (meaning schema) events out₀ (walkedOf w types sets) count out
 
 abbrev μ-loop : tie.MeasureT-loop
-μ-loop events out₀ schema examined root opens types₀ sets₀ w₀ out types sets w = toGo events (stateOf w types sets out)
+μ-loop schema events out₀ layout types₀ sets₀ w₀ count₀ out types sets w count = toGo events (walkedOf w types sets)
 
--- the schema, and what the examination found
+-- the schema, and how it is laid out
 abbrev schema : tie.After-examine Inv-loop μ-loop → Schema
-schema c = c .before .before .before .args .t1
+schema c = c .before .before .before .args .schema
 
-abbrev examined : tie.After-examine Inv-loop μ-loop → Examined
-examined c = c .examine .result
+abbrev layout : tie.After-examine Inv-loop μ-loop → Layout
+layout c = c .examine .result
 
 -- the value's entries fit their types
-fits : (c : tie.Start Inv-loop μ-loop) → Fits (c .args .t1)
+fits : (c : tie.Start Inv-loop μ-loop) → Fits (c .args .schema)
 fits c =
-    let below : (a : ℕ) → FitsIn w32 (getD (c .args .t1 .accepting) a 0) = λ a. search needs in
+    let below : (a : ℕ) → FitsIn w32 (getD (c .args .schema .accepting) a 0) = λ a. search needs in
     record { accepting-long = search needs; steps-long = search needs; accepting-below = λ a. below a .fits }
-
-label-long : (c : tie.After-examine Inv-loop μ-loop) → length (examined c .label) ≡ mostSteps
-label-long c = search needs
 
 -- past the test the schema is inside the limits
 within : (c : tie.Else1 Inv-loop μ-loop) → WithinLimits (meaning (schema (c .before)))
-within c = passed (examined (c .before) .inside) (c .if1 .left) (c .before .examine .ensures .inside)
+within c = passed (layout (c .before) .inside) (c .if1 .left) (c .before .examine .ensures .inside)
 
-found : (c : tie.Else1 Inv-loop μ-loop)
-    → Tables (schema (c .before)) (examined (c .before) .opens .0) (examined (c .before) .start) (examined (c .before) .label)
-found c = c .before .examine .ensures .tables (within c)
+laid-out : (c : tie.Else1 Inv-loop μ-loop) → LaidOut (schema (c .before)) (layout (c .before))
+laid-out c = c .before .examine .ensures .laid-out (within c)
 
 -- where the loop's test held, before a call of a turn
-abbrev in-loop : tie.After-turn-arg9 Inv-loop μ-loop → tie.In-loop Inv-loop μ-loop
-in-loop c = c .before .before .before .before .before .before .before .before .before .before .before .before .before
+abbrev in-loop : tie.After-sets Inv-loop μ-loop → tie.In-loop Inv-loop μ-loop
+in-loop c = c .before .before .before .before .before .before
+
+-- what is known after a turn
+turned : (t : tie.After-turn Inv-loop μ-loop)
+    → let l = in-loop (t .before) .before in
+    TurnSound (meaning (schema (l .before .before))) (l .before .before .before .before .before .args .events .now) (l .loop .inv .calls)
+    (walkedOf (l .loop .w) (l .loop .types) (l .loop .sets))
+    (walkedOf (t .turn .result) (t .turn .last .1 .1 .1 .1 .1 .0) (t .turn .last .1 .1 .1 .1 .1 .1 .0))
+turned t =
+    let i = in-loop (t .before) in
+    let l = i .before in
+    turn-sound (fits (l .before .before .before .before .before)) (laid-out (l .before)) (l .loop .inv .sound) (i .loop-test .taken) (t .turn .ensures)
 
 examine-requires : tie.Need-examine-requires Inv-loop μ-loop
-examine-requires c κs = tt
+examine-requires c κs = search needs
 
 outside-requires : tie.Need-outside-requires Inv-loop μ-loop
-outside-requires c κs = tt
+outside-requires c κs = search needs
 
 returns : tie.Need-returns Inv-loop μ-loop
 returns c =
     let e = c .before .before in
-    outside-means (failed (examined e .inside) (c .before .if1 .taken) (e .examine .ensures .inside)) _ _ _ (c .outside .ensures .0)
+    outside-means (failed (layout e .inside) (c .before .if1 .taken) (e .examine .ensures .inside)) _ _ _ (c .outside .ensures .0)
     (c .outside .ensures .1) (c .outside .ensures .2)
 
 loop-holds : tie.Need-loop-holds Inv-loop μ-loop
-loop-holds c = first-sound (within (c .before .before)) _ _ 19
+loop-holds c = first-laid (within c) _ _ 19
 
 turn-requires : tie.Need-turn-requires Inv-loop μ-loop
 turn-requires c κs =
     let l = in-loop c .before in
-    let e = l .before .before .before .before in
-    stands-inside (fits (e .before .before .before)) (l .loop .inv .reading .within) (found (l .before .before .before)) (label-long e)
+    stands-fit (fits (l .before .before .before .before .before)) (l .loop .inv .sound .reading .within) (laid-out (l .before))
+
+same-length : tie.Need-same-length Inv-loop μ-loop
+same-length c = out-long (in-loop (c .before .before .before .before) .before .loop .inv)
+
+returns-2 : tie.Need-returns-2 Inv-loop μ-loop
+returns-2 c =
+    let t = c .before .before .before in
+    full-means (in-loop (t .before) .before .loop .inv) (turned t) (c .before .if2 .taken) (c .if3 .taken) _ refl refl refl
+
+cast-out : tie.Need-cast-out Inv-loop μ-loop
+cast-out c = search needs
+
+array-read-out : tie.Need-array-read-out Inv-loop μ-loop
+array-read-out c =
+    omega (arith, turned (c .before .before .before) .sound .reading .within .reading .depth)
+
+slice-write-out : tie.Need-slice-write-out Inv-loop μ-loop
+slice-write-out c = search needs
+
+add-count : tie.Need-add-count Inv-loop μ-loop
+add-count c = search needs
 
 loop-less : tie.Need-loop-less Inv-loop μ-loop
-loop-less c = turn-less _ _ _ _ _ (in-loop (c .before .before .before) .loop-test .taken) (c .before .before .turn .ensures)
+loop-less c =
+    let t = c .before .before .before in
+    turn-less _ _ _ (in-loop (t .before) .loop-test .taken) (t .turn .ensures)
 
 loop-again : tie.Need-loop-again Inv-loop μ-loop
 loop-again c =
-    let i = in-loop (c .before .before .before) in
-    let l = i .before in
-    turn-sound (fits (l .before .before .before .before .before .before .before)) (found (l .before .before .before)) (l .loop .inv) (i .loop-test .taken)
-    (c .before .before .turn .ensures)
+    let t = c .before .before .before in
+    lay-type (in-loop (t .before) .before .loop .inv) (turned t) (c .before .if2 .taken) (c .if3 .left)
 
-same-length : tie.Need-same-length Inv-loop μ-loop
-same-length c = out-long (c .before .loop .inv)
+loop-less-2 : tie.Need-loop-less-2 Inv-loop μ-loop
+loop-less-2 c =
+    let t = c .before .before in
+    turn-less _ _ _ (in-loop (t .before) .loop-test .taken) (t .turn .ensures)
 
-returns-2 : tie.Need-returns-2 Inv-loop μ-loop
-returns-2 c = last-means (c .before .loop .inv) (c .loop-test .left) _ refl refl refl
+loop-again-2 : tie.Need-loop-again-2 Inv-loop μ-loop
+loop-again-2 c =
+    let t = c .before .before in
+    lay-none (in-loop (t .before) .before .loop .inv) (turned t) (c .if2 .left)
+
+same-length-2 : tie.Need-same-length-2 Inv-loop μ-loop
+same-length-2 c = out-long (c .before .loop .inv)
+
+returns-3 : tie.Need-returns-3 Inv-loop μ-loop
+returns-3 c = last-means (c .before .loop .inv) (c .loop-test .left) _ refl refl refl
 
 pub read-events-spec : {M : Type 1} → statement M
 read-events-spec =
@@ -103,7 +141,15 @@ read-events-spec =
     returns
     loop-holds
     turn-requires
+    same-length
+    returns-2
+    cast-out
+    array-read-out
+    slice-write-out
+    add-count
     loop-less
     loop-again
-    same-length
-    returns-2)
+    loop-less-2
+    loop-again-2
+    same-length-2
+    returns-3)

@@ -1,22 +1,21 @@
 -- `reading::examined::examine` meets its contract: inside the limits the tables are those of the live states.
 use borrow.Author.Needs.{needs}
-use Prim.Native.Nat.{ℕ}
-use lib.ListN.{length-replicate}
 use Rattle.sdtd.specs.Schema.{WithinLimits}
 use Rattle.schema.specs.Value.{meaning}
-use Rattle.schema.proofs.LimitLaws.{Room, within-room, passed}
-use Rattle.reading.proofs.LevelLaws.{failed}
+use Rattle.schema.proofs.LimitLaws.{passed, failed}
+use Rattle.schema.proofs.TablesExact.{bears-in}
+use Rattle.reading.specs.Examined.{BearsTable}
 use Rattle.reading.proofs.examined.examine.Statement.{statement}
 use Rattle.reading.proofs.examined.examine.Tie as tie
 
--- past the test the schema is inside the limits
+-- past the test the schema is inside the limits, and the table has its live states
 within : (c : tie.Else1) → WithinLimits (meaning (c .before .before .before .args .schema))
 within c =
     let k = c .before .before .live in
     passed (k .result .inside) (c .if1 .left) (k .ensures .inside)
 
-room : (c : tie.Else1) → Room (c .before .before .before .args .schema)
-room c = within-room _ (within c)
+bearing : (c : tie.Else1) → BearsTable (meaning (c .before .before .before .args .schema)) (c .before .before .live .result .live)
+bearing c = bears-in (meaning (c .before .before .before .args .schema)) (c .before .before .live .result .live) (c .before .before .live .ensures .live (within c))
 
 live-requires : tie.Need-live-requires
 live-requires c κs = search needs
@@ -25,64 +24,39 @@ returns : tie.Need-returns
 returns c =
     let k = c .before .before .live in
     let out : ¬ WithinLimits (meaning (c .before .before .before .args .schema)) = failed (k .result .inside) (c .if1 .taken) (k .ensures .inside) in
-    record { inside = (λ f. absurd f, λ w. absurd (out w)); tables = λ w. absurd (out w); long = length-replicate {A = ℕ} 1024 255 }
+    record { inside = (λ f. absurd f, λ w. absurd (out w)); laid-out = λ w. absurd (out w) }
 
-cast-starts : tie.Need-cast-starts
-cast-starts c = search needs
+moves-requires : tie.Need-moves-requires
+moves-requires c κs = within (c .before)
 
-starts-requires : tie.Need-starts-requires
-starts-requires c κs = let r = room (c .before .before .before .before) in (r .types, r .steps)
+blocks-requires : tie.Need-blocks-requires
+blocks-requires c κs = within (c .before .before)
 
-labels-requires : tie.Need-labels-requires
-labels-requires c κs = let r = room (c .before .before .before .before .before) in (r .types, r .steps)
-
-cast-a : tie.Need-cast-a
-cast-a c = search needs
-
-array-read-t19 : tie.Need-array-read-t19
-array-read-t19 c = search (needs, room (c .before .before .before .before .before .before .before) .root)
-
-mul-root-label : tie.Need-mul-root-label
-mul-root-label c = search needs
-
-array-read-root-label : tie.Need-array-read-root-label
-array-read-root-label c = search (needs, room (c .before .before .before .before .before .before .before) .root)
-
-root-label-requires : tie.Need-root-label-requires
-root-label-requires c κs = search needs
+opens-requires : tie.Need-opens-requires
+opens-requires c κs = (within (c .before .before .before), bearing (c .before .before .before))
 
 returns-2 : tie.Need-returns-2
 returns-2 c =
-    let labels = c .before .before in
-    let starts = labels .before in
-    let k = starts .before .before .before .before .before in
-    let live = k .before .before .live in
+    let b = c .before in
+    let m = b .before in
+    let e = m .before .before in
+    let live = e .before .before .live in
     record {
-      inside = (λ t. within k, λ w. tt);
-      tables =
+      inside = (λ t. within e, λ w. tt);
+      laid-out =
           λ w.
           record {
+            bears = live .result .live;
+            bears-exact = bearing e;
             live = live .result .live;
-            exact = live .ensures .live w;
-            starts = starts .starts .ensures;
-            labels = labels .labels .ensures;
-            root-label = c .root-label .ensures;
+            live-exact = live .ensures .live w;
+            moves = m .moves .ensures;
+            blocks = b .blocks2 .ensures;
+            opens = c .opens .ensures;
           };
-      long = search needs;
     }
 
 pub examine-spec : {M : Type 1} → statement M
 examine-spec =
     tie.close
-    (tie.spec
-    live-requires
-    returns
-    cast-starts
-    starts-requires
-    labels-requires
-    cast-a
-    array-read-t19
-    mul-root-label
-    array-read-root-label
-    root-label-requires
-    returns-2)
+    (tie.spec live-requires returns moves-requires blocks-requires opens-requires returns-2)

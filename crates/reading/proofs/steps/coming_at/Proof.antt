@@ -1,73 +1,77 @@
 -- `reading::steps::coming_at` meets its contract.
-use mathlib.Core.Path.{sym, _∙_}
+use mathlib.Core.Path.{_∙_}
 use Prim.Native.Nat.{_+_, _-_, _≤_, _<_}
 use native.Mathlib.Omega.{arith}
 use borrow.Author.Needs.{needs}
 use lib.ListN.{getD}
-use Rattle.reading.proofs.LevelLaws.{sub-one, not-true, not-false}
-use Rattle.reading.proofs.StepWays.{coming-rooted, coming-other, coming-root, coming-inside}
+use Rattle.sdtd.specs.Limits.{mostTypes, mostSteps}
+use Rattle.reading.specs.Layout.{blockStart, blockCount}
+use Rattle.reading.proofs.LevelLaws.{sub-one}
+use Rattle.reading.proofs.StepWays.{coming-rooted, coming-root, coming-inside}
 use Rattle.reading.proofs.steps.coming_at.Statement.{statement}
 use Rattle.reading.proofs.steps.coming_at.Tie as tie
 
--- the innermost type is an entry of the tables, and its steps lie inside them
-inner : (c : tie.Else1) → let k = c .before .before .args in getD (k .types .now) (k .at .depth - 1) 0 < 64
+-- the innermost type is an entry of the blocks
+inner : (c : tie.Else1) → let k = c .before .before .args in getD (k .types .now) (k .at .depth - 1) 0 < mostTypes
 inner c =
     let s = c .before .before in
-    rw (sub-one (s .args .at .depth)) (s .pre .steady .inner (omega arith))
+    rw (sub-one (s .args .at .depth)) (s .pre .1 .steady .inner (omega arith))
 
+-- its steps lie inside the tables
 room : (c : tie.Else1)
     → let k = c .before .before .args in
     let a = getD (k .types .now) (k .at .depth - 1) 0 in
-    getD (k .start .now) a 0 + getD (k .steps .now) a 0 ≤ 1024
+    getD (k .blocks .now) (blockStart a) 0 + getD (k .blocks .now) (blockCount a) 0 ≤ mostSteps
 room c =
     let s = c .before .before in
-    rw (sub-one (s .args .at .depth)) (s .pre .room (omega arith))
+    rw (sub-one (s .args .at .depth)) (s .pre .1 .room (omega arith))
 
 cast-depth : tie.Need-cast-depth
 cast-depth c = search needs
 
 returns : tie.Need-returns
-returns c = coming-rooted _ _ _ (c .before .if1 .taken) (c .if2 .taken)
+returns c = coming-rooted _ _ _ _ _ (c .before .if1 .taken) (c .if2 .taken)
 
-same-requires : tie.Need-same-requires
-same-requires c κs = search needs
+opens-under-requires : tie.Need-opens-under-requires
+opens-under-requires c κs = search needs
 
 returns-2 : tie.Need-returns-2
-returns-2 c =
-    let s = c .before in
-    coming-other _ _ _ (s .before .before .if1 .taken) (s .before .if2 .left) (sym (s .same .ensures) ∙ not-true (c .if3 .taken))
+returns-2 c = c .opens-under .ensures ∙ coming-root _ _ _ _ _ (c .before .before .if1 .taken) (c .before .if2 .left)
 
-returns-3 : tie.Need-returns-3
-returns-3 c =
-    let s = c .before in
-    coming-root _ _ _ (s .before .before .if1 .taken) (s .before .if2 .left) (sym (s .same .ensures) ∙ not-false (c .if3 .left))
+sub-t13 : tie.Need-sub-t13
+sub-t13 c = search needs
 
-sub-t24 : tie.Need-sub-t24
-sub-t24 c = search needs
-
-element-copy-out-t27 : tie.Need-element-copy-out-t27
-element-copy-out-t27 c = search needs
+element-copy-out-t16 : tie.Need-element-copy-out-t16
+element-copy-out-t16 c = search needs
 
 cast-a : tie.Need-cast-a
 cast-a c = search needs
+
+block-start-requires : tie.Need-block-start-requires
+block-start-requires c κs = inner (c .before .before)
 
 mul-coming-from : tie.Need-mul-coming-from
 mul-coming-from c = search needs
 
 element-copy-out-coming-from : tie.Need-element-copy-out-coming-from
-element-copy-out-coming-from c = inner (c .before .before)
+element-copy-out-coming-from c = omega (arith, inner (c .before .before .before))
 
 cast-coming-from : tie.Need-cast-coming-from
-cast-coming-from c = record { fits = omega (arith, room (c .before .before .before)) }
+cast-coming-from c =
+    rw (c .before .block-start .ensures) (record { fits = omega (arith, room (c .before .before .before .before)) })
+
+block-count-requires : tie.Need-block-count-requires
+block-count-requires c κs = inner (c .before .before .before .before)
 
 mul-coming-from-2 : tie.Need-mul-coming-from-2
 mul-coming-from-2 c = search needs
 
 element-copy-out-coming-from-2 : tie.Need-element-copy-out-coming-from-2
-element-copy-out-coming-from-2 c = inner (c .before .before .before)
+element-copy-out-coming-from-2 c = omega (arith, inner (c .before .before .before .before .before))
 
 cast-coming-from-2 : tie.Need-cast-coming-from-2
-cast-coming-from-2 c = record { fits = omega (arith, room (c .before .before .before .before)) }
+cast-coming-from-2 c =
+    rw (c .before .block-count .ensures) (record { fits = omega (arith, room (c .before .before .before .before .before .before)) })
 
 sub-coming-from : tie.Need-sub-coming-from
 sub-coming-from c = search needs
@@ -80,12 +84,16 @@ element-copy-out-coming-from-3 c = search needs
 
 coming-from-requires : tie.Need-coming-from-requires
 coming-from-requires c κs =
-    let o = c .before .before .before .before .before in
-    (room o, o .before .before .pre .long)
+    let n = c .before .before in
+    let s = n .before .before in
+    rw (s .block-start .ensures, n .block-count .ensures) (room (s .before .before .before))
 
-returns-4 : tie.Need-returns-4
-returns-4 c =
-    c .coming-from .ensures ∙ coming-inside _ _ _ (c .before .before .before .before .before .before .if1 .left)
+returns-3 : tie.Need-returns-3
+returns-3 c =
+    let n = c .before .before .before in
+    let s = n .before .before in
+    c .coming-from .ensures
+    ∙ coming-inside _ _ _ _ _ (s .before .before .before .if1 .left) _ _ (s .block-start .ensures) (n .block-count .ensures)
 
 pub coming-at-spec : {M : Type 1} → statement M
 coming-at-spec =
@@ -93,15 +101,16 @@ coming-at-spec =
     (tie.spec
     cast-depth
     returns
-    same-requires
+    opens-under-requires
     returns-2
-    returns-3
-    sub-t24
-    element-copy-out-t27
+    sub-t13
+    element-copy-out-t16
     cast-a
+    block-start-requires
     mul-coming-from
     element-copy-out-coming-from
     cast-coming-from
+    block-count-requires
     mul-coming-from-2
     element-copy-out-coming-from-2
     cast-coming-from-2
@@ -109,4 +118,4 @@ coming-at-spec =
     mul-coming-from-3
     element-copy-out-coming-from-3
     coming-from-requires
-    returns-4)
+    returns-3)

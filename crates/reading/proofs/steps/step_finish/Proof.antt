@@ -1,7 +1,7 @@
 -- `reading::steps::step_finish` meets its contract.
 use mathlib.Core.Path.{_∙_}
 use borrow.Author.Needs.{needs}
-use Rattle.reading.proofs.LevelLaws.{not-true, not-false}
+use borrow.Author.Tests.{not-true, not-false}
 use Rattle.reading.proofs.StepWays.{stayed, finish-finished, finish-unrooted, finish-inside, finish-taken}
 use Rattle.reading.proofs.steps.step_finish.Statement.{statement}
 use Rattle.reading.proofs.steps.step_finish.Tie as tie
@@ -19,7 +19,7 @@ returns-2 : tie.Need-returns-2
 returns-2 c =
     λ types sets.
     stayed _ _ _ _ _ (c .stays2 .ensures)
-    ∙ finish-unrooted _ (c .before .before .before .if1 .left) (not-true (c .before .if2 .taken))
+    ∙ finish-unrooted _ (c .before .before .before .if1 .left) (not-true _ (c .before .if2 .taken))
 
 stays-requires-3 : tie.Need-stays-requires-3
 stays-requires-3 c κs = search needs
@@ -29,12 +29,12 @@ returns-3 c =
     let e = c .before .before .before in
     λ types sets.
     stayed _ _ _ _ _ (c .stays3 .ensures)
-    ∙ finish-inside _ (e .before .before .if1 .left) (not-false (e .if2 .left)) (c .before .if3 .taken)
+    ∙ finish-inside _ (e .before .before .if1 .left) (not-false _ (e .if2 .left)) (c .before .if3 .taken)
 
 returns-4 : tie.Need-returns-4
 returns-4 c =
     let e = c .before .before in
-    λ types sets. finish-taken _ (e .before .before .if1 .left) (not-false (e .if2 .left)) (c .if3 .left)
+    λ types sets. finish-taken _ (e .before .before .if1 .left) (not-false _ (e .if2 .left)) (c .if3 .left)
 
 pub step-finish-spec : {M : Type 1} → statement M
 step-finish-spec =

@@ -1,5 +1,5 @@
 -- `reading::steps::step_open` meets its contract.
-use mathlib.Core.Path.{sym, _∙_}
+use mathlib.Core.Path.{_∙_}
 use borrow.Author.Needs.{needs}
 use Rattle.reading.proofs.StepWays.{stayed, descended, open-finished, open-tag, open-none, open-deep, open-taken}
 use Rattle.reading.proofs.steps.step_open.Statement.{statement}
@@ -21,51 +21,50 @@ returns-2 c =
 coming-at-requires : tie.Need-coming-at-requires
 coming-at-requires c κs = search needs
 
-same-requires : tie.Need-same-requires
-same-requires c κs = search needs
+enum-told : tie.Need-enum-told
+enum-told c = search needs
 
 stays-requires-3 : tie.Need-stays-requires-3
 stays-requires-3 c κs = search needs
 
-returns-3 : tie.Need-returns-3
-returns-3 c =
-    let s = c .before .before in
-    let k = s .before .before in
-    let e = k .before .before .before in
-    stayed _ _ _ _ _ (c .stays3 .ensures)
-    ∙ open-none _ _ _ (e .before .before .if1 .left) (e .if2 .left) _ (k .coming-at .ensures) (sym (s .same .ensures) ∙ c .before .if3 .taken)
+enum-known-next : tie.Need-enum-known-next
+enum-known-next c = search needs
 
-cast-if4 : tie.Need-cast-if4
-cast-if4 c = search needs
+cast-if3 : tie.Need-cast-if3
+cast-if3 c = search needs
 
 stays-requires-4 : tie.Need-stays-requires-4
 stays-requires-4 c κs = search needs
 
-returns-4 : tie.Need-returns-4
-returns-4 c =
-    let o = c .before .before .before in
-    let s = o .before in
-    let k = s .before .before in
+returns-3 : tie.Need-returns-3
+returns-3 c =
+    let v = c .before .before .before .before in
+    let k = v .before .before in
     let e = k .before .before .before in
     stayed _ _ _ _ _ (c .stays4 .ensures)
-    ∙ open-deep _ _ _ (e .before .before .if1 .left) (e .if2 .left) _ (k .coming-at .ensures) (sym (s .same .ensures) ∙ o .if3 .left)
-    (c .before .if4 .taken)
+    ∙ open-deep _ _ _ (e .before .before .if1 .left) (e .if2 .left) (k .coming-at .ensures) _ _ (v .next .given .1) (c .before .if3 .taken)
 
 descend-requires : tie.Need-descend-requires
 descend-requires c κs = search needs
 
+returns-4 : tie.Need-returns-4
+returns-4 c =
+    let v = c .before in
+    let k = v .before .before in
+    let e = k .before .before .before in
+    stayed _ _ _ _ _ (c .stays3 .ensures)
+    ∙ open-none _ _ _ (e .before .before .if1 .left) (e .if2 .left) (k .coming-at .ensures) (v .enum-told .given .1)
+
 returns-5 : tie.Need-returns-5
 returns-5 c =
     let d = c .before .before .before in
-    let o = d .before .before in
-    let s = o .before in
-    let k = s .before .before in
+    let v = d .before .before .before in
+    let k = v .before .before in
     let e = k .before .before .before in
     let a = e .before .before .before .args in
     let x = c .descend .ensures in
     descended _ (a .at) (a .types .now) (a .sets .now) _ _ _ _ (x .0) (x .1) (x .2) (x .3) (x .4) (x .5)
-    ∙ open-taken _ _ _ (e .before .before .if1 .left) (e .if2 .left) _ (k .coming-at .ensures) (sym (s .same .ensures) ∙ o .if3 .left)
-    (d .if4 .left)
+    ∙ open-taken _ _ _ (e .before .before .if1 .left) (e .if2 .left) (k .coming-at .ensures) _ _ (v .next .given .1) (d .if3 .left)
 
 pub step-open-spec : {M : Type 1} → statement M
 step-open-spec =
@@ -76,11 +75,12 @@ step-open-spec =
     stays-requires-2
     returns-2
     coming-at-requires
-    same-requires
+    enum-told
     stays-requires-3
-    returns-3
-    cast-if4
+    enum-known-next
+    cast-if3
     stays-requires-4
-    returns-4
+    returns-3
     descend-requires
+    returns-4
     returns-5)

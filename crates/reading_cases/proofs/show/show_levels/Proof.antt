@@ -1,7 +1,7 @@
 -- `show::show_levels` is safe and ends. The measure is the number of levels left; nothing has to hold from turn to turn.
--- Assumes nothing.
 use Prim.Native.Nat.{_-_}
 use borrow.Author.Needs.{needs}
+use Rattle.sdtd.specs.Limits.{mostLevels}
 use Rattle.reading_cases.proofs.show.show_levels.Statement.{statement}
 use Rattle.reading_cases.proofs.show.show_levels.Tie as tie
 
@@ -9,7 +9,7 @@ abbrev Inv-loop : tie.InvT-loop
 Inv-loop some before after shown₀ n₀ shown n = Unit {0}
 
 abbrev μ-loop : tie.MeasureT-loop
-μ-loop some before after shown₀ n₀ shown n = 64 - n
+μ-loop some before after shown₀ n₀ shown n = mostLevels - n
 
 loop-holds : tie.Need-loop-holds Inv-loop μ-loop
 loop-holds c = search needs

@@ -2,7 +2,7 @@
 use borrow.Author.Needs.{needs}
 use Rattle.report.specs.Text.{lastLine}
 use borrow.Author.Tests.{eq-eqb, ne-eqb}
-use Rattle.report.proofs.LaidLaws.{laid-then}
+use Rattle.text.proofs.LaidLaws.{laid-then}
 use Rattle.report.proofs.lines.put_last.Statement.{statement}
 use Rattle.report.proofs.lines.put_last.Tie as tie
 
@@ -12,8 +12,8 @@ slice-aggregate-put-numbered c = search needs
 put-numbered-requires : tie.Need-put-numbered-requires
 put-numbered-requires c κs = search needs
 
-put-requires : tie.Need-put-requires
-put-requires c κs = search needs
+put-byte-requires : tie.Need-put-byte-requires
+put-byte-requires c κs = search needs
 
 slice-aggregate-put-refusal : tie.Need-slice-aggregate-put-refusal
 slice-aggregate-put-refusal c = search needs
@@ -29,7 +29,7 @@ unfolding lastLine
 returns c =
     let last = c .before .before in
     let first = last .before .before .before .before in
-    rw (eq-eqb _ 0 (first .before .before .before .if1 .taken)) (laid-then (first .put-numbered .ensures) (last .put .ensures))
+    rw (eq-eqb _ 0 (first .before .before .before .if1 .taken)) (laid-then (first .put-numbered .ensures) (last .put-byte .ensures))
 
 same-length-2 : tie.Need-same-length-2
 same-length-2 c = search needs
@@ -46,7 +46,7 @@ put-last-spec =
     (tie.spec
     slice-aggregate-put-numbered
     put-numbered-requires
-    put-requires
+    put-byte-requires
     slice-aggregate-put-refusal
     put-refusal-requires
     same-length

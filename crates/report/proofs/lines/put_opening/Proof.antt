@@ -2,13 +2,13 @@
 use borrow.Author.Needs.{needs}
 use Rattle.report.specs.Words.{space}
 use Rattle.report.specs.Text.{openingLine}
-use Rattle.report.proofs.LaidLaws.{laid-then}
-use Rattle.report.proofs.DecimalLaws.{laid-numbered}
+use Rattle.text.proofs.LaidLaws.{laid-then}
+use Rattle.report.proofs.LineLaws.{laid-numbered}
 use Rattle.report.proofs.lines.put_opening.Statement.{statement}
 use Rattle.report.proofs.lines.put_opening.Tie as tie
 
-put-number-requires : tie.Need-put-number-requires
-put-number-requires c κs = search needs
+put-decimal-requires : tie.Need-put-decimal-requires
+put-decimal-requires c κs = search needs
 
 slice-aggregate-put-numbered : tie.Need-slice-aggregate-put-numbered
 slice-aggregate-put-numbered c = search needs
@@ -28,8 +28,8 @@ wide-requires-2 c κs = search needs
 put-numbered-requires-2 : tie.Need-put-numbered-requires-2
 put-numbered-requires-2 c κs = search needs
 
-put-requires : tie.Need-put-requires
-put-requires c κs = search needs
+put-byte-requires : tie.Need-put-byte-requires
+put-byte-requires c κs = search needs
 
 same-length : tie.Need-same-length
 same-length c = search needs
@@ -41,21 +41,21 @@ returns c =
     let third = last .before .before .before .before in
     let second = third .before .before .before .before .before .before in
     let first = second .before .before .before .before .before .before in
-    laid-then (first .put-number .ensures)
+    laid-then (first .put-decimal .ensures)
     (laid-then (laid-numbered space (second .before .wide .ensures) (second .put-numbered .ensures))
-    (laid-then (laid-numbered space (third .before .wide2 .ensures) (third .put-numbered2 .ensures)) (last .put .ensures)))
+    (laid-then (laid-numbered space (third .before .wide2 .ensures) (third .put-numbered2 .ensures)) (last .put-byte .ensures)))
 
 pub put-opening-spec : {M : Type 1} → statement M
 put-opening-spec =
     tie.close
     (tie.spec
-    put-number-requires
+    put-decimal-requires
     slice-aggregate-put-numbered
     wide-requires
     put-numbered-requires
     slice-aggregate-put-numbered-2
     wide-requires-2
     put-numbered-requires-2
-    put-requires
+    put-byte-requires
     same-length
     returns)

@@ -1,8 +1,8 @@
 -- `report::lines::put_refusal` meets its contract: piece after piece.
 use borrow.Author.Needs.{needs}
 use Rattle.report.specs.Text.{refusalLine}
-use Rattle.report.proofs.LaidLaws.{laid-then}
-use Rattle.report.proofs.DecimalLaws.{laid-numbered}
+use Rattle.text.proofs.LaidLaws.{laid-then}
+use Rattle.report.proofs.LineLaws.{laid-numbered}
 use Rattle.report.proofs.lines.put_refusal.Statement.{statement}
 use Rattle.report.proofs.lines.put_refusal.Tie as tie
 
@@ -18,8 +18,8 @@ slice-aggregate-put-numbered c = search needs
 put-numbered-requires-2 : tie.Need-put-numbered-requires-2
 put-numbered-requires-2 c κs = search needs
 
-put-requires : tie.Need-put-requires
-put-requires c κs = search needs
+put-byte-requires : tie.Need-put-byte-requires
+put-byte-requires c κs = search needs
 
 same-length : tie.Need-same-length
 same-length c = search needs
@@ -31,7 +31,7 @@ returns c =
     let second = last .before .before .before .before in
     let first = second .before .before .before .before .before in
     laid-then (laid-numbered (first .before .before .before .before .before .args .words .now) (first .before .wide .ensures) (first .put-numbered .ensures))
-    (laid-then (second .put-numbered2 .ensures) (last .put .ensures))
+    (laid-then (second .put-numbered2 .ensures) (last .put-byte .ensures))
 
 pub put-refusal-spec : {M : Type 1} → statement M
 put-refusal-spec =
@@ -41,6 +41,6 @@ put-refusal-spec =
     put-numbered-requires
     slice-aggregate-put-numbered
     put-numbered-requires-2
-    put-requires
+    put-byte-requires
     same-length
     returns)

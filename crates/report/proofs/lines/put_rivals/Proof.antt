@@ -2,8 +2,8 @@
 use borrow.Author.Needs.{needs}
 use Rattle.report.specs.Words.{typeOf, gives, orElse}
 use Rattle.report.specs.Text.{rivals}
-use Rattle.report.proofs.LaidLaws.{laid-then}
-use Rattle.report.proofs.DecimalLaws.{laid-numbered}
+use Rattle.text.proofs.LaidLaws.{laid-then}
+use Rattle.report.proofs.LineLaws.{laid-numbered}
 use Rattle.report.proofs.lines.put_rivals.Statement.{statement}
 use Rattle.report.proofs.lines.put_rivals.Tie as tie
 

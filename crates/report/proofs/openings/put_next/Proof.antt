@@ -10,14 +10,14 @@ next-opening-requires c κs = search needs
 enum-known-next : tie.Need-enum-known-next
 enum-known-next c = search needs
 
-shared-slice-read-t15 : tie.Need-shared-slice-read-t15
-shared-slice-read-t15 c = search needs
+stored-type-requires : tie.Need-stored-type-requires
+stored-type-requires c κs = search needs
 
 put-opening-requires : tie.Need-put-opening-requires
 put-opening-requires c κs = search needs
 
-add-t17 : tie.Need-add-t17
-add-t17 c = search needs
+add-t15 : tie.Need-add-t15
+add-t15 c = search needs
 
 enum-told : tie.Need-enum-told
 enum-told c = search needs
@@ -28,9 +28,11 @@ same-length c = search needs
 returns : tie.Need-returns
 returns c =
     let o = c .before .before in
-    let n = o .before .before .before .before in
+    let s = o .before in
+    let n = s .before .before .before in
     let f = n .before .before in
-    put-found _ (f .before .before .before .before .before .args .p) (f .next-opening .ensures) (n .next .given .1) (o .put-opening .ensures)
+    put-found _ (f .before .before .before .before .before .args .p) (f .next-opening .ensures) (n .next .given .1)
+    (s .stored-type .ensures) (o .put-opening .ensures)
 
 returns-2 : tie.Need-returns-2
 returns-2 c =
@@ -43,9 +45,9 @@ put-next-spec =
     (tie.spec
     next-opening-requires
     enum-known-next
-    shared-slice-read-t15
+    stored-type-requires
     put-opening-requires
-    add-t17
+    add-t15
     enum-told
     same-length
     returns

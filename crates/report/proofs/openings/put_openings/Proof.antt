@@ -2,9 +2,8 @@
 -- the openings found from the cursor on. The measure is the number of types left.
 use Prim.Native.Nat.{_-_}
 use native.Mathlib.Omega.{arith}
-use borrow.Author.Needs.{needs}
 use lib.ListN.{length}
-use Rattle.typing.specs.Outline.{found}
+use Rattle.events.specs.Outline.{nextOpening}
 use Rattle.report.proofs.OpeningLaws.{Left, all-left, turn-left, turn-less, ended}
 use Rattle.report.proofs.openings.put_openings.Statement.{statement}
 use Rattle.report.proofs.openings.put_openings.Tie as tie
@@ -27,7 +26,7 @@ loop-less c =
     let t = n .before .before in
     let l = t .before .before in
     let a = l .before .before .before .before .args in
-    turn-less (a .types .now) (found (a .events .now) (l .loop .p .cursor)) (l .loop .p) (n .put-next .result) (l .loop .out)
+    turn-less (a .types .now) (nextOpening (a .events .now) (l .loop .p .cursor)) (l .loop .p) (n .put-next .result) (l .loop .out)
     (n .put-next .last .0) (t .if1 .taken) (n .put-next .ensures)
 
 loop-again : tie.Need-loop-again Inv-loop μ-loop

@@ -7,7 +7,7 @@ use borrow.Author.Needs.{needs}
 use Rattle.typing.specs.declared.job.Job.the-variants.{EventsRead}
 use Rattle.report.specs.Text.{textOf}
 use Rattle.report.specs.Report.{mostText}
-use Rattle.report.proofs.LaidLaws.{laid-then}
+use Rattle.text.proofs.LaidLaws.{laid-then}
 use Rattle.report.proofs.ReportLaws.{cut, cut-long}
 use Rattle.report.proofs.TextLengths.{read-short}
 use Rattle.report.proofs.program.put_events_read.Statement.{statement}
@@ -16,11 +16,11 @@ use Rattle.report.proofs.program.put_events_read.Tie as tie
 least-requires : tie.Need-least-requires
 least-requires c κs = search needs
 
-slice-aggregate-put-text : tie.Need-slice-aggregate-put-text
-slice-aggregate-put-text c = search needs
+slice-aggregate-put-bytes : tie.Need-slice-aggregate-put-bytes
+slice-aggregate-put-bytes c = search needs
 
-put-text-requires : tie.Need-put-text-requires
-put-text-requires c κs = search needs
+put-bytes-requires : tie.Need-put-bytes-requires
+put-bytes-requires c κs = search needs
 
 slice-aggregate-put-openings : tie.Need-slice-aggregate-put-openings
 slice-aggregate-put-openings c = cut-long _ _ _ (c .before .before .before .before .before .before .before .least .ensures)
@@ -55,7 +55,7 @@ returns c =
     let n = first .before .before .before in
     λ witness. record {
       laid =
-          laid-then (first .put-text .ensures)
+          laid-then (first .put-bytes .ensures)
           (laid-then (rw (cut _ _ _ (n .least .ensures)) at (second .put-openings .ensures)) (last .put-last .ensures));
       short = short (n .before) witness;
     }
@@ -65,8 +65,8 @@ put-events-read-spec =
     tie.close
     (tie.spec
     least-requires
-    slice-aggregate-put-text
-    put-text-requires
+    slice-aggregate-put-bytes
+    put-bytes-requires
     slice-aggregate-put-openings
     put-openings-requires
     put-last-requires

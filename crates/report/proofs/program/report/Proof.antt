@@ -1,14 +1,15 @@
 -- `report::program::report` meets its contract: by the events' length, and by the job.
+use native.Mathlib.Omega.{arith}
 use borrow.Author.Needs.{needs}
 use Rattle.report.proofs.ReportLaws.{cut-long, reported-long, reported-job}
 use Rattle.report.proofs.program.report.Statement.{statement}
 use Rattle.report.proofs.program.report.Tie as tie
 
-slice-aggregate-put-text : tie.Need-slice-aggregate-put-text
-slice-aggregate-put-text c = search needs
+slice-aggregate-put-bytes : tie.Need-slice-aggregate-put-bytes
+slice-aggregate-put-bytes c = search needs
 
-put-text-requires : tie.Need-put-text-requires
-put-text-requires c κs = search needs
+put-bytes-requires : tie.Need-put-bytes-requires
+put-bytes-requires c κs = search needs
 
 same-length : tie.Need-same-length
 same-length c = search needs
@@ -16,7 +17,7 @@ same-length c = search needs
 returns : tie.Need-returns
 returns c =
     let p = c .before .before in
-    reported-long _ (p .before .before .before .if1 .taken) (p .put-text .ensures)
+    reported-long _ (omega (arith, p .before .before .before .if1 .taken)) (p .put-bytes .ensures)
 
 least-requires : tie.Need-least-requires
 least-requires c κs = search needs
@@ -40,8 +41,8 @@ pub report-spec : {M : Type 1} → statement M
 report-spec =
     tie.close
     (tie.spec
-    slice-aggregate-put-text
-    put-text-requires
+    slice-aggregate-put-bytes
+    put-bytes-requires
     same-length
     returns
     least-requires

@@ -1,9 +1,8 @@
 -- `schema::limits::block_within` meets its contract.
 use native.Mathlib.Omega.{arith}
 use borrow.Author.Needs.{needs}
-use lib.Dec.{T-not}
 use Rattle.schema.proofs.Bits.{states-below}
-use Rattle.schema.proofs.LimitLaws.{passed}
+use Rattle.schema.proofs.LimitLaws.{passed, failed}
 use Rattle.schema.proofs.limits.block_within.Statement.{statement}
 use Rattle.schema.proofs.limits.block_within.Tie as tie
 
@@ -21,17 +20,17 @@ below-requires c κs = search needs
 
 returns-4 : tie.Need-returns-4
 returns-4 c =
-    let start = c .before .before .before .before .before .before .args in
-    let below = states-below (start .states) (start .accepting) (omega arith) (omega arith) in
-    (λ f. absurd f, λ w. absurd (T-not (c .before .below .result) (rw (c .if4 .taken) tt) (c .before .below .ensures .1 (below .0 (w .accepting-below)))))
+    let start = c .before .before .before .before .before .before .before .before .before .args in
+    let below = states-below (start .block .states) (start .block .accepting) (omega arith) (omega arith) in
+    (λ f. absurd f, λ w. absurd (failed (c .before .below .result) (c .if4 .taken) (c .before .below .ensures) (below .0 (w .accepting-below))))
 
 steps-within-requires : tie.Need-steps-within-requires
 steps-within-requires c κs = search needs
 
 returns-5 : tie.Need-returns-5
 returns-5 c =
-    let start = c .before .before .before .before .before .before .before .args in
-    let below = states-below (start .states) (start .accepting) (omega arith) (omega arith) in (
+    let start = c .before .before .before .before .before .before .before .before .before .before .args in
+    let below = states-below (start .block .states) (start .block .accepting) (omega arith) (omega arith) in (
       λ t. record {
         tag-below = omega arith;
         states-least = omega arith;

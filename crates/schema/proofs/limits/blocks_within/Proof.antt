@@ -4,6 +4,7 @@ use mathlib.Core.Logic.{_↔_}
 use Prim.Native.Nat.{_-_, _≤_}
 use native.Mathlib.Omega.{arith}
 use borrow.Author.Needs.{needs}
+use Rattle.sdtd.specs.Limits.{mostSteps}
 use Rattle.schema.specs.Value.{stepsOf}
 use Rattle.schema.specs.Limits.{BlocksFit}
 use Rattle.schema.proofs.LimitLaws.{stops, goes-on, blocks-none, blocks-full, blocks-next}
@@ -11,18 +12,22 @@ use Rattle.schema.proofs.limits.blocks_within.Statement.{statement}
 use Rattle.schema.proofs.limits.blocks_within.Tie as tie
 
 abbrev Inv-loop : tie.InvT-loop
-Inv-loop tag states accepting steps from by to tags types start₀ a₀ start a =
+Inv-loop tag states accepting steps from by to counts types start₀ a₀ start a =
     (a ≤ types)
-    × (start ≤ 1024)
-    × (BlocksFit tag states accepting steps (stepsOf from by to) tags types a start (types - a)
-    ↔ BlocksFit tag states accepting steps (stepsOf from by to) tags types 0 0 types)
+    × (start ≤ mostSteps)
+    × (BlocksFit tag states accepting steps (stepsOf from by to) (counts .tags) types a start (types - a)
+    ↔ BlocksFit tag states accepting steps (stepsOf from by to) (counts .tags) types 0 0 types)
 
 abbrev μ-loop : tie.MeasureT-loop
-μ-loop tag states accepting steps from by to tags types start₀ a₀ start a = types - a
+μ-loop tag states accepting steps from by to counts types start₀ a₀ start a = types - a
+
+cast-types : tie.Need-cast-types Inv-loop μ-loop
+cast-types c = search needs
 
 loop-holds : tie.Need-loop-holds Inv-loop μ-loop
 loop-holds c =
-    let k : c .args .types - 0 ≡ c .args .types = omega arith in
+    let types = c .before .args .counts .types in
+    let k : types - 0 ≡ types = omega arith in
     (search needs, search needs, rw k (λ w. w, λ w. w))
 
 mul-count : tie.Need-mul-count Inv-loop μ-loop
@@ -45,17 +50,17 @@ returns c = (
       omega (arith, blocks-full _ _ _ _ _ _ _ _ _ _ (c .before .count .ensures) (c .before .before .before .loop-test .taken) left),
 )
 
-element-copy-out-t20 : tie.Need-element-copy-out-t20 Inv-loop μ-loop
-element-copy-out-t20 c = search needs
+element-copy-out-t21 : tie.Need-element-copy-out-t21 Inv-loop μ-loop
+element-copy-out-t21 c = search needs
 
-element-copy-out-block-within : tie.Need-element-copy-out-block-within Inv-loop μ-loop
-element-copy-out-block-within c = search needs
+element-copy-out-t25 : tie.Need-element-copy-out-t25 Inv-loop μ-loop
+element-copy-out-t25 c = search needs
 
-mul-block-within : tie.Need-mul-block-within Inv-loop μ-loop
-mul-block-within c = search needs
+mul-t15 : tie.Need-mul-t15 Inv-loop μ-loop
+mul-t15 c = search needs
 
-element-copy-out-block-within-2 : tie.Need-element-copy-out-block-within-2 Inv-loop μ-loop
-element-copy-out-block-within-2 c = search needs
+element-copy-out-t28 : tie.Need-element-copy-out-t28 Inv-loop μ-loop
+element-copy-out-t28 c = search needs
 
 block-within-requires : tie.Need-block-within-requires Inv-loop μ-loop
 block-within-requires c κs = search needs
@@ -107,16 +112,17 @@ blocks-within-spec =
     (tie.spec
     Inv-loop
     μ-loop
+    cast-types
     loop-holds
     mul-count
     element-copy-out-count
     count-requires
     sub-if1
     returns
-    element-copy-out-t20
-    element-copy-out-block-within
-    mul-block-within
-    element-copy-out-block-within-2
+    element-copy-out-t21
+    element-copy-out-t25
+    mul-t15
+    element-copy-out-t28
     block-within-requires
     returns-2
     add-start

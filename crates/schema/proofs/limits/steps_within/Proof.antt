@@ -1,8 +1,7 @@
 -- `schema::limits::steps_within` meets its contract. The loop's invariant: the steps from i on are within exactly when all are.
-use mathlib.Core.Path.{_≡_}
 use mathlib.Core.Logic.{_↔_}
-use Prim.Native.Nat.{_+_, _-_, _≤_}
-use native.Mathlib.Omega.{arith}
+use Prim.Native.Nat.{_-_, _≤_}
+use native.Mathlib.Nat.{add-sub-cancel-left}
 use borrow.Author.Needs.{needs}
 use Rattle.schema.specs.Value.{stepsOf}
 use Rattle.schema.specs.Limits.{StepsWithin}
@@ -11,26 +10,24 @@ use Rattle.schema.proofs.limits.steps_within.Statement.{statement}
 use Rattle.schema.proofs.limits.steps_within.Tie as tie
 
 abbrev Inv-loop : tie.InvT-loop
-Inv-loop from by to start n states types end i₀ i =
+Inv-loop from by to states types end i₀ i =
     (i ≤ end)
-    × (StepsWithin states types (stepsOf from by to i (end - i)) ↔ StepsWithin states types (stepsOf from by to start n))
+    × (StepsWithin states types (stepsOf from by to i (end - i)) ↔ StepsWithin states types (stepsOf from by to i₀ (end - i₀)))
 
 abbrev μ-loop : tie.MeasureT-loop
-μ-loop from by to start n states types end i₀ i = end - i
+μ-loop from by to states types end i₀ i = end - i
 
 add-end : tie.Need-add-end Inv-loop μ-loop
 add-end c = search needs
 
 loop-holds : tie.Need-loop-holds Inv-loop μ-loop
-loop-holds c =
-    let k : c .args .start + c .args .n - c .args .start ≡ c .args .n = omega arith in
-    (search needs, rw k (λ w. w, λ w. w))
+loop-holds c = (search needs, (λ w. w, λ w. w))
 
 element-copy-out-step-within : tie.Need-element-copy-out-step-within Inv-loop μ-loop
 element-copy-out-step-within c = search needs
 
-element-copy-out-t16 : tie.Need-element-copy-out-t16 Inv-loop μ-loop
-element-copy-out-t16 c = search needs
+element-copy-out-t15 : tie.Need-element-copy-out-t15 Inv-loop μ-loop
+element-copy-out-t15 c = search needs
 
 element-copy-out-step-within-2 : tie.Need-element-copy-out-step-within-2 Inv-loop μ-loop
 element-copy-out-step-within-2 c = search needs
@@ -40,12 +37,13 @@ step-within-requires c κs = search needs
 
 returns : tie.Need-returns Inv-loop μ-loop
 returns c =
-    stops
+    rw add-sub-cancel-left at
+    (stops
     (c .before .step-within .result)
     (c .before .step-within .ensures)
     (steps-next _ _ _ _ _ _ _ (c .before .before .before .before .before .loop-test .taken))
     (c .before .before .before .before .before .before .loop .inv .1)
-    (c .if1 .taken)
+    (c .if1 .taken))
 
 add-i : tie.Need-add-i Inv-loop μ-loop
 add-i c = search needs
@@ -65,7 +63,8 @@ loop-again c = (
 )
 
 returns-2 : tie.Need-returns-2 Inv-loop μ-loop
-returns-2 c = (λ t. c .before .loop .inv .1 .0 (steps-none _ _ _ _ _ _ _ (c .loop-test .left)), λ w. tt)
+returns-2 c =
+    (λ t. rw add-sub-cancel-left at (c .before .loop .inv .1 .0 (steps-none _ _ _ _ _ _ _ (c .loop-test .left))), λ w. tt)
 
 pub steps-within-spec : {M : Type 1} → statement M
 steps-within-spec =
@@ -76,7 +75,7 @@ steps-within-spec =
     add-end
     loop-holds
     element-copy-out-step-within
-    element-copy-out-t16
+    element-copy-out-t15
     element-copy-out-step-within-2
     step-within-requires
     returns

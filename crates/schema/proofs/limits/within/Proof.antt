@@ -5,12 +5,13 @@ use borrow.Author.Needs.{needs}
 use lib.ListN.{getD}
 use mir.Syntax.{w32}
 use mir.Val.{Fits}
+use Rattle.sdtd.specs.Limits.{mostStates}
 use Rattle.schema.proofs.LimitLaws.{within-means}
 use Rattle.schema.proofs.limits.within.Statement.{statement}
 use Rattle.schema.proofs.limits.within.Tie as tie
 
 -- the entries of the table of sets fit
-sets : (c : tie.Start) (a : ℕ) → getD (c .args .t1 .accepting) a 0 < 2 ^ 32
+sets : (c : tie.Start) (a : ℕ) → getD (c .args .t1 .accepting) a 0 < 2 ^ mostStates
 sets c a =
     let f : Fits w32 (getD (c .args .t1 .accepting) a 0) = search needs in
     f .fits

@@ -1,4 +1,4 @@
--- One step: each of its three tests decides as `reachStep` does. Assumes nothing.
+-- One step: each of its three tests decides as `reachStep` does.
 use mathlib.Core.Path.{sym, _∙_}
 use borrow.Author.Tests.{not-true, not-false}
 use Rattle.schema.specs.Spread.{reachStep}
@@ -16,31 +16,25 @@ returns : tie.Need-returns
 unfolding reachStep
 returns c = rw (sym (c .before .has .ensures) ∙ not-true _ (c .if1 .taken))
 
-mul-t10 : tie.Need-mul-t10
-mul-t10 c = search needs
-
-element-copy-out-t16 : tie.Need-element-copy-out-t16
-element-copy-out-t16 c = search needs
-
-has-requires-2 : tie.Need-has-requires-2
-has-requires-2 c κs = search needs
+bears-in-requires : tie.Need-bears-in-requires
+bears-in-requires c κs = search needs
 
 returns-2 : tie.Need-returns-2
 unfolding reachStep
 returns-2 c =
-    let f = sym (c .before .before .before .before .has .ensures) ∙ not-false _ (c .before .before .before .if1 .left) in
-    rw (f, sym (c .before .has2 .ensures) ∙ not-true _ (c .if2 .taken))
+    let f = sym (c .before .before .before .has .ensures) ∙ not-false _ (c .before .before .if1 .left) in
+    rw (f, sym (c .before .bears-in .ensures) ∙ not-true _ (c .if2 .taken))
 
-has-requires-3 : tie.Need-has-requires-3
-has-requires-3 c κs = search needs
+has-requires-2 : tie.Need-has-requires-2
+has-requires-2 c κs = search needs
 
 returns-3 : tie.Need-returns-3
 unfolding reachStep
 returns-3 c =
     let k = c .before .before .before in
-    let f = sym (k .before .before .before .has .ensures) ∙ not-false _ (k .before .before .if1 .left) in
-    let b = sym (k .has2 .ensures) ∙ not-false _ (c .before .before .if2 .left) in
-    rw (f, b, sym (c .before .has3 .ensures) ∙ not-true _ (c .if3 .taken))
+    let f = sym (k .before .before .has .ensures) ∙ not-false _ (k .before .if1 .left) in
+    let b = sym (k .bears-in .ensures) ∙ not-false _ (c .before .before .if2 .left) in
+    rw (f, b, sym (c .before .has2 .ensures) ∙ not-true _ (c .if3 .taken))
 
 array-write-next : tie.Need-array-write-next
 array-write-next c = search needs
@@ -49,9 +43,9 @@ returns-4 : tie.Need-returns-4
 unfolding reachStep
 returns-4 c =
     let k = c .before .before .before in
-    let f = sym (k .before .before .before .has .ensures) ∙ not-false _ (k .before .before .if1 .left) in
-    let b = sym (k .has2 .ensures) ∙ not-false _ (c .before .before .if2 .left) in
-    rw (f, b, sym (c .before .has3 .ensures) ∙ not-false _ (c .if3 .left))
+    let f = sym (k .before .before .has .ensures) ∙ not-false _ (k .before .if1 .left) in
+    let b = sym (k .bears-in .ensures) ∙ not-false _ (c .before .before .if2 .left) in
+    rw (f, b, sym (c .before .has2 .ensures) ∙ not-false _ (c .if3 .left))
 
 pub reach-step-spec : {M : Type 1} → statement M
 reach-step-spec =
@@ -60,11 +54,9 @@ reach-step-spec =
     cast-b
     has-requires
     returns
-    mul-t10
-    element-copy-out-t16
-    has-requires-2
+    bears-in-requires
     returns-2
-    has-requires-3
+    has-requires-2
     returns-3
     array-write-next
     returns-4)

@@ -1,4 +1,4 @@
--- The entries below `i` are the same. Assumes nothing.
+-- The entries below `i` are the same.
 use Prim.Native.Nat.{ℕ, _-_, _≤_, _<_}
 use mathlib.Core.Path.{_≡_, ap}
 use native.Mathlib.Omega.{arith}
@@ -6,14 +6,15 @@ use borrow.Author.Count.{below-none, below-more}
 use borrow.Author.Needs.{needs}
 use lib.ListN.{length, getD}
 use lib.Seq.{ext-getD}
+use Rattle.sdtd.specs.Limits.{mostTypes}
 use Rattle.schema.proofs.spread.same_sets.Statement.{statement}
 use Rattle.schema.proofs.spread.same_sets.Tie as tie
 
 abbrev Inv-loop : tie.InvT-loop
-Inv-loop x y i₀ i = (i ≤ 64) × ((k : ℕ) → k < i → getD x k 0 ≡ getD y k 0)
+Inv-loop x y i₀ i = (i ≤ mostTypes) × ((k : ℕ) → k < i → getD x k 0 ≡ getD y k 0)
 
 abbrev μ-loop : tie.MeasureT-loop
-μ-loop x y i₀ i = 64 - i
+μ-loop x y i₀ i = mostTypes - i
 
 loop-holds : tie.Need-loop-holds Inv-loop μ-loop
 loop-holds c = (omega arith, below-none _)
@@ -45,8 +46,8 @@ loop-again c = (omega arith, below-more _ _ (c .before .before .loop .inv .1) (c
 returns-2 : tie.Need-returns-2 Inv-loop μ-loop
 returns-2 c =
     let a = c .before .before .args in
-    let l : length (a .t1) ≡ 64 = search needs in
-    let m : length (a .t2) ≡ 64 = search needs in
+    let l : length (a .t1) ≡ mostTypes = search needs in
+    let m : length (a .t2) ≡ mostTypes = search needs in
     let all = c .before .loop .inv .1 in
     (λ t. ext-getD 0 (a .t1) (a .t2) (omega arith) (λ k h. all k (omega arith)), λ e. tt)
 

@@ -1,4 +1,4 @@
--- What is left of the round, over what has grown so far, gives what the whole round gives. Assumes nothing.
+-- What is left of the round, over what has grown so far, gives what the whole round gives.
 use Prim.Native.Nat.{ℕ, suc, _+_, _-_, _≤_, _<_}
 use mathlib.Core.Path.{_≡_, refl}
 use mathlib.Core.List.{List}
@@ -6,6 +6,7 @@ use native.Mathlib.Numerals.{add-one}
 use native.Mathlib.Omega.{arith}
 use borrow.Author.Needs.{needs}
 use lib.ListN.{getD, set}
+use Rattle.sdtd.specs.Limits.{mostSteps}
 use Rattle.sdtd.specs.Schema.{Step}
 use Rattle.schema.specs.Spread.{spreadSet, spreadAll}
 use Rattle.schema.specs.Value.{stepsOf, offset}
@@ -38,7 +39,7 @@ abbrev μ-loop : tie.MeasureT-loop
 μ-loop add by when steps types bears grown₀ start₀ a₀ grown start a = types - a
 
 -- the steps of the type a lie inside the tables
-fit : (c : tie.In-loop Inv-loop μ-loop) → c .before .loop .start + getD (c .before .before .args .steps .now) (c .before .loop .a) 0 ≤ 1024
+fit : (c : tie.In-loop Inv-loop μ-loop) → c .before .loop .start + getD (c .before .before .args .steps .now) (c .before .loop .a) 0 ≤ mostSteps
 fit c =
     let s = c .before .before .args in
     omega (arith, steps-fit (s .steps .now) (c .before .loop .a) (s .types) (c .loop-test .taken))

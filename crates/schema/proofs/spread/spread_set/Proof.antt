@@ -1,9 +1,11 @@
--- What is left of the steps, over what has grown so far, gives what all of them give. Assumes nothing.
+-- What is left of the steps, over what has grown so far, gives what all of them give.
 use Prim.Native.Nat.{ℕ, _+_, _-_, _≤_, _<_}
-use mathlib.Core.Path.{_≡_}
+use mathlib.Core.Path.{_≡_, refl}
 use mathlib.Core.List.{List}
+use native.Mathlib.Nat.{add-sub-cancel-left}
 use native.Mathlib.Omega.{arith}
 use borrow.Author.Needs.{needs}
+use Rattle.sdtd.specs.Limits.{mostSteps}
 use Rattle.schema.specs.Spread.{spreadStep, spreadSet}
 use Rattle.schema.specs.Value.{upFrom, stepAt, stepsOf}
 use Rattle.schema.proofs.Rounds.{steps-left}
@@ -22,25 +24,24 @@ unfolding spreadSet stepsOf upFrom
 done bears add by when i end x y l h = let e : end - i ≡ 0 = omega arith in rw e at h
 
 abbrev Inv-loop : tie.InvT-loop
-Inv-loop add by when start n bears set end grown₀ i₀ grown i =
-    (i ≤ end) × (end ≤ 1024) × (spreadSet bears (stepsOf add by when i (end - i)) grown ≡ spreadSet bears (stepsOf add by when start n) set)
+Inv-loop add by when bears set end grown₀ i₀ grown i =
+    (i ≤ end) × (end ≤ mostSteps)
+    × (spreadSet bears (stepsOf add by when i (end - i)) grown ≡ spreadSet bears (stepsOf add by when i₀ (end - i₀)) set)
 
 abbrev μ-loop : tie.MeasureT-loop
-μ-loop add by when start n bears set end grown₀ i₀ grown i = end - i
+μ-loop add by when bears set end grown₀ i₀ grown i = end - i
 
 add-end : tie.Need-add-end Inv-loop μ-loop
 add-end c = search needs
 
 loop-holds : tie.Need-loop-holds Inv-loop μ-loop
-loop-holds c =
-    let e : c .args .start + c .args .n - c .args .start ≡ c .args .n = omega arith in
-    (omega arith, omega arith, rw e)
+loop-holds c = (omega arith, omega arith, refl)
 
 element-copy-out-spread-step : tie.Need-element-copy-out-spread-step Inv-loop μ-loop
 element-copy-out-spread-step c = search needs
 
-element-copy-out-t17 : tie.Need-element-copy-out-t17 Inv-loop μ-loop
-element-copy-out-t17 c = search needs
+element-copy-out-t16 : tie.Need-element-copy-out-t16 Inv-loop μ-loop
+element-copy-out-t16 c = search needs
 
 element-copy-out-spread-step-2 : tie.Need-element-copy-out-spread-step-2 Inv-loop μ-loop
 element-copy-out-spread-step-2 c = search needs
@@ -60,7 +61,7 @@ loop-again c =
     (omega arith, omega arith, turn _ _ _ _ _ _ _ _ _ (k .loop-test .taken) (c .spread-step .ensures) (k .before .loop .inv .2))
 
 returns : tie.Need-returns Inv-loop μ-loop
-returns c = done _ _ _ _ _ _ _ _ (c .loop-test .left) (c .before .loop .inv .2)
+returns c = rw add-sub-cancel-left at (done _ _ _ _ _ _ _ _ (c .loop-test .left) (c .before .loop .inv .2))
 
 pub spread-set-spec : {M : Type 1} → statement M
 spread-set-spec =
@@ -71,7 +72,7 @@ spread-set-spec =
     add-end
     loop-holds
     element-copy-out-spread-step
-    element-copy-out-t17
+    element-copy-out-t16
     element-copy-out-spread-step-2
     spread-step-requires
     add-i

@@ -1,16 +1,17 @@
--- The table so far is that of the types below `a`. Assumes nothing.
+-- The table so far is that of the types below `a`.
 use Prim.Native.Nat.{_-_, _≤_, _<_}
 use mathlib.Core.Path.{_≡_, refl}
 use native.Mathlib.Omega.{arith}
 use borrow.Author.Needs.{needs}
 use lib.ListN.{length}
+use Rattle.sdtd.specs.Limits.{mostTypes}
 use Rattle.schema.specs.Spread.{firstSets}
 use Rattle.schema.proofs.Rounds.{fill-next}
 use Rattle.schema.proofs.tables.first_sets.Statement.{statement}
 use Rattle.schema.proofs.tables.first_sets.Tie as tie
 
 abbrev Inv-loop : tie.InvT-loop
-Inv-loop types sets kept₀ a₀ kept a = (a ≤ types) × (length sets ≡ 64) × (kept ≡ firstSets a sets)
+Inv-loop types sets kept₀ a₀ kept a = (a ≤ types) × (length sets ≡ mostTypes) × (kept ≡ firstSets a sets)
 
 abbrev μ-loop : tie.MeasureT-loop
 μ-loop types sets kept₀ a₀ kept a = types - a
@@ -43,7 +44,7 @@ loop-again c =
     let k = c .before in
     let i = k .loop .inv in
     let l : k .loop .a < length (k .before .args .t1) = omega arith in
-    (omega arith, i .1, rw (i .2) (fill-next (k .before .args .t1) (k .loop .a) 64 0 0 l (omega arith)))
+    (omega arith, i .1, rw (i .2) (fill-next (k .before .args .t1) (k .loop .a) mostTypes 0 0 l (omega arith)))
 
 returns : tie.Need-returns Inv-loop μ-loop
 returns c =

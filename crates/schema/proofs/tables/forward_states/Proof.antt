@@ -1,4 +1,4 @@
--- The states so far are those after some rounds; each round that changes them leaves fewer states absent. Assumes nothing.
+-- The states so far are those after some rounds; each round that changes them leaves fewer states absent.
 use borrow.Author.Needs.{needs}
 use Rattle.schema.specs.Spread.{spreadAll}
 use Rattle.schema.specs.Value.{stepsOf}

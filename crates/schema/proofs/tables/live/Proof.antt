@@ -2,13 +2,10 @@
 use mathlib.Core.Path.{refl}
 use Prim.Native.Nat.{ℕ}
 use borrow.Author.Needs.{needs}
-use lib.Dec.{T-not}
 use lib.ListN.{getD}
 use mir.Syntax.{w32}
 use mir.Val.{Fits as FitsIn}
-use Rattle.sdtd.specs.Schema.{WithinLimits}
-use Rattle.schema.specs.Value.{meaning}
-use Rattle.schema.proofs.LimitLaws.{within-room, passed}
+use Rattle.schema.proofs.LimitLaws.{within-room, passed, failed}
 use Rattle.schema.proofs.FirstTables.{Fits}
 use Rattle.schema.proofs.TablesExact.{live-exactly}
 use Rattle.schema.proofs.tables.live.Statement.{statement}
@@ -25,7 +22,7 @@ within-requires c κs = search needs
 
 returns : tie.Need-returns
 returns c =
-    let out : ¬ WithinLimits (meaning (c .before .before .args .t1)) = λ w. (T-not (c .before .within .result) (rw (c .if1 .taken) tt) (c .before .within .ensures .1 w)) in
+    let out = failed (c .before .within .result) (c .if1 .taken) (c .before .within .ensures) in
     record { inside = (λ f. absurd f, λ w. absurd (out w)); live = λ w. absurd (out w); outside = λ n. refl }
 
 cast-types : tie.Need-cast-types

@@ -1,4 +1,4 @@
--- The live states so far are those after some rounds; each round that changes them leaves fewer states absent. Assumes nothing.
+-- The live states so far are those after some rounds; each round that changes them leaves fewer states absent.
 use Prim.Native.Nat.{ℕ}
 use borrow.Author.Needs.{needs}
 use lib.ListN.{getD}

@@ -1,14 +1,15 @@
 -- `show::show_live_states` is safe and ends.
 use Prim.Native.Nat.{_≤_, _-_}
 use borrow.Author.Needs.{needs}
+use Rattle.sdtd.specs.Limits.{mostTypes}
 use Rattle.schema_samples.proofs.show.show_live_states.Statement.{statement}
 use Rattle.schema_samples.proofs.show.show_live_states.Tie as tie
 
 abbrev Inv-loop : tie.InvT-loop
-Inv-loop types live a₀ a = a ≤ 64
+Inv-loop types live a₀ a = a ≤ mostTypes
 
 abbrev μ-loop : tie.MeasureT-loop
-μ-loop types live a₀ a = 64 - a
+μ-loop types live a₀ a = mostTypes - a
 
 loop-holds : tie.Need-loop-holds Inv-loop μ-loop
 loop-holds c = search needs

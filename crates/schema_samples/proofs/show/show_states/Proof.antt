@@ -1,14 +1,15 @@
 -- `show::show_states` is safe and ends.
 use Prim.Native.Nat.{_≤_, _-_}
 use borrow.Author.Needs.{needs}
+use Rattle.sdtd.specs.Limits.{mostStates}
 use Rattle.schema_samples.proofs.show.show_states.Statement.{statement}
 use Rattle.schema_samples.proofs.show.show_states.Tie as tie
 
 abbrev Inv-loop : tie.InvT-loop
-Inv-loop set none₀ s₀ none s = s ≤ 32
+Inv-loop set none₀ s₀ none s = s ≤ mostStates
 
 abbrev μ-loop : tie.MeasureT-loop
-μ-loop set none₀ s₀ none s = 32 - s
+μ-loop set none₀ s₀ none s = mostStates - s
 
 loop-holds : tie.Need-loop-holds Inv-loop μ-loop
 loop-holds c = search needs

@@ -1,14 +1,15 @@
 -- `show::show_types` is safe and ends.
 use Prim.Native.Nat.{_≤_, _-_}
 use borrow.Author.Needs.{needs}
+use Rattle.sdtd.specs.Limits.{mostTypes}
 use Rattle.schema_samples.proofs.show.show_types.Statement.{statement}
 use Rattle.schema_samples.proofs.show.show_types.Tie as tie
 
 abbrev Inv-loop : tie.InvT-loop
-Inv-loop marked none₀ a₀ none a = a ≤ 64
+Inv-loop marked none₀ a₀ none a = a ≤ mostTypes
 
 abbrev μ-loop : tie.MeasureT-loop
-μ-loop marked none₀ a₀ none a = 64 - a
+μ-loop marked none₀ a₀ none a = mostTypes - a
 
 loop-holds : tie.Need-loop-holds Inv-loop μ-loop
 loop-holds c = search needs

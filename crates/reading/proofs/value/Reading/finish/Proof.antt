@@ -2,8 +2,7 @@
 use mathlib.Core.Logic.{inl}
 use mathlib.Core.Path.{_∙_}
 use borrow.Author.Needs.{needs}
-use Rattle.schema.proofs.LimitLaws.{passed}
-use Rattle.reading.proofs.LevelLaws.{failed}
+use Rattle.schema.proofs.LimitLaws.{passed, failed}
 use Rattle.reading.proofs.StepLaws.{finish-step-means}
 use Rattle.reading.proofs.value.Reading.finish.Statement.{statement}
 use Rattle.reading.proofs.value.Reading.finish.Tie as tie

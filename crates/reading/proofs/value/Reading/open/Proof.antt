@@ -7,18 +7,18 @@ use lib.ListN.{getD}
 use mir.Syntax.{w32}
 use mir.Val.{Fits as FitsIn}
 use Rattle.schema.specs.Value.{meaning}
-use Rattle.schema.proofs.LimitLaws.{within-room, passed}
+use Rattle.schema.proofs.LimitLaws.{within-room, passed, failed}
 use Rattle.schema.proofs.FirstTables.{Fits}
 use Rattle.reading.specs.Levels.{Within}
-use Rattle.reading.proofs.LevelLaws.{failed, levels-fit}
-use Rattle.reading.proofs.StepLaws.{stands-inside, open-step-means}
+use Rattle.reading.proofs.LevelLaws.{levels-fit}
+use Rattle.reading.proofs.StepLaws.{stands-fit, open-step-means}
 use Rattle.reading.proofs.value.Reading.open.Statement.{statement}
 use Rattle.reading.proofs.value.Reading.open.Tie as tie
 
 -- the value's entries fit their types
-fits : (c : tie.Start) → Fits (c .args .t2)
+fits : (c : tie.Start) → Fits (c .args .schema)
 fits c =
-    let below : (a : ℕ) → FitsIn w32 (getD (c .args .t2 .accepting) a 0) = λ a. search needs in
+    let below : (a : ℕ) → FitsIn w32 (getD (c .args .schema .accepting) a 0) = λ a. search needs in
     record { accepting-long = search needs; steps-long = search needs; accepting-below = λ a. below a .fits }
 
 examine-requires : tie.Need-examine-requires
@@ -44,39 +44,39 @@ returns-2 c =
     let args = lw .before .before .before .before .args in
     let fails = failed (lw .levels-within .result) (c .before .if2 .taken) (lw .levels-within .ensures) in
     inl (
-      λ w. fails (levels-fit (args .t2) (within-room _ (w .schema) .types) (args .self) .1 (w .reading)),
+      λ w. fails (levels-fit (args .schema) (within-room _ (w .schema) .types) (args .self) .1 (w .reading)),
       c .refused2 .ensures,
     )
 
 step-open-requires : tie.Need-step-open-requires
 step-open-requires c κs =
-    let e2 = c .before .before .before .before .before .before .before .before .before .before .before .before .before .before in
+    let e2 = c .before .before .before .before .before .before .before .before in
     let lw = e2 .before in
     let e1 = lw .before .before in
     let a = e1 .before in
     let args = a .before .args in
     let inside = passed (a .examine .result .inside) (e1 .if1 .left) (a .examine .ensures .inside) in
-    let fit = levels-fit (args .t2) (within-room _ inside .types) (args .self) in
-    let w : Within (meaning (args .t2)) (args .self) =
+    let fit = levels-fit (args .schema) (within-room _ inside .types) (args .self) in
+    let w : Within (meaning (args .schema)) (args .self) =
     record { schema = inside; reading = fit .0 (passed (lw .levels-within .result) (e2 .if2 .left) (lw .levels-within .ensures)) } in
-    stands-inside (fits (a .before)) w (a .examine .ensures .tables inside) (a .examine .ensures .long)
+    stands-fit (fits (a .before)) w (a .examine .ensures .laid-out inside)
 
 with-levels-requires : tie.Need-with-levels-requires
 with-levels-requires c κs = search needs
 
 returns-3 : tie.Need-returns-3
 returns-3 c =
-    let e2 = c .before .before .before .before .before .before .before .before .before .before .before .before .before .before .before .before in
+    let e2 = c .before .before .before .before .before .before .before .before .before .before in
     let lw = e2 .before in
     let e1 = lw .before .before in
     let a = e1 .before in
     let args = a .before .args in
     let inside = passed (a .examine .result .inside) (e1 .if1 .left) (a .examine .ensures .inside) in
-    let fit = levels-fit (args .t2) (within-room _ inside .types) (args .self) in
-    let w : Within (meaning (args .t2)) (args .self) =
+    let fit = levels-fit (args .schema) (within-room _ inside .types) (args .self) in
+    let w : Within (meaning (args .schema)) (args .self) =
     record { schema = inside; reading = fit .0 (passed (lw .levels-within .result) (e2 .if2 .left) (lw .levels-within .ensures)) } in
     rw (c .with-levels .ensures ∙ c .before .step-open .ensures)
-    (open-step-means (fits (a .before)) w (a .examine .ensures .tables inside) (args .tag .0))
+    (open-step-means (fits (a .before)) w (a .examine .ensures .laid-out inside) (args .tag .0))
 
 pub open-spec : {M : Type 1} → statement M
 open-spec =

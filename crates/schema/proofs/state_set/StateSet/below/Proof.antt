@@ -1,11 +1,14 @@
 -- `StateSet::below` meets its contract: a set of states below the count is a number below the power of 2.
 use mathlib.Core.Path.{_≡_, _∙_}
-use Prim.Native.Nat.{ℕ, _*_, _^_, _%_, _≤_, _<_}
+use Prim.Native.Nat.{ℕ, _*_, _^_, _%_, _≤_}
 use native.Mathlib.Nat.{one-mul}
 use native.Mathlib.Omega.{arith}
 use borrow.Author.Needs.{needs}
-use lib.Dec.{T, ltb, ltb→lt, lt→ltb}
+use lib.Dec.{ltb, ltb→lt, lt→ltb}
 use lib.Pow.{shl-exact}
+use mir.Syntax.{w64}
+use mir.Val.{bits}
+use Rattle.sdtd.specs.Limits.{mostStates}
 use Rattle.schema.proofs.Bits.{member-below, states-below}
 use Rattle.schema.proofs.state_set.StateSet.below.Statement.{statement}
 use Rattle.schema.proofs.state_set.StateSet.below.Tie as tie
@@ -23,8 +26,8 @@ shl-result : tie.Need-shl-result
 shl-result c = search needs
 
 -- the shift loses nothing
-shifted : (n : ℕ) → n ≤ 32 → 1 * 2 ^ n % 2 ^ 64 ≡ 2 ^ n
-shifted n l = shl-exact 1 n 64 (omega arith) (omega arith) ∙ one-mul (2 ^ n)
+shifted : (n : ℕ) → n ≤ mostStates → 1 * 2 ^ n % 2 ^ bits w64 ≡ 2 ^ n
+shifted n l = shl-exact 1 n (bits w64) (omega arith) (omega arith) ∙ one-mul (2 ^ n)
 
 returns-2 : tie.Need-returns-2
 returns-2 c =

@@ -1,4 +1,4 @@
--- `StateSet::has` meets its contract: no state of 32 or more is in the set, and `& 1` of the set shifted is the digit of any other.
+-- `StateSet::has` meets its contract: no state past the limit is in the set, and `& 1` of the set shifted is the digit of any other.
 use borrow.Author.Needs.{needs}
 use mathlib.Core.Path.{sym, ap}
 use Prim.Native.Nat.{ℕ, _/_, _^_}

@@ -1,4 +1,4 @@
--- `StateSet::with` meets its contract: the test of the state, shifted, is no state for one of 32 or more, and the state's own digit for any other.
+-- `StateSet::with` meets its contract: the test of the state, shifted, is no state for one past the limit, and the state's own digit for any other.
 use mathlib.Core.Path.{_≡_, sym, ap, _∙_}
 use Prim.Native.Nat.{ℕ, _*_, _%_, _^_}
 use native.Mathlib.Nat.{mod-eq-of-lt, one-mul, zero-mul}
@@ -6,10 +6,12 @@ use native.Mathlib.Decide.{decLt}
 use native.Mathlib.Omega.{arith}
 use borrow.Author.Needs.{needs}
 use borrow.Author.Tests.{lt-ltb, le-ltb}
-use mir.Val.{boolByte}
+use mir.Syntax.{w32}
+use mir.Val.{boolByte, bits}
 use lib.Dec.{ltb}
 use lib.Bits.{bitOr, or-zero-r}
 use lib.Pow.{shl-exact}
+use Rattle.sdtd.specs.Limits.{mostStates}
 use Rattle.schema.specs.States.{insert}
 use Rattle.schema.proofs.Bits.{insert-out, or-insert}
 use Rattle.schema.proofs.state_set.StateSet.with.Statement.{statement}
@@ -24,13 +26,13 @@ cast-t6 c = search needs
 shl-t7 : tie.Need-shl-t7
 shl-t7 c = search needs
 
-shifted : (s x : ℕ) → bitOr x (boolByte (ltb s 32) * 2 ^ (s % 32) % 2 ^ 32) ≡ insert s x
+shifted : (s x : ℕ) → bitOr x (boolByte (ltb s mostStates) * 2 ^ (s % mostStates) % 2 ^ bits w32) ≡ insert s x
 shifted s x =
-    elim (decLt s 32) [
+    elim (decLt s mostStates) [
       | yes l ↦
-          rw (lt-ltb s 32 l, mod-eq-of-lt l)
-          (ap (bitOr x) (shl-exact 1 s 32 (omega arith) (omega arith) ∙ one-mul (2 ^ s)) ∙ or-insert s x l)
-      | no n ↦ rw (le-ltb s 32 (omega arith), zero-mul) (or-zero-r x ∙ sym (insert-out s x (omega arith)))
+          rw (lt-ltb s mostStates l, mod-eq-of-lt l)
+          (ap (bitOr x) (shl-exact 1 s (bits w32) (omega arith) (omega arith) ∙ one-mul (2 ^ s)) ∙ or-insert s x l)
+      | no n ↦ rw (le-ltb s mostStates (omega arith), zero-mul) (or-zero-r x ∙ sym (insert-out s x (omega arith)))
     ]
 
 returns : tie.Need-returns

@@ -1,0 +1,50 @@
+-- A command of another kind gives what stands beside.
+use mathlib.Core.Path.{_≡_, refl}
+use mathlib.Core.List.{[], _∷_}
+use Prim.Native.Nat.{ℕ}
+use types.Run.{OneOf, miss}
+use denote.Enum.Declared.{tagOf}
+use Rattle.command.specs.Cases.{onType, onFinal, onStep}
+use Rattle.command.specs.declared.Command.{Command}
+use Rattle.command.specs.declared.Command.the-variants.{Tags, TypeBlock, Final, Step, Root, Done, NoCommand}
+use Rattle.command.proofs.Command.{the-type}
+
+pub no-type : {A : Type 0} (f : ℕ → ℕ → A) (x : A) (c : Command) → OneOf (0 ∷ 2 ∷ 3 ∷ 4 ∷ 5 ∷ 6 ∷ []) (tagOf the-type c)
+    → x ≡ onType f x c
+no-type f x (Tags n) k = refl
+no-type f x (TypeBlock g s) k = absurd (miss (0 ∷ 2 ∷ 3 ∷ 4 ∷ 5 ∷ 6 ∷ []) 1 tt k)
+no-type f x (Final q) k = refl
+no-type f x (Step p j q) k = refl
+no-type f x (Root a) k = refl
+no-type f x Done k = refl
+no-type f x NoCommand k = refl
+
+pub no-final : {A : Type 0} (f : ℕ → A) (x : A) (c : Command) → OneOf (0 ∷ 1 ∷ 3 ∷ 4 ∷ 5 ∷ 6 ∷ []) (tagOf the-type c)
+    → x ≡ onFinal f x c
+no-final f x (Tags n) k = refl
+no-final f x (TypeBlock g s) k = refl
+no-final f x (Final q) k = absurd (miss (0 ∷ 1 ∷ 3 ∷ 4 ∷ 5 ∷ 6 ∷ []) 2 tt k)
+no-final f x (Step p j q) k = refl
+no-final f x (Root a) k = refl
+no-final f x Done k = refl
+no-final f x NoCommand k = refl
+
+pub no-step : {A : Type 0} (f : ℕ → ℕ → ℕ → A) (x : A) (c : Command) → OneOf (0 ∷ 1 ∷ 2 ∷ 4 ∷ 5 ∷ 6 ∷ []) (tagOf the-type c)
+    → x ≡ onStep f x c
+no-step f x (Tags n) k = refl
+no-step f x (TypeBlock g s) k = refl
+no-step f x (Final q) k = refl
+no-step f x (Step p j q) k = absurd (miss (0 ∷ 1 ∷ 2 ∷ 4 ∷ 5 ∷ 6 ∷ []) 3 tt k)
+no-step f x (Root a) k = refl
+no-step f x Done k = refl
+no-step f x NoCommand k = refl
+
+-- by two rules that agree
+pub step-same : {A : Type 0} {f g : ℕ → ℕ → ℕ → A} (x : A) → ((p j q : ℕ) → f p j q ≡ g p j q) → (c : Command) → onStep f x c ≡ onStep g x c
+step-same x e (Tags n) = refl
+step-same x e (TypeBlock g s) = refl
+step-same x e (Final q) = refl
+step-same x e (Step p j q) = e p (j .0) q
+step-same x e (Root a) = refl
+step-same x e Done = refl
+step-same x e NoCommand = refl

@@ -1,0 +1,84 @@
+-- A command stands inside its file, and is read back from its bytes.
+use mathlib.Core.Path.{_≡_, sym, ap, _∙_}
+use mathlib.Core.Bool.{cond}
+use mathlib.Core.List.{List, [], _∷_, _++_, append-nil, append-assoc}
+use Prim.Native.Nat.{ℕ, _+_, _≤_, _<_}
+use native.Mathlib.Omega.{arith}
+use borrow.Author.Tests.{le-leb}
+use lib.Dec.{T, eqb, leb, leb→le}
+use lib.ListN.{length, getD, length-append}
+use lib.Seq.{getD-append-add}
+use Rattle.sdtd.proofs.Basics.{cond-both, cond-either}
+use Rattle.command.specs.Command.{isCommand, bytesOf, fileOf, size, commandOf, commandAt}
+use Rattle.command.specs.declared.Command.{Command}
+use Rattle.command.specs.declared.Command.the-variants.{Tags, TypeBlock, Final, Step, Root, Done, NoCommand}
+
+-- a command, if it is one, ends inside the file
+record EndsInFile (file : List ℕ) (i : ℕ) (c : Command) : Type 0 where
+  pub ends : T (isCommand c) → i + size c ≤ length file
+
+module _ (file : List ℕ) (i : ℕ) where
+  none : EndsInFile file i NoCommand
+  none = record { ends = λ k. absurd k }
+
+  whole : (c : Command) → EndsInFile file i (cond (leb (i + size c) (length file)) c NoCommand)
+  whole c =
+      cond-either (EndsInFile file i) (leb (i + size c) (length file)) (λ t. record { ends = λ k. leb→le (i + size c) (length file) t })
+      (λ n. none)
+
+  of-byte : (b : ℕ) → EndsInFile file i (commandOf file i b)
+  unfolding commandOf
+  of-byte b =
+      cond-both (EndsInFile file i) (eqb b 0x10) _ _ (whole (Tags _))
+      (cond-both (EndsInFile file i) (eqb b 0x11) _ _ (whole (TypeBlock _ _))
+      (cond-both (EndsInFile file i) (eqb b 0x12) _ _ (whole (Final _))
+      (cond-both (EndsInFile file i) (eqb b 0x13) _ _ (whole (Step _ _ _))
+      (cond-both (EndsInFile file i) (eqb b 0x14) _ _ (whole (Root _))
+      (cond-both (EndsInFile file i) (eqb b 0x1f) _ _ (whole Done) none)))))
+
+  pub command-in-file : T (isCommand (commandAt file i)) → i + size (commandAt file i) ≤ length file
+  command-in-file = cond-both (EndsInFile file i) (leb (i + 1) (length file)) _ _ (of-byte (getD file i 0)) none .ends
+
+-- every command has bytes
+pub size-some : (c : Command) → T (isCommand c) → 0 < size c
+size-some (Tags n) k = omega arith
+size-some (TypeBlock g s) k = omega arith
+size-some (Final q) k = omega arith
+size-some (Step p j q) k = omega arith
+size-some (Root a) k = omega arith
+size-some Done k = omega arith
+size-some NoCommand k = absurd k
+
+-- one command more
+pub file-more : (cs : List Command) (c : Command) → fileOf (cs ++ (c ∷ [])) ≡ fileOf cs ++ bytesOf c
+unfolding fileOf
+file-more [] c = append-nil (bytesOf c)
+file-more (d ∷ cs) c = ap (λ (l : List ℕ). bytesOf d ++ l) (file-more cs c) ∙ sym (append-assoc (bytesOf d) (fileOf cs) (bytesOf c))
+
+pub length-more : (cs : List Command) (c : Command) → length (fileOf (cs ++ (c ∷ []))) ≡ length (fileOf cs) + size c
+length-more cs c = rw (file-more cs c, length-append)
+
+-- a command stands where its bytes do
+stands : (file rest : List ℕ) (i : ℕ) (c : Command) → T (isCommand c) → i + size c ≤ length file
+    → getD file i 0 ≡ getD (bytesOf c ++ rest) 0 0 → ((k : ℕ) → getD file (i + k) 0 ≡ getD (bytesOf c ++ rest) k 0)
+    → commandAt file i ≡ c
+unfolding commandOf
+stands file rest i (Tags n) t l b h = simp (le-leb (i + 1) (length file) (omega arith), b, le-leb (i + 2) (length file) l, h 1)
+stands file rest i (TypeBlock g s) t l b h =
+    simp (le-leb (i + 1) (length file) (omega arith), b, le-leb (i + 3) (length file) l, h 1, h 2)
+stands file rest i (Final q) t l b h = simp (le-leb (i + 1) (length file) (omega arith), b, le-leb (i + 2) (length file) l, h 1)
+stands file rest i (Step p j q) t l b h =
+    simp (le-leb (i + 1) (length file) (omega arith), b, le-leb (i + 4) (length file) l, h 1, h 2, h 3)
+stands file rest i (Root a) t l b h = simp (le-leb (i + 1) (length file) (omega arith), b, le-leb (i + 2) (length file) l, h 1)
+stands file rest i Done t l b h = simp (le-leb (i + 1) (length file) l, b)
+stands file rest i NoCommand t l b h = absurd t
+
+-- Each of the six is read back from its bytes, whatever stands before and after them.
+pub read-back : (before rest : List ℕ) (c : Command) → T (isCommand c) → {file : List ℕ} → file ≡ before ++ (bytesOf c ++ rest)
+    → commandAt file (length before) ≡ c
+read-back before rest c t {file} e =
+    let i = length before in
+    let own : (k : ℕ) → getD file (i + k) 0 ≡ getD (bytesOf c ++ rest) k 0 = λ k. rw e (getD-append-add before (bytesOf c ++ rest) k 0) in
+    let l : length file ≡ i + (size c + length rest) = rw (e, length-append, length-append) in
+    let same : i + 0 ≡ i = omega arith in
+    stands file rest i c t (omega arith) (rw same at (own 0)) own

@@ -1,0 +1,3 @@
+-- Laws of the commands and their bytes.
+pub mod CommandLaws
+pub mod CaseLaws

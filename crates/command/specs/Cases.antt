@@ -1,0 +1,31 @@
+-- What a command of one kind gives, by its operands; any other gives what stands beside.
+use Prim.Native.Nat.{ℕ}
+use Rattle.command.specs.declared.Command.{Command}
+use Rattle.command.specs.declared.Command.the-variants.{Tags, TypeBlock, Final, Step, Root, Done, NoCommand}
+
+abbrev pub onType : {A : Type 0} → (ℕ → ℕ → A) → A → Command → A
+onType f x (Tags n) = x
+onType f x (TypeBlock g s) = f (g .0) s
+onType f x (Final q) = x
+onType f x (Step p j q) = x
+onType f x (Root a) = x
+onType f x Done = x
+onType f x NoCommand = x
+
+abbrev pub onFinal : {A : Type 0} → (ℕ → A) → A → Command → A
+onFinal f x (Tags n) = x
+onFinal f x (TypeBlock g s) = x
+onFinal f x (Final q) = f q
+onFinal f x (Step p j q) = x
+onFinal f x (Root a) = x
+onFinal f x Done = x
+onFinal f x NoCommand = x
+
+abbrev pub onStep : {A : Type 0} → (ℕ → ℕ → ℕ → A) → A → Command → A
+onStep f x (Tags n) = x
+onStep f x (TypeBlock g s) = x
+onStep f x (Final q) = x
+onStep f x (Step p j q) = f p (j .0) q
+onStep f x (Root a) = x
+onStep f x Done = x
+onStep f x NoCommand = x

@@ -1,0 +1,61 @@
+-- "One-byte commands, hexadecimal, with one-byte operands": their bytes, and the command at a place of a file.
+use mathlib.Core.Bool.{Bool, true, false, cond}
+use mathlib.Core.List.{List, [], _∷_, _++_}
+use Prim.Native.Nat.{ℕ, _+_}
+use lib.Dec.{eqb, leb}
+use lib.ListN.{length, getD}
+use Rattle.sdtd.specs.Numbered.{tagNo, typeNo}
+use Rattle.command.specs.declared.Command.{Command}
+use Rattle.command.specs.declared.Command.the-variants.{Tags, TypeBlock, Final, Step, Root, Done, NoCommand}
+
+-- one of the six
+abbrev pub isCommand : Command → Bool
+isCommand (Tags n) = true
+isCommand (TypeBlock g s) = true
+isCommand (Final q) = true
+isCommand (Step p j q) = true
+isCommand (Root a) = true
+isCommand Done = true
+isCommand NoCommand = false
+
+-- "10 TAGS (count); 11 TYPE (tag, state count), which starts the next type's block; 12 FINAL (state); 13 STEP (from, type, to);
+-- 14 ROOT (type); 1F DONE": a command's bytes; where there is no command, none.
+abbrev pub bytesOf : Command → List ℕ
+bytesOf (Tags n) = 0x10 ∷ n ∷ []
+bytesOf (TypeBlock g s) = 0x11 ∷ g .0 ∷ s ∷ []
+bytesOf (Final q) = 0x12 ∷ q ∷ []
+bytesOf (Step p j q) = 0x13 ∷ p ∷ j .0 ∷ q ∷ []
+bytesOf (Root a) = 0x14 ∷ a .0 ∷ []
+bytesOf Done = 0x1f ∷ []
+bytesOf NoCommand = []
+
+-- the file of the commands: their bytes in order
+unfoldable pub fileOf : List Command → List ℕ
+fileOf [] = []
+fileOf (c ∷ cs) = bytesOf c ++ fileOf cs
+
+-- how many bytes a command has
+abbrev pub size : Command → ℕ
+size c = length (bytesOf c)
+
+-- the operand number k of the command at the place i
+abbrev operand : List ℕ → ℕ → ℕ → ℕ
+operand file i k = getD file (i + k) 0
+
+-- the command, if the file has its bytes from the place i on
+abbrev whole : List ℕ → ℕ → Command → Command
+whole file i c = cond (leb (i + size c) (length file)) c NoCommand
+
+-- the command that begins with the byte b at the place i
+unfoldable pub commandOf : List ℕ → ℕ → ℕ → Command
+commandOf file i b =
+    cond (eqb b 0x10) (whole file i (Tags (operand file i 1)))
+    (cond (eqb b 0x11) (whole file i (TypeBlock (tagNo (operand file i 1)) (operand file i 2)))
+    (cond (eqb b 0x12) (whole file i (Final (operand file i 1)))
+    (cond (eqb b 0x13) (whole file i (Step (operand file i 1) (typeNo (operand file i 2)) (operand file i 3)))
+    (cond (eqb b 0x14) (whole file i (Root (typeNo (operand file i 1))))
+    (cond (eqb b 0x1f) (whole file i Done) NoCommand)))))
+
+-- The command at the place i: none where the file ends, where the byte begins none of the six, or where its operands run past the end.
+abbrev pub commandAt : List ℕ → ℕ → Command
+commandAt file i = cond (leb (i + 1) (length file)) (commandOf file i (getD file i 0)) NoCommand

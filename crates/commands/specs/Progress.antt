@@ -1,0 +1,130 @@
+-- What the private steps over the commands compute: the progress and the tables after each command, and what is read from them.
+use mathlib.Core.Path.{_≡_}
+use mathlib.Core.Bool.{Bool, false, cond, _&&_, _||_}
+use mathlib.Core.List.{List, [], _∷_}
+use Prim.Native.Nat.{ℕ, zero, suc, _+_, _-_, _%_}
+use lib.Dec.{leb, ltb}
+use lib.ListN.{getD, set}
+use Rattle.sdtd.specs.Limits.{mostTypes, mostSteps}
+use Rattle.sdtd.specs.Numbered.{typeNo}
+use Rattle.sdtd.specs.Answer.{Ordered, fine, refused-at, verdictIn}
+use Rattle.sdtd.specs.declared.Verdict.{Verdict}
+use Rattle.schema.specs.States.{insert}
+use Rattle.schema.specs.Value.{stepAt}
+use Rattle.schema.specs.declared.state_set.StateSet.{StateSet}
+use Rattle.schema.specs.declared.value.Schema.{Schema}
+use Rattle.command.specs.Cases.{onType, onFinal, onStep}
+use Rattle.command.specs.declared.Command.{Command}
+use Rattle.command.specs.declared.Command.the-variants.{Tags, TypeBlock, Final, Step, Root, Done, NoCommand}
+use Rattle.commands.specs.File.{sameStep, knownAsked}
+use Rattle.commands.specs.declared.progress.Phase.the-variants.{BeforeTags, BeforeTypes, InBlock, AfterRoot, AfterDone}
+use Rattle.commands.specs.declared.progress.Progress.{Progress}
+use Rattle.commands.specs.declared.questions.Seen.{Seen}
+
+abbrev pub nothingRead : Progress
+nothingRead = record { phase = BeforeTags; tags = 0; types = 0; root = typeNo 0; steps = 0 }
+
+-- the progress after a command that passed its questions
+unfoldable pub progressAfter : Progress → Command → Progress
+progressAfter s (Tags n) = record { phase = BeforeTypes; tags = n; types = s .types; root = s .root; steps = s .steps }
+progressAfter s (TypeBlock g k) =
+    record { phase = InBlock; tags = s .tags; types = s .types % mostTypes + 1; root = s .root; steps = s .steps }
+progressAfter s (Final q) = s
+progressAfter s (Step p j q) =
+    record { phase = s .phase; tags = s .tags; types = s .types; root = s .root; steps = s .steps % mostSteps + 1 }
+progressAfter s (Root a) = record { phase = AfterRoot; tags = s .tags; types = s .types; root = a; steps = s .steps }
+progressAfter s Done = record { phase = AfterDone; tags = s .tags; types = s .types; root = s .root; steps = s .steps }
+progressAfter s NoCommand = s
+
+-- what is seen of the file: by the progress, and the state count and the accepting states of the block that the file is in, and whether that
+-- block has the STEP already
+abbrev pub seenBy : Progress → ℕ → StateSet → Bool → Seen
+seenBy s states accepting given =
+    record {
+      phase = s .phase;
+      tags = s .tags;
+      types = s .types;
+      steps = s .steps;
+      states = states;
+      accepting = accepting;
+      given = given;
+    }
+
+-- the place of the block that the file is in
+abbrev pub lastType : ℕ → ℕ
+lastType types = (types % mostTypes + (mostTypes - 1)) % mostTypes
+
+-- one of the n steps from the place i on is p, j, q
+unfoldable pub givenIn : List ℕ → List ℕ → List ℕ → ℕ → ℕ → ℕ → ℕ → ℕ → Bool
+givenIn from by to p j q i zero = false
+givenIn from by to p j q i (suc n) = sameStep p j q (stepAt from by to i) || givenIn from by to p j q (suc i) n
+
+-- one of the last n steps of the count is p, j, q
+abbrev pub givenLast : List ℕ → List ℕ → List ℕ → ℕ → ℕ → ℕ → ℕ → ℕ → Bool
+givenLast from by to count n p j q = cond (leb n count && leb count mostSteps) (givenIn from by to p j q (count - n) n) false
+
+-- the command is a STEP, and one of them
+abbrev pub givenAlready : List ℕ → List ℕ → List ℕ → ℕ → ℕ → Command → Bool
+givenAlready from by to count n c = onStep (givenLast from by to count n) false c
+
+-- The tables: of each type its tag, state count, accepting states and number of steps; of each step its parts and its place.
+pub record SchemaTables : Type 0 where
+  pub tag : List ℕ
+  pub states : List ℕ
+  pub accepting : List ℕ
+  pub counts : List ℕ
+  pub from : List ℕ
+  pub by : List ℕ
+  pub to : List ℕ
+  pub places : List ℕ
+
+-- each after a command that passed its questions: with so many types, or steps, before it; `i` is its place
+abbrev pub tagAfter : ℕ → List ℕ → Command → List ℕ
+tagAfter types l c = onType (λ g k. set l (types % mostTypes) g) l c
+
+abbrev pub statesAfter : ℕ → List ℕ → Command → List ℕ
+statesAfter types l c = onType (λ g k. set l (types % mostTypes) k) l c
+
+abbrev pub acceptingAfter : ℕ → List ℕ → Command → List ℕ
+acceptingAfter types l c = onFinal (λ q. set l (lastType types) (insert q (getD l (lastType types) 0))) l c
+
+abbrev pub countsAfter : ℕ → List ℕ → Command → List ℕ
+countsAfter types l c = onStep (λ p j q. set l (lastType types) (getD l (lastType types) 0 % mostSteps + 1)) l c
+
+abbrev pub fromAfter : ℕ → List ℕ → Command → List ℕ
+fromAfter steps l c = onStep (λ p j q. set l (steps % mostSteps) p) l c
+
+abbrev pub byAfter : ℕ → List ℕ → Command → List ℕ
+byAfter steps l c = onStep (λ p j q. set l (steps % mostSteps) j) l c
+
+abbrev pub toAfter : ℕ → List ℕ → Command → List ℕ
+toAfter steps l c = onStep (λ p j q. set l (steps % mostSteps) q) l c
+
+abbrev pub placesAfter : ℕ → ℕ → List ℕ → Command → List ℕ
+placesAfter steps i l c = onStep (λ p j q. set l (steps % mostSteps) i) l c
+
+-- the places of those of the n steps from i on that name no type below the count
+unfoldable pub unknownAt : List ℕ → List ℕ → ℕ → ℕ → ℕ → List ℕ
+unknownAt by places types i zero = []
+unknownAt by places types i (suc n) =
+    cond (ltb (getD by i 0) types) (unknownAt by places types (suc i) n) (getD places i 0 ∷ unknownAt by places types (suc i) n)
+
+-- question 7, by the places of the steps that name no given type
+abbrev pub KnownVerdict : List ℕ → Verdict → Type 0
+KnownVerdict places r = Ordered (knownAsked (λ p. verdictIn (refused-at 7 p)) places ∷ []) (λ v. v ≡ verdictIn fine) r
+
+-- the schema value of the tables
+abbrev pub valueOf : Progress → List ℕ → List ℕ → List ℕ → List ℕ → List ℕ → List ℕ → List ℕ → Schema
+valueOf s tag states accepting counts from by to =
+    record {
+      tags = s .tags;
+      types = s .types;
+      root = s .root;
+      tag = tag;
+      states = states;
+      accepting = accepting;
+      steps = counts;
+      from = from;
+      by = by;
+      to = to;
+    }

@@ -1,0 +1,81 @@
+-- "For each command": the questions 2 to 6, asked of what is seen of the file where the command stands.
+use mathlib.Core.Bool.{Bool, true, false, cond, not, _&&_, _||_}
+use mathlib.Core.List.{List, [], _∷_}
+use Prim.Native.Nat.{ℕ}
+use lib.Dec.{eqb, leb, ltb}
+use Rattle.sdtd.specs.Limits.{mostTags, mostTypes, mostStates, mostSteps}
+use Rattle.schema.specs.States.{member}
+use Rattle.command.specs.Command.{isCommand}
+use Rattle.command.specs.declared.Command.{Command}
+use Rattle.command.specs.declared.Command.the-variants.{Tags, TypeBlock, Final, Step, Root, Done, NoCommand}
+use Rattle.commands.specs.declared.progress.Phase.{Phase}
+use Rattle.commands.specs.declared.progress.Phase.the-variants.{BeforeTags, BeforeTypes, InBlock, AfterRoot, AfterDone}
+use Rattle.commands.specs.declared.questions.Seen.{Seen}
+
+-- Where a file stands, in order: before TAGS, before the first TYPE, in a block, after ROOT, after DONE.
+abbrev pub rank : Phase → ℕ
+rank BeforeTags = 0
+rank BeforeTypes = 1
+rank InBlock = 2
+rank AfterRoot = 3
+rank AfterDone = 4
+
+abbrev pub samePhase : Phase → Phase → Bool
+samePhase p q = eqb (rank p) (rank q)
+
+-- What is seen (`Seen`): the phase; the numbers of tags, types and steps so far; of the block that the file is in, its state count, its
+-- accepting states as a set, and whether it has the command's STEP already.
+
+-- "Does it stand in its order?" "TAGS, one or more blocks of a TYPE with FINAL and STEP in any order, ROOT, DONE."
+abbrev pub inOrder : Seen → Command → Bool
+inOrder s (Tags n) = samePhase (s .phase) BeforeTags
+inOrder s (TypeBlock g k) = samePhase (s .phase) BeforeTypes || samePhase (s .phase) InBlock
+inOrder s (Final q) = samePhase (s .phase) InBlock
+inOrder s (Step p j q) = samePhase (s .phase) InBlock
+inOrder s (Root a) = samePhase (s .phase) InBlock
+inOrder s Done = samePhase (s .phase) AfterRoot
+inOrder s NoCommand = false
+
+-- "Are the operands in range (count 1 to 32; tag below the count; states 1 to 32; state below its type's; STEP's type below 64; ROOT's type
+-- already given)?"
+abbrev pub inRange : Seen → Command → Bool
+inRange s (Tags n) = leb 1 n && leb n mostTags
+inRange s (TypeBlock g k) = ltb (g .0) (s .tags) && (leb 1 k && leb k mostStates)
+inRange s (Final q) = ltb q (s .states)
+inRange s (Step p j q) = ltb p (s .states) && (ltb (j .0) mostTypes && ltb q (s .states))
+inRange s (Root a) = ltb (a .0) (s .types)
+inRange s Done = true
+inRange s NoCommand = true
+
+-- "Is it within 64 types and 1,024 steps?"
+abbrev pub withinCounts : Seen → Command → Bool
+withinCounts s (Tags n) = true
+withinCounts s (TypeBlock g k) = ltb (s .types) mostTypes
+withinCounts s (Final q) = true
+withinCounts s (Step p j q) = ltb (s .steps) mostSteps
+withinCounts s (Root a) = true
+withinCounts s Done = true
+withinCounts s NoCommand = true
+
+-- "Is this FINAL or STEP not yet given in its block?"
+abbrev pub notGiven : Seen → Command → Bool
+notGiven s (Tags n) = true
+notGiven s (TypeBlock g k) = true
+notGiven s (Final q) = not (member q (s .accepting .0))
+notGiven s (Step p j q) = not (s .given)
+notGiven s (Root a) = true
+notGiven s Done = true
+notGiven s NoCommand = true
+
+-- The questions in order, each with its number and whether the answer is yes. 2 is: "Is it one of the six, its operands inside the file?"
+abbrev pub questions : Seen → Command → List (ℕ × Bool)
+questions s c = (2, isCommand c) ∷ (3, inOrder s c) ∷ (4, inRange s c) ∷ (5, withinCounts s c) ∷ (6, notGiven s c) ∷ []
+
+-- the number of the first that is answered no; 0 where there is none
+abbrev pub firstNo : List (ℕ × Bool) → ℕ
+firstNo [] = 0
+firstNo (q ∷ qs) = cond (q .1) (firstNo qs) (q .0)
+
+-- the number of the first question that the command fails; 0 where it passes them all
+abbrev pub failed : Seen → Command → ℕ
+failed s c = firstNo (questions s c)

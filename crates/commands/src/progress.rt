@@ -1,0 +1,117 @@
+// How far the file is read: its phase, and what the commands so far count.
+use command::Command;
+use schema::STEPS;
+use schema::TYPES;
+use sdtd::TypeNo;
+ghost use mathlib.Core.Path.{_≡_};
+ghost use Rattle.commands.specs.Questions.{rank, samePhase};
+ghost use Rattle.commands.specs.Progress.{nothingRead, progressAfter};
+ghost use Rattle.commands.specs.declared.progress.Phase.the-variants.{AfterDone};
+
+// the most types, as a byte
+pub(crate) const TYPE_NUMBERS: u8 = TYPES as u8;
+
+// Where the file stands: before TAGS, before the first TYPE, in a block, after ROOT, after DONE.
+pub(crate) enum Phase {
+    BeforeTags,
+    BeforeTypes,
+    InBlock,
+    AfterRoot,
+    AfterDone,
+}
+
+// The phase's place in their order.
+fn rank_of(phase: Phase) -> u8
+    ensures { λ r. ⌜ r ≡ rank phase ⌝ }
+{
+    match phase {
+        Phase::BeforeTags => 0,
+        Phase::BeforeTypes => 1,
+        Phase::InBlock => 2,
+        Phase::AfterRoot => 3,
+        Phase::AfterDone => 4,
+    }
+}
+
+// Are they one phase?
+pub(crate) fn same_phase(phase: Phase, other: Phase) -> bool
+    ensures { λ r. ⌜ r ≡ samePhase phase other ⌝ }
+{
+    rank_of(phase) == rank_of(other)
+}
+
+// The phase, the counts and the root so far.
+pub(crate) struct Progress {
+    pub phase: Phase,
+    pub tags: u8,
+    pub types: u8,
+    pub root: TypeNo,
+    pub steps: usize,
+}
+
+// Before the first command.
+pub(crate) fn nothing_read() -> Progress
+    ensures { λ r. ⌜ r ≡ nothingRead ⌝ }
+{
+    Progress {
+        phase: Phase::BeforeTags,
+        tags: 0,
+        types: 0,
+        root: TypeNo(0),
+        steps: 0,
+    }
+}
+
+// Was DONE read?
+pub(crate) fn is_done(progress: Progress) -> bool
+    ensures { λ r. ⌜ r ≡ samePhase (progress .phase) AfterDone ⌝ }
+{
+    let phase = progress.phase;
+    same_phase(phase, Phase::AfterDone)
+}
+
+// The progress after a command that passed its questions.
+pub(crate) fn progress_after(progress: Progress, command: Command) -> Progress
+    ensures { λ r. ⌜ r ≡ progressAfter progress command ⌝ }
+{
+    let phase = progress.phase;
+    let root = progress.root;
+    match command {
+        Command::Tags(n) => Progress {
+            phase: Phase::BeforeTypes,
+            tags: n,
+            types: progress.types,
+            root,
+            steps: progress.steps,
+        },
+        Command::TypeBlock(_, _) => Progress {
+            phase: Phase::InBlock,
+            tags: progress.tags,
+            types: progress.types % TYPE_NUMBERS + 1,
+            root,
+            steps: progress.steps,
+        },
+        Command::Step(_, _, _) => Progress {
+            phase,
+            tags: progress.tags,
+            types: progress.types,
+            root,
+            steps: progress.steps % STEPS + 1,
+        },
+        Command::Root(a) => Progress {
+            phase: Phase::AfterRoot,
+            tags: progress.tags,
+            types: progress.types,
+            root: a,
+            steps: progress.steps,
+        },
+        Command::Done => Progress {
+            phase: Phase::AfterDone,
+            tags: progress.tags,
+            types: progress.types,
+            root,
+            steps: progress.steps,
+        },
+        _ => progress,
+    }
+}

@@ -1,0 +1,103 @@
+-- What each answer of the two calls about competition means.
+use mathlib.Core.Path.{_≡_, refl, ap, _∙_}
+use mathlib.Core.Logic.{inl, inr, ⊎-elim}
+use mathlib.Core.Bool.{true, false}
+use mathlib.Core.List.{List, [], _∷_, _++_}
+use Prim.Native.Nat.{ℕ, _+_, _*_, _/_, _%_, _≤_, _<_}
+use native.Mathlib.Omega.{arith}
+use lib.ListN.{length}
+use Rattle.sdtd.specs.Limits.{leastWitness}
+use Rattle.sdtd.specs.Schema.{Schema, WithinLimits}
+use Rattle.sdtd.specs.Trim.{RootBears}
+use Rattle.sdtd.specs.Competition.{Competition, Witness}
+use Rattle.sdtd.specs.Answer.{Ordered}
+use Rattle.sdtd.specs.Numbered.{typeNo}
+use Rattle.sdtd.proofs.Verdicts.{other-number, refused-not-fine}
+use Rattle.sdtd.specs.declared.Verdict.{Verdict}
+use Rattle.sdtd.specs.declared.Verdict.the-variants.{Fine, RefusedAt}
+use Rattle.competition.specs.Questions.{rootAsked, competitionAsked}
+use Rattle.competition.specs.Witness.{headOf}
+use Rattle.competition.specs.Search.{Written, SearchMeans, judgeQuestions, JudgeMeans}
+use Rattle.competition.specs.Queue.{CompetesMeans}
+use Rattle.competition.specs.declared.search.Searched.the-variants.{ShortBuffer, OutsideLimits, Restrained, Competes}
+
+-- a witness shows a competition
+pub witness-competes : {S : Schema} {bytes : List ℕ} → Witness S bytes → Competition S
+witness-competes w =
+    record { type = w .type; compete-in = record { word = w .word; first = w .first; second = w .second; compete = w .compete } }
+
+pub written-competes : {S : Schema} {was is : List ℕ} → Written S was is → Competition S
+written-competes w = witness-competes (w .witness)
+
+-- the head of a witness's bytes, whatever follows them
+pub head-written : {S : Schema} {bytes : List ℕ} (w : Witness S bytes) (rest : List ℕ)
+    → headOf (bytes ++ rest)
+    ≡ record { of = typeNo (w .type); first = typeNo (w .first); second = typeNo (w .second); word = length (w .word) }
+head-written w rest =
+    let long : length (w .word) % 256 + 256 * (length (w .word) / 256) ≡ length (w .word) = omega arith in
+    ap (λ (l : List ℕ). headOf (l ++ rest)) (w .written)
+    ∙ (λ i. record { of = typeNo (w .type); first = typeNo (w .first); second = typeNo (w .second); word = long i })
+
+-- a schema inside the limits, with a buffer that is long enough, is asked 8 and 9
+pub judged-inside :
+    {S : Schema} {was is : List ℕ} {r : Verdict} → leastWitness ≤ length was → WithinLimits S → JudgeMeans S was is r
+    → Ordered (rootAsked (RefusedAt 8 0) S ∷ competitionAsked (RefusedAt 9 0) S ∷ []) (λ a. a ≡ Fine) r
+judged-inside long within m =
+    ⊎-elim (λ o. absurd (o .0 long)) (λ o. ⊎-elim (λ p. absurd (p .0 within)) (λ p. p .1) (o .1)) (m .answer)
+
+module _ (S : Schema) (was : List ℕ) where
+  -- a refusal by another number leaves the buffer as it was
+  unwritten : (n : ℕ) → ¬ (n ≡ 9) → Ordered (judgeQuestions S was) (λ a. a ≡ Fine) (RefusedAt n 0) → JudgeMeans S was was (RefusedAt n 0)
+  unwritten n d a = record { answer = a; written = λ e. absurd (other-number refl d e); unchanged = λ o. refl }
+
+  pub short-searched : length was < leastWitness → SearchMeans S was was ShortBuffer
+  short-searched l =
+      record { answer = inl (λ h. omega arith, refl); written = λ e. absurd (omega arith); unchanged = λ d. refl }
+
+  pub short-judged : length was < leastWitness → JudgeMeans S was was (RefusedAt 1 0)
+  short-judged l = unwritten 1 (λ e. omega arith) (inl (λ h. omega arith, refl))
+
+  module _ (long : leastWitness ≤ length was) where
+    pub outside-searched : ¬ WithinLimits S → SearchMeans S was was OutsideLimits
+    outside-searched o =
+        record { answer = inr (long, inl (o, refl)); written = λ e. absurd (omega arith); unchanged = λ d. refl }
+
+    pub outside-judged : ¬ WithinLimits S → JudgeMeans S was was (RefusedAt 10 0)
+    outside-judged o = unwritten 10 (λ e. omega arith) (inr (long, inl (o, refl)))
+
+    module _ (within : WithinLimits S) where
+      pub competing-searched : {is : List ℕ} → CompetesMeans S was is true → SearchMeans S was is Competes
+      competing-searched w =
+          record {
+            answer = inr (long, inr (within, inl (λ n. n (written-competes w), refl)));
+            written = λ e. w;
+            unchanged = λ d. absurd (d refl);
+          }
+
+      pub restrained-searched : {is : List ℕ} → CompetesMeans S was is false → SearchMeans S was is Restrained
+      restrained-searched n =
+          record {
+            answer = inr (long, inr (within, inr (n .0, refl)));
+            written = λ e. absurd (omega arith);
+            unchanged = λ d. n .1;
+          }
+
+      pub treeless-judged : ¬ RootBears S → JudgeMeans S was was (RefusedAt 8 0)
+      treeless-judged d = unwritten 8 (λ e. omega arith) (inr (long, inr (within, inl (d, refl))))
+
+      module _ (bears : RootBears S) where
+        pub competing-judged : {is : List ℕ} → CompetesMeans S was is true → JudgeMeans S was is (RefusedAt 9 0)
+        competing-judged w =
+            record {
+              answer = inr (long, inr (within, inr (bears, inl (λ n. n (written-competes w), refl))));
+              written = λ e. w;
+              unchanged = λ d. absurd (d refl);
+            }
+
+        pub restrained-judged : {is : List ℕ} → CompetesMeans S was is false → JudgeMeans S was is Fine
+        restrained-judged n =
+            record {
+              answer = inr (long, inr (within, inr (bears, inr (n .0, refl))));
+              written = λ e. refused-not-fine e refl;
+              unchanged = λ d. n .1;
+            }

@@ -1,0 +1,62 @@
+-- `competition::search::competes` meets its contract: by the tables of the trimming, what the search finds is the smallest type in which two
+-- compete, with a word after which they do; or there is none.
+use mathlib.Core.Path.{refl}
+use borrow.Author.Needs.{needs}
+use Rattle.schema.proofs.LimitLaws.{within-room}
+use Rattle.competition.proofs.SearchMeaning.{none-compete, competing-written}
+use Rattle.competition.proofs.search.competes.Statement.{statement}
+use Rattle.competition.proofs.search.competes.Tie as tie
+
+-- the start of the function, from where it calls the search
+abbrev start : tie.After-queue → tie.Start
+start c = c .before .before .before .before .before .before .before .before .before .before
+
+cast-t16 : tie.Need-cast-t16
+cast-t16 c = search needs
+
+first-competing-requires : tie.Need-first-competing-requires
+first-competing-requires c κs =
+    let room = within-room _ (start c .pre .0) in
+    (room .types, room .steps)
+
+enum-known-competing : tie.Need-enum-known-competing
+enum-known-competing c = search needs
+
+write-rivals-requires : tie.Need-write-rivals-requires
+write-rivals-requires c κs =
+    let s = c .before .before .before .before .before in
+    let f = rw (c .before .before .before .competing .given .1) at (s .first-competing .ensures) in
+    let t = f .1 .to-rivals .trail in
+    (t .place-below, t .linked, start (s .before) .pre .2)
+
+same-length : tie.Need-same-length
+same-length c = search needs
+
+returns : tie.Need-returns
+returns c =
+    let s = c .before .before .before .before .before .before .before .before in
+    let given = start (s .before) .pre in
+    let f = rw (c .before .before .before .before .before .before .competing .given .1) at (s .first-competing .ensures) in
+    competing-written _ _ (given .0) (given .1) _ _ _ _ _ (f .0) (f .1) (f .2) _ _ (c .before .before .write-rivals .ensures)
+
+enum-told : tie.Need-enum-told
+enum-told c = search needs
+
+returns-2 : tie.Need-returns-2
+returns-2 c =
+    let s = c .before .before in
+    let given = start (s .before) .pre in
+    (none-compete _ _ (given .0) (given .1) (rw (c .enum-told .given .1) at (s .first-competing .ensures)), refl)
+
+pub competes-spec : {M : Type 1} → statement M
+competes-spec =
+    tie.close
+    (tie.spec
+    cast-t16
+    first-competing-requires
+    enum-known-competing
+    write-rivals-requires
+    same-length
+    returns
+    enum-told
+    returns-2)

@@ -1,0 +1,6 @@
+-- The decoder and the walker; bytes and events undo one another; the openings in order.
+pub mod EventLaws
+pub mod WalkerParts
+pub mod EventBytes
+pub mod EventPlaces
+pub mod Outlines

@@ -1,0 +1,3 @@
+-- Laws of laying texts and numbers.
+pub mod LaidLaws
+pub mod DecimalLaws

@@ -1,0 +1,3 @@
+-- Text in a buffer: what laying leaves there, and a number's digits.
+pub mod Laid
+pub mod Decimal

@@ -1,0 +1,7 @@
+// Text laid into a lent buffer, as far as it fits: bytes, and numbers in decimal digits.
+mod bytes;
+mod decimal;
+
+pub use bytes::put_byte;
+pub use bytes::put_bytes;
+pub use decimal::put_decimal;
