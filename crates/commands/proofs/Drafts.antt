@@ -23,7 +23,8 @@ use Rattle.commands.specs.Questions.{rank, samePhase, failed}
 use Rattle.commands.specs.File.{Placed, Stated, nothingStated, current, stepCount, hasStep, seenOf, after, stopped, states, commandsFrom}
 use Rattle.commands.specs.File.{schemaBy, unknown}
 use Rattle.commands.specs.Value.{EmptyFrom, StatedValue}
-use Rattle.commands.specs.Progress.{SchemaTables, nothingRead, givenLast, lastType, progressAfter, unknownAt}
+use Rattle.commands.specs.Progress.{nothingRead, givenLast, lastType, progressAfter, unknownAt}
+use Rattle.commands.proofs.SchemaTables.{SchemaTables}
 use Rattle.commands.specs.declared.progress.Phase.{Phase}
 use Rattle.commands.specs.declared.progress.Phase.the-variants.{BeforeTags, BeforeTypes, InBlock, AfterRoot, AfterDone}
 use Rattle.commands.specs.declared.progress.Progress.{Progress}

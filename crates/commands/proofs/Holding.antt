@@ -9,7 +9,8 @@ use Rattle.command.specs.declared.Command.{Command}
 use Rattle.commands.specs.Questions.{rank}
 use Rattle.commands.specs.File.{Placed, Draft, Stated, stepCount}
 use Rattle.commands.specs.Value.{EmptyFrom}
-use Rattle.commands.specs.Progress.{SchemaTables, seenBy, lastType, givenAlready, tagAfter, statesAfter, acceptingAfter}
+use Rattle.commands.specs.Progress.{seenBy, lastType, givenAlready, tagAfter, statesAfter, acceptingAfter}
+use Rattle.commands.proofs.SchemaTables.{SchemaTables}
 use Rattle.commands.specs.Progress.{countsAfter, fromAfter, byAfter, toAfter, placesAfter}
 use Rattle.commands.specs.declared.progress.Phase.the-variants.{InBlock}
 use Rattle.commands.specs.declared.progress.Progress.{Progress}

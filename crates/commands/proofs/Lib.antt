@@ -1,4 +1,5 @@
 -- Laws of the commands and of what they state.
+pub mod SchemaTables
 pub mod Passing
 pub mod Holding
 pub mod TableLaws

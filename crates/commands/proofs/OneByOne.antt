@@ -18,7 +18,8 @@ use Rattle.commands.specs.Questions.{samePhase, failed}
 use Rattle.commands.specs.File.{Stated, nothingStated, seenOf, after, Commands, stopped, states, commandsFrom, commands, unknown}
 use Rattle.commands.specs.Value.{StatedValue}
 use Rattle.commands.specs.Answer.{stoppedAt, CommandsBy}
-use Rattle.commands.specs.Progress.{SchemaTables, nothingRead, progressAfter, seenBy, lastType, givenAlready, unknownAt, KnownVerdict}
+use Rattle.commands.specs.Progress.{nothingRead, progressAfter, seenBy, lastType, givenAlready, unknownAt, KnownVerdict}
+use Rattle.commands.proofs.SchemaTables.{SchemaTables}
 use Rattle.commands.specs.declared.commands.StatedSchema.{StatedSchema}
 use Rattle.commands.specs.declared.progress.Phase.the-variants.{AfterDone}
 use Rattle.commands.specs.declared.progress.Progress.{Progress}

@@ -12,7 +12,8 @@ use Rattle.schema.specs.Value.{upFrom, stepAt, stepsOf, offset, blockAt}
 use Rattle.schema.specs.declared.value.Schema.{Schema}
 use Rattle.schema.proofs.Values.{offset-step}
 use Rattle.commands.specs.File.{Placed, Draft, stepCount, blockBy, unknownIn, unknownBy}
-use Rattle.commands.specs.Progress.{SchemaTables, unknownAt, valueOf}
+use Rattle.commands.specs.Progress.{unknownAt, valueOf}
+use Rattle.commands.proofs.SchemaTables.{SchemaTables}
 use Rattle.commands.specs.declared.progress.Progress.{Progress}
 use Rattle.commands.proofs.Holding.{StepsHold, DraftHolds, BlocksHold}
 

@@ -12,7 +12,8 @@ use Rattle.schema.specs.States.{insert, noStates}
 use Rattle.schema.specs.Value.{stepAt}
 use Rattle.commands.specs.File.{sameStep, hasStep, Placed, Draft, current, stepCount, withFinal, withStep}
 use Rattle.commands.specs.Value.{EmptyFrom}
-use Rattle.commands.specs.Progress.{SchemaTables, lastType, givenIn}
+use Rattle.commands.specs.Progress.{lastType, givenIn}
+use Rattle.commands.proofs.SchemaTables.{SchemaTables}
 use Rattle.commands.proofs.Holding.{StepsHold, DraftHolds, BlocksHold, Sized, EmptyPast}
 
 -- the tables with one type more

@@ -67,18 +67,7 @@ givenLast from by to count n p j q = cond (leb n count && leb count mostSteps) (
 abbrev pub givenAlready : List ℕ → List ℕ → List ℕ → ℕ → ℕ → Command → Bool
 givenAlready from by to count n c = onStep (givenLast from by to count n) false c
 
--- The tables: of each type its tag, state count, accepting states and number of steps; of each step its parts and its place.
-pub record SchemaTables : Type 0 where
-  pub tag : List ℕ
-  pub states : List ℕ
-  pub accepting : List ℕ
-  pub counts : List ℕ
-  pub from : List ℕ
-  pub by : List ℕ
-  pub to : List ℕ
-  pub places : List ℕ
-
--- each after a command that passed its questions: with so many types, or steps, before it; `i` is its place
+-- each table after a command that passed its questions: with so many types, or steps, before it; `i` is its place
 abbrev pub tagAfter : ℕ → List ℕ → Command → List ℕ
 tagAfter types l c = onType (λ g k. set l (types % mostTypes) g) l c
 

@@ -8,7 +8,7 @@ use lib.ListN.{length}
 use borrow.Author.Tests.{not-true, not-false}
 use borrow.Author.Needs.{needs}
 use Rattle.sdtd.specs.Limits.{mostTypes, mostSteps}
-use Rattle.commands.specs.Progress.{SchemaTables}
+use Rattle.commands.proofs.SchemaTables.{SchemaTables}
 use Rattle.command.specs.Command.{commandAt}
 use Rattle.command.specs.declared.Command.{Command}
 use Rattle.commands.specs.Questions.{samePhase, failed}
