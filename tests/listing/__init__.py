@@ -1,1 +1,1 @@
-"""What `typestock` prints, said by listing typed trees from the definition."""
+"""What `typestock` answers, said by listing words and typed trees from the definition."""

@@ -1,124 +1,140 @@
-"""The event file's answer under an accepted schema, event by event.
+"""The event file: its events, and its answer with the types of the openings taken."""
 
-Question 13, whether some valid document of any depth begins with the events
-taken and this opening, is searched straight: the elements opened so far have
-types; a closed element's children form a word; an open element's children so
-far, with its open child, must begin a word over tree-bearing types. Each such
-condition speaks of one element alone, and a beginning that meets them all is
-completed by ending each open element's word and giving every missing element
-a tree that its type bears. So a new opening needs the last condition only of
-the innermost element; the others are as they were.
+from functools import lru_cache
+from itertools import accumulate
 
-More than one type of the tag may not be possible there: the schema has no
-competition, so two would contradict question 9, and the enumerator stops.
-Hence one typing of the events taken is kept, and it is the only one.
-"""
-
+from .judged import judge
 from .meaning import Wrong, typed_stream
-
-OPEN, CLOSE, FINISH = 0x21, 0x22, 0x2F
-OPERANDS = {OPEN: 1, CLOSE: 1, FINISH: 0}
-LEVELS = 64
-
-
-class Taken:
-    """The events taken so far, with their typing."""
-
-    def __init__(self, meaning):
-        self.meaning = meaning
-        self.open = []          # the open elements: [type, children's types]
-        self.root_seen = self.finished = False
-        self.openings = []      # (level, tag, type) of each opening
-
-    def possible_types(self, tag):
-        """The types of the tag with which an element may open here."""
-        meaning = self.meaning
-        if not self.open:
-            types = [] if self.root_seen else [meaning.schema.root]
-        else:
-            a, children = self.open[-1]
-            types = meaning.next_types(a, tuple(children))
-        types = [j for j in types if meaning.tag(j) == tag]
-        if len(types) > 1:
-            raise Wrong("two types possible under an accepted schema")
-        return types
-
-    def refusal(self, command, tag):
-        """The first question answered no for this event, or None."""
-        if self.finished:
-            return 11
-        if command == FINISH:
-            return None if self.root_seen and not self.open else 18
-        if tag >= self.meaning.schema.tags:
-            return 12
-        if command == OPEN:
-            if not self.possible_types(tag):
-                return 13
-            return None if len(self.open) < LEVELS else 14
-        if not self.open:
-            return 15
-        a, children = self.open[-1]
-        if self.meaning.tag(a) != tag:
-            return 16
-        return None if self.meaning.is_word(a, tuple(children)) else 17
-
-    def take(self, command, tag, a=None):
-        """The events with this one; an opening's type may be known."""
-        if command == FINISH:
-            self.finished = True
-        elif command == CLOSE:
-            self.open.pop()
-        else:
-            if a is None:
-                [a] = self.possible_types(tag)
-            if self.open:
-                self.open[-1][1].append(a)
-            self.root_seen = True
-            self.open.append([a, []])
-            self.openings.append((len(self.open), tag, a))
+from .reading import Reading
+from .tables import CLOSE, EVENTS, FINISH, LAST_QUESTIONS, MOST_LEVELS, NO_EVENT, OPEN, TAKEN
 
 
 def event_at(data, at):
-    """The command and tag at this place, or None if it is no whole event."""
-    command = data[at]
-    if command not in OPERANDS or at + OPERANDS[command] >= len(data):
+    """The event at this place and its tag (0 for a finish), or None if it is no whole event."""
+    if at >= len(data) or data[at] not in EVENTS or at + EVENTS[data[at]] >= len(data):
         return None
-    return command, data[at + 1] if OPERANDS[command] else None
+    return data[at], data[at + 1] if EVENTS[data[at]] else 0
 
 
-def answer(meaning, data, tree=None):
-    """Number, place and openings taken. With a typed tree given, which must
-    be a valid one of at most 64 levels, the events are not asked about for as
-    long as they are its own: a valid document begins with them."""
-    known = [] if tree is None else known_events(meaning, tree)
-    taken, at, count = Taken(meaning), 0, 0
+def event_bytes(event, tag):
+    return bytes([event, tag][:1 + EVENTS[event]])
+
+
+END = event_bytes(FINISH, 0)
+
+
+def opened(*tags):
+    return b"".join(event_bytes(OPEN, tag) for tag in tags)
+
+
+def closed(*tags):
+    return b"".join(event_bytes(CLOSE, tag) for tag in tags)
+
+
+def leaves(*tags):
+    """Elements without children."""
+    return b"".join(opened(tag) + closed(tag) for tag in tags)
+
+
+def nested(tags, levels):
+    """Elements one in the other, so many levels; the tags come round in turn. The openings and
+    the closings."""
+    down = [tags[n % len(tags)] for n in range(levels)]
+    return opened(*down), closed(*reversed(down))
+
+
+def route(words):
+    """An event list from words: a tag opened, a tag closed after a slash, f for the finish."""
+    return b"".join(END if word == "f" else closed(int(word[1:])) if word[0] == "/"
+                    else opened(int(word)) for word in words.split())
+
+
+def events_of(data):
+    """The events of a well-formed event file, as byte strings."""
+    out, at = [], 0
     while at < len(data):
-        event = event_at(data, at)
-        if event is None:
-            return 19, at, taken.openings
-        if count < len(known) and known[count][:2] == event:
-            taken.take(*known[count])
-        else:
-            known = []
-            number = taken.refusal(*event)
-            if number is not None:
-                return number, at, taken.openings
-            taken.take(*event)
-        at, count = at + 1 + OPERANDS[event[0]], count + 1
-    return (0 if taken.finished else 19), at, taken.openings
+        end = at + 1 + EVENTS[data[at]]
+        out.append(data[at:end])
+        at = end
+    return out
 
 
-def known_events(meaning, tree):
-    """The tree's events with their types, after a look at its typing."""
-    if not meaning.is_typing(tree):
-        raise Wrong("a tree that is said to be valid and is not")
-    return [(OPEN if opening else CLOSE, tag, a)
-            for opening, tag, a in typed_stream(meaning, tree)]
+def calls_of(data):
+    """The events of a well-formed event file with their tags."""
+    return [event_at(event, 0) for event in events_of(data)]
+
+
+def count_openings(data):
+    return sum(event[0] == OPEN for event in events_of(data))
 
 
 def document(meaning, tree):
     """The bytes of the tree's document."""
     out = bytearray()
     for opening, tag, _ in typed_stream(meaning, tree):
-        out += bytes([OPEN if opening else CLOSE, tag])
-    return bytes(out + bytes([FINISH]))
+        out += event_bytes(OPEN if opening else CLOSE, tag)
+    return bytes(out) + END
+
+
+def known_events(meaning, tree):
+    """The tree's events with their types, the last first, after a look at its typing and its
+    levels."""
+    stream = typed_stream(meaning, tree)
+    levels = accumulate(1 if opening else -1 for opening, _, _ in stream)
+    if not meaning.is_typing(tree) or max(levels) > MOST_LEVELS:
+        raise Wrong("a tree that is said to be valid and is not")
+    return [(OPEN if opening else CLOSE, tag, a) for opening, tag, a in reversed(stream)]
+
+
+class Walk:
+    """An event file walked up to its first refusal: number, place and the openings taken, each
+    (level, tag, type). With a typed tree given, which must be a valid one of at most 64 levels,
+    the document alone answers, and the events are not asked about for as long as they are the
+    tree's: a valid document begins with them."""
+
+    def __init__(self, judged, data, room, tree=None):
+        self.reading, self.room, self.openings = Reading(judged, tree is None), room, []
+        self.known = [] if tree is None else known_events(judged.meaning, tree)
+        self.place, self.number = 0, None
+        while self.number is None:
+            self.next(data)
+
+    def next(self, data):
+        """Takes the next event or sets the number."""
+        event = event_at(data, self.place)
+        if event is None:
+            ended = self.place == len(data) and self.reading.is_finished()
+            self.number = TAKEN if ended else NO_EVENT
+            return
+        if not (self.known and self.known[-1][:2] == event):
+            self.known = []
+            self.number = self.reading.refusal(*event)
+        for number, asks in LAST_QUESTIONS[event[0]]:
+            if self.number is None and not getattr(self, asks)():
+                self.number = number
+        if self.number is None:
+            self.take(*event)
+
+    def has_room(self):
+        return len(self.openings) < self.room
+
+    def take(self, event, tag):
+        if self.known:
+            a = self.reading.document.take(*self.known.pop())
+        else:
+            a = self.reading.take(event, tag)
+        if event == OPEN:
+            self.openings.append((self.reading.depth(), tag, a))
+        self.place += len(event_bytes(event, tag))
+
+
+walked = lru_cache(8)(Walk)
+
+
+def line(file, data, room, tree=None):
+    """The line for an event file under a schema file, and the number."""
+    judged = judge(file)
+    walk = walked(judged, data, room, tree)
+    types = [len(walk.openings)] + [a for _, _, a in walk.openings]
+    return (f"{judged.text()} | {walk.number} at {walk.place} | {' '.join(map(str, types))} | kept",
+            walk.number)

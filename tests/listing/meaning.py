@@ -1,45 +1,49 @@
 """Trees, words and competition, decided by listing.
 
-A typed tree is (type, (child, child, ..)). Three facts bound the listings.
+A typed tree is (type, (child, child, ..)). Three facts make the listings whole.
 
- 1. A type that bears a tree bears one in which no type stands twice on the
-    way from the root down (else put the lower element's tree in the place of
-    the upper one's), so one of at most as many levels as there are types; and
-    no element's children need a path that comes twice to one state (else
-    leave out the children between). The same cut shortens the rest of a word.
- 2. A state that some path from 0 comes to is come to by a path that visits no
-    state twice, so by a beginning of at most n - 1 types, n being the number
-    of states that paths can visit at all (0 and those that steps lead to).
- 3. If J and K compete after w there are two paths that read w. Where the same
-    unordered pair of states comes twice along them, the part of w between can
-    be left out. So J and K compete after a w of at most n(n+1)/2 - 1 types.
+ 1. A type that bears a tree of h levels has a word over types that bear trees of fewer levels. So
+    building trees of one level, then of two and so on comes to every type that bears one. And
+    where some word leads from a state to another, a path without any state twice reads one (leave
+    out what lies between), so a search that comes to each state once finds it.
+ 2. A type stands in a word of A over tree-bearing types exactly if a step by it leads from a state
+    that such types come to from 0 to one from which they come to an accepting state.
+ 3. How a beginning of a word can go on depends on the states in which its paths end, and on
+    nothing else. So of beginnings whose paths end in the same states one is listed: two types
+    compete after it if they do after any of the others.
 
-The listing of 3 is the only one that can grow beyond reason: `Meaning` counts
-the beginnings it lists and raises TooMany above `limit`. A schema that does
-so is never made a case; for each that is, every listing went to its bound.
+The listing of 3 can grow beyond reason: `Meaning` counts the beginnings that it lists and raises
+TooMany above a limit, and a schema that does so is never made a case. The listings of whole trees,
+which are compared with the answers beside that, end at a limit too.
 """
 
 from functools import lru_cache
 from itertools import product
 
+from .tables import (MOST_BEGINNINGS, MOST_ELEMENTS, MOST_FORESTS, MOST_LAYER, MOST_LISTED_TREES,
+                     MOST_TREES, SCHEMA_QUESTIONS, TAKEN)
+
 
 class TooMany(Exception):
-    """More beginnings than this listing is meant for."""
+    """More beginnings, or trees, than this listing is meant for."""
 
 
 class Wrong(Exception):
-    """The enumerator contradicts itself, or is handed a wrong choice."""
+    """The model contradicts itself, or is handed a wrong choice."""
 
 
 class Meaning:
     """A schema with what can be listed of it."""
 
-    def __init__(self, schema, limit=1500):
-        self.schema, self.left = schema, limit
+    def __init__(self, schema):
+        self.schema, self.left, self.known_ends = schema, MOST_BEGINNINGS, {}
         self.types = range(len(schema.blocks))
         self.steps = [steps_by_type(block) for block in schema.blocks]
-        for name in ("tree_of_height", "bears", "ending", "is_word",
-                     "completion", "next_types", "trees", "forests"):
+        self.leaving = [steps_by_state(block) for block in schema.blocks]
+        self.accepting = [frozenset(block.accepting) for block in schema.blocks]
+        self.borne = self.trees_by_levels()
+        for name in ("ending", "live", "is_word", "completion", "next_types", "types_in_words",
+                     "first_competition", "trees", "forests"):
             setattr(self, name, lru_cache(None)(getattr(self, name)))
 
     def tag(self, a):
@@ -47,63 +51,56 @@ class Meaning:
 
     # Words, by paths of steps.
 
-    def short_words(self, a, p, visited=()):
-        """The words that paths from state p to an accepting state read which
-        come to no state twice."""
-        block = self.schema.blocks[a]
-        if p in block.accepting:
-            yield ()
-        for start, j, q in block.steps:
-            if start == p and q != p and q not in visited:
-                for word in self.short_words(a, q, visited + (p,)):
-                    yield (j,) + word
+    def words_from(self, a, p, types):
+        """Each state that paths from p by these types come to, with a shortest word that leads
+        there, the shorter first."""
+        words, todo = {p: ()}, [p]
+        for state in todo:
+            yield state, words[state]
+            for j, q in self.leaving[a].get(state, ()):
+                if j in types and q not in words:
+                    words[q] = words[state] + (j,)
+                    todo.append(q)
+
+    def word_over(self, a, p, types):
+        """A shortest word over these types from state p to an accepting one, or None."""
+        return next((word for q, word in self.words_from(a, p, types)
+                     if q in self.accepting[a]), None)
 
     def ends(self, a, word):
-        """The states in which some path from 0 that reads the word ends, by
-        trying one step after another, no state twice at one place."""
-        tried, paths = {(0, 0)}, [(0, 0)]
-        while paths:
-            place, p = paths.pop()
-            if place == len(word):
-                yield p
-                continue
-            for q in self.steps[a].get((p, word[place]), ()):
-                if (place + 1, q) not in tried:
-                    tried.add((place + 1, q))
-                    paths.append((place + 1, q))
+        """The states in which some path from 0 that reads the word ends."""
+        known = self.known_ends
+        if (a, word) not in known:
+            states, rest = (0,), word
+            if word and (a, word[:-1]) in known:
+                states, rest = known[a, word[:-1]], word[-1:]
+            for j in rest:
+                states = tuple(sorted({q for p in states for q in self.steps[a].get((p, j), ())}))
+            known[a, word] = states
+        return known[a, word]
 
     def is_word(self, a, word):
         """Is it a word of a's automaton?"""
-        accepting = self.schema.blocks[a].accepting
-        return any(p in accepting for p in self.ends(a, word))
+        return any(p in self.accepting[a] for p in self.ends(a, word))
 
     # Trees.
 
-    def tree_of_height(self, a, height):
-        """A tree typed with a at its root, of at most so many levels."""
-        if height == 0:
-            return None
-        for word in self.short_words(a, 0):
-            children = []
-            for j in word:
-                children.append(self.tree_of_height(j, height - 1))
-                if children[-1] is None:
-                    break
-            else:
-                return (a, tuple(children))
-        return None
-
-    def bears(self, a):
-        """A tree of few levels typed with a at its root, or None (fact 1)."""
-        for height in range(1, len(self.types) + 1):
-            tree = self.tree_of_height(a, height)
-            if tree is not None:
-                return tree
-        return None
+    def trees_by_levels(self):
+        """A tree for each type that bears one (fact 1)."""
+        built = {}
+        while True:
+            new = {}
+            for a in self.types:
+                word = None if a in built else self.word_over(a, 0, built)
+                if word is not None:
+                    new[a] = (a, tuple(built[j] for j in word))
+            if not new:
+                return built
+            built.update(new)
 
     def is_typing(self, tree):
-        """Is the typed tree's root the root type, and do the children's types
-        of each element form a word of its automaton?"""
+        """Is the typed tree's root the root type, and do the children's types of each element
+        form a word of its automaton?"""
         elements = [tree]
         for a, children in elements:
             if not self.is_word(a, tuple(child[0] for child in children)):
@@ -116,42 +113,38 @@ class Meaning:
         return [(a, children) for children in self.forests(a, 0, size - 1)]
 
     def forests(self, a, p, size):
-        """All children, of so many elements in all, that lead from state p to
-        an accepting state."""
+        """All children, of so many elements in all, that lead from state p to an accepting
+        state."""
         if size == 0:
-            return [()] if p in self.schema.blocks[a].accepting else []
+            return [()] if p in self.accepting[a] else []
         found = {}
-        for start, j, q in self.schema.blocks[a].steps:
-            if start != p:
-                continue
+        for j, q in self.leaving[a].get(p, ()):
             for first in range(1, size + 1):
                 rests = self.forests(a, q, size - first)
-                if rests:
-                    for tree in self.trees(j, first):
-                        for rest in rests:
-                            found[(tree,) + rest] = True
-                if len(found) > 3000:
+                for tree in self.trees(j, first) if rests else ():
+                    found.update(((tree,) + rest, True) for rest in rests)
+                if len(found) > MOST_FORESTS:
                     raise TooMany
         return list(found)
 
     # Beginnings of words over types that bear a tree.
 
     def ending(self, a, p):
-        """A word over tree-bearing types from state p to an accepting one, or
-        None (fact 1)."""
-        for word in self.short_words(a, p):
-            if all(self.bears(j) for j in word):
-                return word
-        return None
+        """A word over tree-bearing types from state p to an accepting one, or None."""
+        return self.word_over(a, p, self.borne)
+
+    def live(self, a):
+        """The live states of a."""
+        states = range(self.schema.blocks[a].states)
+        return frozenset(p for p in states if self.ending(a, p) is not None)
 
     def completion(self, a, beginning):
-        """Types that make the beginning a word of a over tree-bearing types,
-        or None if it begins no such word."""
-        if all(self.bears(j) for j in beginning):
-            for p in self.ends(a, beginning):
-                if self.ending(a, p) is not None:
-                    return self.ending(a, p)
-        return None
+        """Types that make the beginning a word of a over tree-bearing types, or None if it
+        begins no such word."""
+        if not self.borne.keys() >= set(beginning):
+            return None
+        endings = (self.ending(a, p) for p in self.ends(a, beginning))
+        return next((ending for ending in endings if ending is not None), None)
 
     def begins(self, a, beginning):
         """Does some word of a over tree-bearing types begin so?"""
@@ -159,57 +152,65 @@ class Meaning:
 
     def next_types(self, a, beginning):
         """The types that may follow the beginning, the smallest first."""
-        used = sorted({j for _, j, _ in self.schema.blocks[a].steps})
-        return [j for j in used if self.begins(a, beginning + (j,))]
+        return [j for j in sorted(self.types_in_words(a)) if self.begins(a, beginning + (j,))]
 
-    def beginnings(self, a, length):
-        """All beginnings of words of a over tree-bearing types that have at
-        most so many types, the shorter first."""
-        layer = [()] if self.begins(a, ()) else []
-        for _ in range(length + 1):
-            for w in layer:
-                self.left -= 1
-                if self.left < 0:
-                    raise TooMany
-                yield w
-            layer = [w + (j,) for w in layer for j in self.next_types(a, w)]
+    def types_in_words(self, a):
+        """The types that stand in words of a over tree-bearing types, each with a beginning
+        after which it does (fact 2)."""
+        found = {}
+        for p, word in self.words_from(a, 0, self.borne):
+            for j, q in self.leaving[a].get(p, ()):
+                if j in self.borne and self.ending(a, q) is not None:
+                    found.setdefault(j, word)
+        return found
 
-    def visited_states(self, a):
-        """How many states paths can visit at all."""
-        return len({0} | {q for _, _, q in self.schema.blocks[a].steps})
+    def beginnings(self, a):
+        """Beginnings of words of a over tree-bearing types, the shorter first; for each such
+        beginning one whose paths end in the same states (fact 3)."""
+        listed, todo = set(), [()] if self.begins(a, ()) else []
+        for w in todo:
+            ends = self.ends(a, w)
+            if ends in listed:
+                continue
+            listed.add(ends)
+            self.left -= 1
+            if self.left < 0:
+                raise TooMany
+            yield w
+            todo += [w + (j,) for j in self.next_types(a, w)]
 
     # Reached types and competition.
 
     def reached(self):
-        """The reached types; each but the root with the type and the
-        beginning after which it stands in a word (fact 2)."""
+        """The reached types; each but the root with the type and the beginning after which it
+        stands in a word."""
         found, todo = {self.schema.root: None}, [self.schema.root]
         for a in todo:
-            for w in self.beginnings(a, self.visited_states(a) - 1):
-                for j in self.next_types(a, w):
-                    if j not in found:
-                        found[j] = (a, w)
-                        todo.append(j)
+            for j, w in self.types_in_words(a).items():
+                if j not in found:
+                    found[j] = (a, w)
+                    todo.append(j)
         return found
 
     def pairs_after(self, a, w):
         """The pairs J < K of one tag that compete in a after w."""
         types = self.next_types(a, w)
-        return [(j, k) for j in types for k in types
-                if j < k and self.tag(j) == self.tag(k)]
+        return [(j, k) for j in types for k in types if j < k and self.tag(j) == self.tag(k)]
 
     def competition(self, a):
-        """Two types that compete in a and the word beginning after which, or
-        None: all beginnings up to fact 3's bound were listed."""
-        n = self.visited_states(a)
-        for w in self.beginnings(a, n * (n + 1) // 2 - 1):
+        """Two types that compete in a and the beginning after which, or None: each tag has one
+        type in a's words, or all beginnings were listed."""
+        types = self.types_in_words(a)
+        if len({self.tag(j) for j in types}) == len(types):
+            return None
+        for w in self.beginnings(a):
             for j, k in self.pairs_after(a, w):
                 return j, k, w
         return None
 
     def first_competition(self):
-        """The smallest reached type in which two compete, with them and the
-        word beginning; None if there is none."""
+        """The smallest reached type in which two compete, with them and the beginning; None if
+        there is none."""
         reached = self.reached()
         for a in sorted(reached):
             found = self.competition(a)
@@ -219,40 +220,51 @@ class Meaning:
         return None
 
     def compete_after(self, a, j, k, length):
-        """Do J and K compete in a after some beginning of exactly so many
-        types? Lists them in depth, at most 200,000 of them."""
-        beginnings, listed = [()], 0
-        while beginnings:
-            w = beginnings.pop()
-            listed += 1
-            if listed > 200000:
+        """Do J and K compete in a after some beginning of exactly so many types? Of those whose
+        paths end in the same states one is listed."""
+        layer = [()] if self.begins(a, ()) else []
+        for _ in range(length):
+            longer = [w + (i,) for w in layer for i in self.next_types(a, w)]
+            layer = list({self.ends(a, w): w for w in longer}.values())
+            if len(layer) > MOST_LAYER:
                 raise Wrong("too many beginnings to confirm a witness")
-            if len(w) == length:
-                if (j, k) in self.pairs_after(a, w):
-                    return True
-            else:
-                beginnings += [w + (i,) for i in self.next_types(a, w)]
-        return False
+        return any((j, k) in self.pairs_after(a, w) for w in layer)
 
     def show_two_documents(self, reached, a, j, k, w):
-        """Demand 3's two documents for a competition, built and looked at."""
+        """Demand 3's two documents for a competition, built and looked at; where the root bears
+        no tree there is none, and nothing competes."""
         one, other = (self.document_tree(reached, a, w + (i,)) for i in (j, k))
         if not (self.is_typing(one) and self.is_typing(other)
                 and agree_and_differ(self, one, other)):
             raise Wrong("a competition without two such documents")
 
     def document_tree(self, reached, a, beginning):
-        """A valid typed tree that has, in an element of type a, children that
-        begin so."""
+        """A valid typed tree that has, in an element of type a, children that begin so."""
         word = beginning + self.completion(a, beginning)
-        tree = (a, tuple(self.bears(i) for i in word))
+        tree = (a, tuple(self.borne[i] for i in word))
         while reached[a] is not None:
             parent, before = reached[a]
             after = self.completion(parent, before + (a,))
-            tree = (parent, tuple(map(self.bears, before)) + (tree,)
-                    + tuple(map(self.bears, after)))
+            tree = (parent, (*(self.borne[i] for i in before), tree,
+                             *(self.borne[i] for i in after)))
             a = parent
         return tree
+
+    # The schema's questions: the place where it is answered no, or None.
+
+    def root_without_tree(self):
+        return None if self.schema.root in self.borne else 0
+
+    def competition_place(self):
+        return 0 if self.first_competition() else None
+
+    def answer(self):
+        """Number and place of the first question answered no; 0 and 0 if there is none."""
+        for number, asks in SCHEMA_QUESTIONS:
+            place = getattr(self, asks)()
+            if place is not None:
+                return number, place
+        return TAKEN, 0
 
 
 def steps_by_type(block):
@@ -263,9 +275,16 @@ def steps_by_type(block):
     return found
 
 
+def steps_by_state(block):
+    """The steps by the state they start from, as (type, state)."""
+    found = {}
+    for p, j, q in block.steps:
+        found.setdefault(p, []).append((j, q))
+    return found
+
+
 def typed_stream(meaning, tree):
-    """The tree's tag stream without the finish: (is it an opening, tag, type)
-    for each event."""
+    """The tree's tag stream without the finish: (is it an opening, tag, type) for each event."""
     out, todo = [], [(True, tree)]
     while todo:
         opening, (a, children) = todo.pop()
@@ -287,49 +306,53 @@ def agree_and_differ(meaning, one, other):
     return False
 
 
-def small_trees(meaning, most_elements, most_trees=250):
-    """The valid typed trees of at most so many elements; it stops at a size
-    with which there are too many."""
+def listed_trees(meaning):
+    """Valid typed trees, and whether they are all."""
+    if finitely_many(meaning.schema):
+        try:
+            return sorted(all_trees(meaning, meaning.schema.root)), True
+        except TooMany:
+            pass
+    return small_trees(meaning), False
+
+
+def small_trees(meaning):
+    """The valid typed trees up to a number of elements; it stops at a size with which there are
+    too many."""
     found = []
-    for size in range(1, most_elements + 1):
+    for size in range(1, MOST_ELEMENTS + 1):
         try:
             found += meaning.trees(meaning.schema.root, size)
         except TooMany:
             break
-        if len(found) > most_trees:
+        if len(found) > MOST_TREES:
             break
     return found
 
 
-def all_trees(meaning, a, most_trees=400):
-    """All trees typed with a at their root, or TooMany. Only for a schema
-    that `finitely_many` passes: there no path comes to a state twice, so the
-    short words are all words, and no type stands below itself."""
+def all_trees(meaning, a):
+    """All trees typed with a at their root, or TooMany. Only for a schema that `finitely_many`
+    passes: no path comes to a state twice, and no type stands below itself."""
     found = []
-    for word in set(meaning.short_words(a, 0)):
-        choices = [all_trees(meaning, j, most_trees) for j in word]
-        for children in product(*choices):
+    for word in sorted(set(all_words(meaning, a, 0))):
+        for children in product(*(all_trees(meaning, j) for j in word)):
             found.append((a, children))
-            if len(found) > most_trees:
+            if len(found) > MOST_LISTED_TREES:
                 raise TooMany
     return found
 
 
+def all_words(meaning, a, p):
+    """The words that paths from state p to an accepting one read, one for each path."""
+    if p in meaning.accepting[a]:
+        yield ()
+    for j, q in meaning.leaving[a].get(p, ()):
+        for word in all_words(meaning, a, q):
+            yield (j,) + word
+
+
 def finitely_many(schema):
-    """Do all steps lead to later states and name later types? Then there are
-    finitely many trees."""
+    """Do all steps lead to later states and name later types? Then there are finitely many
+    trees."""
     return all(j > a and q > p for a, block in enumerate(schema.blocks)
                for p, j, q in block.steps)
-
-
-def no_two_differ(meaning, trees):
-    """Among the listed documents, do no two agree through an opening and
-    differ in its type? (Demand 3, one way: only these documents.)"""
-    given = {}
-    for tree in trees:
-        events = ()
-        for opening, tag, a in typed_stream(meaning, tree):
-            events += ((opening, tag),)
-            if opening and given.setdefault(events, a) != a:
-                return False
-    return True

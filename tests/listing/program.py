@@ -1,77 +1,45 @@
 """What the program `typestock` prints for a schema file and an event file."""
 
-from . import event_file, schema_file
-from .meaning import Meaning, Wrong
+from .event_file import walked
+from .judged import confirm_length, judge
+from .meaning import Wrong
+from .tables import COMPETITION, EVENT_BYTES, PROGRAM_TYPES, SCHEMA_BYTES
 
-SCHEMA_BYTES, EVENT_BYTES = 16384, 32768
-
-
-class Judged:
-    """A schema file's answer: number and place, or 0 with its meaning. For 9
-    also the type, the two that compete in it and the beginning. `listed_whole`
-    is set where all documents of the schema were listed."""
-
-    listed_whole = False
-
-    def __init__(self, file, limit=1500):
-        self.place, self.meaning, self.competing = 0, None, None
-        try:
-            schema = schema_file.read(file[:SCHEMA_BYTES])
-        except schema_file.Refused as refused:
-            self.number, self.place = refused.number, refused.place
-            return
-        self.meaning = Meaning(schema, limit)
-        if self.meaning.bears(schema.root) is None:
-            self.number = 8
-            return
-        self.competing = self.meaning.first_competition()
-        self.number = 9 if self.competing else 0
-
-    def refused_text(self, chosen=None):
-        """The text for a refused schema. For 9 the second line is `chosen` if
-        it is given and the listing confirms it."""
-        text = f"schema refused {self.number} at {self.place}\n"
-        if self.number != 9:
-            return text
-        a, j, k, w = self.competing
-        own = f"type {a} gives {j} or {k} after {len(w)}"
-        if chosen is not None and chosen != own:
-            self.confirm(chosen)
-            own = chosen
-        return text + own + "\n"
-
-    def confirm(self, line):
-        """Is it a right line `type A gives J or K after n`?"""
-        words = line.split(" ")
-        numbers = [int(x) for x in words[1::2] if x.isascii() and x.isdigit()]
-        if len(words) != 8 or len(numbers) != 4:
-            raise Wrong(f"no line of a competition: {line!r}")
-        a, j, k, n = numbers
-        if line != f"type {a} gives {j} or {k} after {n}":
-            raise Wrong(f"no line of a competition: {line!r}")
-        if a != self.competing[0] or not j < k or n > 527:
-            raise Wrong(f"wrong type, order or length: {line!r}")
-        if not self.meaning.compete_after(a, j, k, n):
-            raise Wrong(f"they do not compete: {line!r}")
+TOO_LONG = "too long"
 
 
-class Case:
-    """A schema file and an event file, with the program's answer."""
+def answer(file, events, tree=None):
+    """The program's text, and the answer's number or TOO_LONG."""
+    if len(events) > EVENT_BYTES:
+        return f"{TOO_LONG}\n", TOO_LONG
+    judged = judge(file[:SCHEMA_BYTES])
+    if not judged.accepted:
+        return refused_text(judged), judged.number
+    walk = walked(judged, events, PROGRAM_TYPES, tree)
+    last = f"refused {walk.number} at {walk.place}" if walk.number else None
+    return events_text(walk.openings, last), walk.number
 
-    def __init__(self, file, events, judged, tree=None):
-        self.file, self.events, self.judged = file, events, judged
-        self.tree = tree
 
-    def answer(self, chosen=None):
-        """The answer's number (None for `too long`) and the text."""
-        if len(self.events) > EVENT_BYTES:
-            return None, "too long\n"
-        if self.judged.number:
-            return self.judged.number, self.judged.refused_text(chosen)
-        number, place, openings = event_file.answer(
-            self.judged.meaning, self.events, self.tree)
-        lines = ["depth tag type"]
-        lines += [f"{level} {tag} {a}" for level, tag, a in openings]
-        lines.append(f"refused {number} at {place}" if number
-                     else f"accepted {len(openings)}")
-        return number, "\n".join(lines) + "\n"
+def events_text(openings, refused=None):
+    """The text under an accepted schema; the last line is that of a refusal or the count."""
+    lines = ["depth tag type"] + [f"{level} {tag} {a}" for level, tag, a in openings]
+    return "\n".join(lines + [refused or f"accepted {len(openings)}"]) + "\n"
+
+
+def refused_text(judged):
+    text = f"schema {judged.text()}\n"
+    if judged.number == COMPETITION:
+        a, j, k, w = judged.meaning.first_competition()
+        text += f"type {a} gives {j} or {k} after {len(w)}\n"
+    return text
+
+
+def confirm_text(file, text):
+    """Is it the right text for a schema refused with 9, whichever choice it states?"""
+    judged = judge(file[:SCHEMA_BYTES])
+    numbers = [int(word) for word in text.split() if word.isascii() and word.isdigit()]
+    a, j, k, n = numbers[-4:] if len(numbers) == 6 else [None] * 4
+    stated = f"schema {judged.text()}\ntype {a} gives {j} or {k} after {n}\n"
+    if judged.number != COMPETITION or text != stated:
+        raise Wrong(f"no text of a competition: {text!r}")
+    confirm_length(judged.meaning, a, j, k, n)

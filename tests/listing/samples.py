@@ -1,23 +1,13 @@
-"""Document 01's samples, and what it says of them."""
+"""Document 01's samples, in its own words and numbers: what each must come out as."""
 
-from .schema_file import Block, Schema, write
+from .event_file import END, closed, leaves, opened
+from .schema_file import Block, Schema, leaf, once, write
 
 R = bytes.fromhex(
     "10 03 11 00 02 12 01 13 00 01 00 13 00 02 01 13 01 03 01 11 01 01 12 00"
     "11 02 01 12 00 11 01 01 12 00 14 00 1F")
 R_EVENTS = bytes.fromhex("21 00 21 01 22 01 21 02 22 02 21 01 22 01 22 00 2F")
 R_TEXT = "depth tag type\n1 0 0\n2 1 1\n2 2 2\n2 1 3\naccepted 4\n"
-
-
-def leaf(tag):
-    """A type whose elements have no children."""
-    return Block(tag, 1, [0])
-
-
-def once(tag, *types):
-    """A type whose elements have exactly one child, of one of these types."""
-    return Block(tag, 2, [1], [(0, j, 1) for j in types])
-
 
 # 000: a -> b1 or b2, b1 -> c, b2 -> d; tags a b c d.
 TWO_B = write(Schema(4, [once(0, 1, 2), once(1, 3), once(1, 4), leaf(2), leaf(3)]))
@@ -38,60 +28,57 @@ EXAMPLE_8_20 = write(Schema(4, [
     Block(0, 5, [4], [(0, 1, 1), (0, 2, 2), (1, 2, 2), (2, 2, 2), (2, 3, 2),
                       (2, 4, 3), (3, 3, 4)]),
     leaf(1), leaf(2), leaf(3), leaf(1)]))
-NO_TREE = write(Schema(1, [Block(0, 2, [1], [(0, 0, 1)])]))
+NO_TREE_AT_ROOT = write(Schema(1, [Block(0, 2, [1], [(0, 0, 1)])]))
 NESTED = write(Schema(1, [Block(0, 1, [0], [(0, 0, 0)])]))
+FITS_SO_FAR, TAGS_OUT_OF_RANGE = bytes.fromhex("10 20"), bytes.fromhex("10 21")
 
-
-def leaves(root, tags):
-    """The document of a root with leaves of these tags."""
-    out = bytes([0x21, root])
-    for tag in tags:
-        out += bytes([0x21, tag, 0x22, tag])
-    return out + bytes([0x22, root, 0x2F])
-
-
-def lines(types, tags, last):
-    """The text for a root of tag and type 0 with leaves."""
-    middle = "".join(f"2 {tag} {a}\n" for tag, a in zip(tags, types))
-    return f"depth tag type\n1 0 0\n{middle}{last}\n"
-
-
-def deep(levels, whole=False):
-    """So many openings of tag 0, with closings and a finish if whole."""
-    out = bytes([0x21, 0]) * levels
-    return out + bytes([0x22, 0]) * levels + b"\x2f" if whole else out
-
-
-def deep_text(levels, last):
-    return ("depth tag type\n"
-            + "".join(f"{n + 1} 0 0\n" for n in range(levels)) + last + "\n")
-
-
-# Schema, events, and the text where document 01 fixes all of it.
-SAMPLES = [
-    (R, R_EVENTS, R_TEXT),
-    (R, bytes.fromhex("21 00 22 00"), "depth tag type\n1 0 0\nrefused 17 at 2\n"),
-    (R, bytes.fromhex("21 00 21 02 22 02 21 02"),
-     "depth tag type\n1 0 0\n2 2 2\nrefused 13 at 6\n"),
-    (R, bytes.fromhex("21 00 21 02 21 02"),
-     "depth tag type\n1 0 0\n2 2 2\nrefused 13 at 4\n"),
-    (TWO_B, b"", "schema refused 9 at 0\ntype 0 gives 1 or 2 after 0\n"),
-    (NO_D, bytes.fromhex("21 00 21 01 21 02 22 02 22 01 22 00 2F"),
-     "depth tag type\n1 0 0\n2 1 1\n3 2 3\naccepted 3\n"),
-    (NO_D, bytes.fromhex("21 00 21 01 21 03"),
-     "depth tag type\n1 0 0\n2 1 1\nrefused 13 at 4\n"),
-    (SIXTH, b"", "schema refused 9 at 0\ntype 0 gives 2 or 3 after 1\n"),
-    (TWO_A, leaves(0, [1, 1]), lines([1, 2], [1, 1], "accepted 3")),
-    (TWO_A, leaves(0, [1, 2]), lines([1, 3], [1, 2], "accepted 3")),
-    (LAST_BUT_ONE, leaves(0, [1]), lines([1], [1], "refused 17 at 6")),
-    (LAST_BUT_ONE, leaves(0, [2, 1, 1]), lines([2, 1, 1], [2, 1, 1], "accepted 4")),
-    (LAST_BUT_ONE, leaves(0, [1, 2, 2]), lines([1, 2, 2], [1, 2, 2], "refused 17 at 14")),
-    (EXAMPLE_8_20, leaves(0, [2, 2, 3, 2, 1, 3]),
-     lines([2, 2, 3, 2, 4, 3], [2, 2, 3, 2, 1, 3], "accepted 7")),
-    (NO_TREE, bytes([0x21, 0]), "schema refused 8 at 0\n"),
-    (NESTED, deep(64, whole=True), deep_text(64, "accepted 64")),
-    (NESTED, deep(65), deep_text(64, "refused 14 at 128")),
-    (bytes.fromhex("10 20"), b"", "schema refused 2 at 2\n"),
-    (bytes.fromhex("10 21"), b"", "schema refused 4 at 0\n"),
-    (b"", R_EVENTS, "schema refused 2 at 0\n"),
+# Schema files with number, place and, for 9, A J K n and w.
+SCHEMAS = [
+    (R, 0, 0, ""),
+    (TWO_B, 9, 0, "0 1 2 0"),
+    (NO_D, 0, 0, ""),
+    (SIXTH, 9, 0, "0 2 3 1 1"),
+    (TWO_A, 0, 0, ""),
+    (LAST_BUT_ONE, 0, 0, ""),
+    (EXAMPLE_8_20, 0, 0, ""),
+    (NO_TREE_AT_ROOT, 8, 0, ""),
+    (NESTED, 0, 0, ""),
+    (FITS_SO_FAR, 2, 2, ""),
+    (TAGS_OUT_OF_RANGE, 4, 0, ""),
 ]
+FILES = [file for file, *_ in SCHEMAS]
+
+# Pairs of states with their numbers.
+PAIRS = [(0, 0, 0), (3, 1, 7), (31, 31, 527)]
+
+
+def row(*tags):
+    """The document of a root of tag 0 with leaves of these tags."""
+    return opened(0) + leaves(*tags) + closed(0) + END
+
+
+# Accepted schemas with events, number, place and the types of the openings taken.
+DOCUMENTS = [
+    (R, R_EVENTS, 0, 17, [0, 1, 2, 3]),
+    (R, bytes.fromhex("21 00 22 00"), 17, 2, [0]),
+    (R, opened(0) + leaves(2) + opened(2), 13, 6, [0, 2]),
+    (R, opened(0) + leaves(1, 2) + opened(2), 13, 10, [0, 1, 2]),
+    (R, opened(0, 2, 2), 13, 4, [0, 2]),
+    (NO_D, opened(0, 1, 2) + closed(2, 1, 0) + END, 0, 13, [0, 1, 3]),
+    (NO_D, opened(0, 1, 3), 13, 4, [0, 1]),
+    (TWO_A, row(1, 1), 0, 13, [0, 1, 2]),
+    (TWO_A, row(1, 2), 0, 13, [0, 1, 3]),
+    (TWO_A, opened(0) + leaves(1, 2) + opened(2), 13, 10, [0, 1, 3]),
+    (LAST_BUT_ONE, row(1), 17, 6, [0, 1]),
+    (LAST_BUT_ONE, row(2, 1, 1), 0, 17, [0, 2, 1, 1]),
+    (LAST_BUT_ONE, row(1, 2, 2), 17, 14, [0, 1, 2, 2]),
+    (EXAMPLE_8_20, row(2, 2, 3, 2, 1, 3), 0, 29, [0, 2, 2, 3, 2, 4, 3]),
+    (NESTED, opened(*[0] * 64) + closed(*[0] * 64) + END, 0, 257, [0] * 64),
+    (NESTED, opened(*[0] * 65), 14, 128, [0] * 64),
+    (R, b"", 19, 0, []),
+    (R, R_EVENTS[:-1], 19, 16, [0, 1, 2, 3]),
+    (R, R_EVENTS + END, 11, 17, [0, 1, 2, 3]),
+    (R, R_EVENTS + b"\0", 19, 17, [0, 1, 2, 3]),
+]
+# The same with the length of the types' buffer.
+BUFFERS = [(R, R_EVENTS, 3, 20, 10, [0, 1, 2]), (R, R_EVENTS, 4, 0, 17, [0, 1, 2, 3])]

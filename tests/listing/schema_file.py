@@ -1,20 +1,11 @@
-"""The schema file's questions 2 to 7, command by command, in document 01's order."""
+"""The schema file's questions 2 to 7, command by command, and the writer of schema files."""
 
+from collections import Counter
 from dataclasses import dataclass, field
 
-TAGS, TYPE, FINAL, STEP, ROOT, DONE = 0x10, 0x11, 0x12, 0x13, 0x14, 0x1F
-OPERANDS = {TAGS: 1, TYPE: 2, FINAL: 1, STEP: 3, ROOT: 1, DONE: 0}
-
-# Which command may follow which; the file begins after the command None.
-MAY_FOLLOW = {
-    None: {TAGS},
-    TAGS: {TYPE},
-    TYPE: {TYPE, FINAL, STEP, ROOT},
-    FINAL: {TYPE, FINAL, STEP, ROOT},
-    STEP: {TYPE, FINAL, STEP, ROOT},
-    ROOT: {DONE},
-    DONE: set(),
-}
+from .tables import (COMMAND_QUESTIONS, COMMANDS, DONE, FILE_QUESTIONS, FINAL, MOST_COMMANDS,
+                     MOST_STATES, MOST_TAGS, MOST_TYPES, NO_COMMAND, ONCE_IN_BLOCK, ROOT, STEP,
+                     TAGS, TYPE)
 
 
 class Refused(Exception):
@@ -44,82 +35,109 @@ class Schema:
     root: int = 0
 
 
+RANGES = {
+    "tag count": lambda schema: range(1, MOST_TAGS + 1),
+    "tag": lambda schema: range(schema.tags),
+    "state count": lambda schema: range(1, MOST_STATES + 1),
+    "state": lambda schema: range(schema.blocks[-1].states),
+    "step's type": lambda schema: range(MOST_TYPES),
+    "given type": lambda schema: range(len(schema.blocks)),
+}
+
+
+class Reader:
+    """A schema file as far as it is read: the command at `at` is in question."""
+
+    def __init__(self, data):
+        self.data, self.at, self.last = data, 0, None
+        self.schema, self.counts, self.given = Schema(), Counter(), set()
+        self.step_places = []
+
+    def read(self):
+        """The schema that the file states, or Refused."""
+        while self.at < len(self.data):
+            self.command = self.data[self.at]
+            count = operand_count(self.command)
+            self.operands = tuple(self.data[self.at + 1:self.at + 1 + count])
+            for number, asks in COMMAND_QUESTIONS:
+                if not getattr(self, asks)():
+                    raise Refused(number, self.at)
+            self.enter()
+        if self.last != DONE:
+            raise Refused(NO_COMMAND, self.at)
+        for number, asks in FILE_QUESTIONS:
+            place = getattr(self, asks)()
+            if place is not None:
+                raise Refused(number, place)
+        return self.schema
+
+    def is_before_the_end(self):
+        return self.last != DONE
+
+    def is_whole(self):
+        return (self.command in COMMANDS
+                and len(self.operands) == operand_count(self.command))
+
+    def is_in_order(self):
+        return self.last in COMMANDS[self.command].follows
+
+    def is_in_range(self):
+        kinds = COMMANDS[self.command].operands
+        return all(operand in RANGES[kind](self.schema)
+                   for kind, operand in zip(kinds, self.operands))
+
+    def is_within_limits(self):
+        most = MOST_COMMANDS.get(self.command)
+        return most is None or self.counts[self.command] < most
+
+    def key(self):
+        """The command in its block."""
+        return len(self.schema.blocks), self.command, self.operands
+
+    def is_new(self):
+        return self.command not in ONCE_IN_BLOCK or self.key() not in self.given
+
+    def step_by_no_type(self):
+        """The place of the first STEP that names a type not given, or None."""
+        return next((place for by, place in self.step_places
+                     if by >= len(self.schema.blocks)), None)
+
+    def enter(self):
+        """Enters the command's part of the schema and goes on to the next."""
+        schema, operands = self.schema, self.operands
+        self.counts[self.command] += 1
+        self.given.add(self.key())
+        if self.command == TAGS:
+            [schema.tags] = operands
+        elif self.command == TYPE:
+            schema.blocks.append(Block(*operands))
+        elif self.command == FINAL:
+            schema.blocks[-1].accepting.append(operands[0])
+        elif self.command == STEP:
+            schema.blocks[-1].steps.append(operands)
+            self.step_places.append((operands[1], self.at))
+        elif self.command == ROOT:
+            [schema.root] = operands
+        self.at, self.last = self.at + 1 + len(operands), self.command
+
+
+def operand_count(command):
+    """How many operands a command has; 0 for a byte that is none."""
+    return len(COMMANDS[command].operands) if command in COMMANDS else 0
+
+
 def read(data):
-    """The schema that the file states, or Refused with 2 to 7."""
-    schema, at, last, step_places = Schema(), 0, None, []
+    return Reader(data).read()
+
+
+def commands_of(data):
+    """The file's commands as byte strings; a byte that is none stands alone."""
+    out, at = [], 0
     while at < len(data):
-        if last == DONE:
-            raise Refused(3, at)
-        command = data[at]
-        operands = data[at + 1:at + 1 + OPERANDS.get(command, 0)]
-        if command not in OPERANDS or len(operands) < OPERANDS[command]:
-            raise Refused(2, at)
-        if command not in MAY_FOLLOW[last]:
-            raise Refused(3, at)
-        if not in_range(schema, command, operands):
-            raise Refused(4, at)
-        if not within_limits(schema, command):
-            raise Refused(5, at)
-        if given_before(schema, command, operands):
-            raise Refused(6, at)
-        enter(schema, command, operands)
-        if command == STEP:
-            step_places.append((operands[1], at))
-        at, last = at + 1 + len(operands), command
-    if last != DONE:
-        raise Refused(2, at)
-    for by, place in step_places:
-        if by >= len(schema.blocks):
-            raise Refused(7, place)
-    return schema
-
-
-def in_range(schema, command, operands):
-    """Question 4 of one command."""
-    if command == TAGS:
-        return 1 <= operands[0] <= 32
-    if command == TYPE:
-        return operands[0] < schema.tags and 1 <= operands[1] <= 32
-    if command == FINAL:
-        return operands[0] < schema.blocks[-1].states
-    if command == STEP:
-        states = schema.blocks[-1].states
-        return operands[0] < states and operands[1] < 64 and operands[2] < states
-    if command == ROOT:
-        return operands[0] < len(schema.blocks)
-    return True
-
-
-def within_limits(schema, command):
-    """Question 5: with this command, at most 64 types and 1,024 steps in all."""
-    if command == TYPE:
-        return len(schema.blocks) < 64
-    if command == STEP:
-        return sum(len(block.steps) for block in schema.blocks) < 1024
-    return True
-
-
-def given_before(schema, command, operands):
-    """Is this FINAL or STEP already in its block?"""
-    if command == FINAL:
-        return operands[0] in schema.blocks[-1].accepting
-    if command == STEP:
-        return tuple(operands) in schema.blocks[-1].steps
-    return False
-
-
-def enter(schema, command, operands):
-    """The command's part of the schema."""
-    if command == TAGS:
-        schema.tags = operands[0]
-    elif command == TYPE:
-        schema.blocks.append(Block(operands[0], operands[1]))
-    elif command == FINAL:
-        schema.blocks[-1].accepting.append(operands[0])
-    elif command == STEP:
-        schema.blocks[-1].steps.append(tuple(operands))
-    elif command == ROOT:
-        schema.root = operands[0]
+        end = at + 1 + operand_count(data[at])
+        out.append(data[at:end])
+        at = end
+    return out
 
 
 def write(schema, shuffle=lambda commands: None):
@@ -132,4 +150,24 @@ def write(schema, shuffle=lambda commands: None):
         shuffle(commands)
         for command in commands:
             out += bytes(command)
-    return bytes(out + bytes([ROOT, schema.root, DONE]))
+    return bytes(out) + end_of_file(schema.root)
+
+
+def end_of_file(root):
+    """The last two commands."""
+    return bytes([ROOT, root, DONE])
+
+
+def without_end(file):
+    """A whole file without its last two commands."""
+    return file[:-len(end_of_file(0))]
+
+
+def leaf(tag):
+    """A type whose elements have no children."""
+    return Block(tag, 1, [0])
+
+
+def once(tag, *types):
+    """A type whose elements have exactly one child, of one of these types."""
+    return Block(tag, 2, [1], [(0, j, 1) for j in types])

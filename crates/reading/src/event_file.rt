@@ -27,6 +27,7 @@ ghost use Rattle.reading.specs.EventFile.{EventsMean};
 
 // The number of the first question answered no, 0 where the file is taken whole; the place of that event, or the file's length; how many
 // openings were taken.
+#[repr(C)]
 pub struct EventFile {
     pub number: u8,
     pub place: usize,

@@ -23,6 +23,7 @@ ghost use Rattle.schema.specs.Spread.{spreadAll, reachAll, Settled, firs
 ghost use Rattle.schema.specs.Trimming.{Exact, TrimMeans, LiveMeans};
 
 // Whether a schema is inside the limits. Entry a: the live states of the type a as a set, whether it bears a tree, whether it is reached.
+#[repr(C)]
 pub struct Trimming {
     pub inside: bool,
     pub live: [u32; TYPES],

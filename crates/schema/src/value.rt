@@ -12,6 +12,7 @@ pub const STEPS: usize = 1024;
 
 // The table entries are bare numbers: a tag in `tag`, a set of states in `accepting`, a type in `by`, a state in `from` and `to`.
 // The steps stand in the order of their types, `steps[a]` of them for the type a.
+#[repr(C)]
 pub struct Schema {
     pub tags: u8,
     pub types: u8,

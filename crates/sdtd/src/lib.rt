@@ -15,6 +15,7 @@ impl Tag {
 }
 
 // A type's number: its place among the schema's blocks.
+#[repr(C)]
 pub struct TypeNo(pub u8);
 
 impl TypeNo {

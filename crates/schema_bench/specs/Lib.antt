@@ -1,2 +1,0 @@
--- What the benchmark's exports promise.
-pub mod Flat

@@ -1,0 +1,69 @@
+"""Lists of calls on a reading, by value and lent, and of values put."""
+
+import struct
+
+from .judged import judge
+from .reading import Reading
+from .tables import CALLS, FIELD_NAMES, FIELDS, LENT, OPEN
+
+PUT = struct.Struct("<BHI")     # field, index and number of a value put
+CALL = struct.Struct("<BB")
+
+
+def put_bytes(field, index, number):
+    return PUT.pack(FIELDS[field].byte, index, number)
+
+
+def items_of(data):
+    """The items of a list: calls (event, tag, lent) and puts (field, index, number)."""
+    at = 0
+    while at < len(data):
+        if data[at] in FIELD_NAMES:
+            byte, index, number = PUT.unpack_from(data, at)
+            yield FIELD_NAMES[byte], index, number
+            at += PUT.size
+        else:
+            call, tag = CALL.unpack_from(data, at)
+            yield CALLS[call % LENT], tag, call >= LENT
+            at += CALL.size
+
+
+class Calls:
+    """A list of calls on a fresh reading beside a schema file's answer, as far as it goes."""
+
+    def __init__(self, file):
+        self.file, self.reading = file, Reading(judge(file))
+        self.items, self.texts, self.answers = bytearray(), [judge(file).text()], []
+        self.lent_answers = []
+
+    def call(self, event, tag=0, lent=False):
+        """Calls; a lent call is answered like one by value."""
+        number = self.reading.refusal(event, tag)
+        text, changed = f"r{number}", ""
+        if number is None:
+            a = self.reading.take(event, tag)
+            text, changed = f"t{a}" if event == OPEN else "ok", self.reading.value.changed
+        self.items += CALL.pack(CALLS.index(event) + LENT * lent, tag)
+        self.answers.append(text)
+        if lent:
+            self.lent_answers.append(text)
+        self.texts.append(text + changed)
+
+    def put(self, field, number, index=0):
+        self.reading.put(field, index, number)
+        self.items += put_bytes(field, index, number)
+        self.texts.append("put" + self.reading.value.changed)
+
+    def line(self):
+        return " ".join(self.texts)
+
+
+def line(file, items):
+    """The line for a list given as bytes."""
+    calls = Calls(file)
+    for name, *rest in items_of(items):
+        if name in FIELDS:
+            calls.put(name, rest[1], rest[0])
+        else:
+            calls.call(name, *rest)
+    return calls.line()

@@ -1,0 +1,18 @@
+"""The cases of every kind, in the groups in which they are made."""
+
+from . import cases_calls, cases_events, cases_jobs, cases_schema, cases_values
+
+GROUPS = (
+    cases_schema.CASES,
+    cases_calls.FRESH_CASES,
+    cases_calls.MADE_UP_CASES,
+    cases_events.CASES,
+    *((part,) for part in cases_jobs.RANDOM_CASES),
+    cases_jobs.OTHER_CASES,
+    cases_values.CASES,
+)
+
+
+def made(number):
+    """The cases of one group."""
+    return [case for cases in GROUPS[number] for case in cases()]

@@ -1,0 +1,110 @@
+"""The schema file's answer, the value beside it, and witnesses confirmed by listing."""
+
+from functools import lru_cache
+
+from . import schema_file
+from .meaning import Meaning, Wrong
+from .tables import (COMPETITION, LEAST_WITNESS_ROOM, MOST_TYPES, MOST_WORD, OUTSIDE_LIMITS,
+                     SHORT_WITNESS_ROOM, TAKEN)
+from .value import SchemaValue, as_set
+
+
+NO_SCHEMA = SchemaValue.of(schema_file.Schema())
+
+
+class Judged:
+    """A schema file's answer to questions 2 to 9; its meaning where it has passed 7; the value
+    beside the answer."""
+
+    def __init__(self, file):
+        self.meaning, self.value = None, NO_SCHEMA
+        try:
+            self.meaning = Meaning(schema_file.read(file))
+            self.number, self.place = self.meaning.answer()
+        except schema_file.Refused as refused:
+            self.number, self.place = refused.number, refused.place
+        self.accepted = self.number == TAKEN
+        if self.accepted:
+            self.value = SchemaValue.of(self.meaning.schema, self.meaning)
+
+    def text(self):
+        return answer_text(self.number, self.place)
+
+
+judge = lru_cache(1000)(Judged)
+
+
+def answer_text(number, place):
+    return f"refused {number} at {place}" if number else "accepted"
+
+
+def has_room(room):
+    """Has the witness buffer so many bytes as question 1 asks?"""
+    return room >= LEAST_WITNESS_ROOM
+
+
+def schema_line(file, room):
+    """The line for a schema file and a witness buffer of so many bytes, and the number."""
+    if not has_room(room):
+        text = answer_text(SHORT_WITNESS_ROOM, 0)
+        return f"{text} | {NO_SCHEMA.text()} | kept", SHORT_WITNESS_ROOM
+    judged = judge(file)
+    buffer = buffer_text(judged.number, judged.meaning)
+    return f"{judged.text()} | {judged.value.text()} | {buffer}", judged.number
+
+
+def buffer_text(number, meaning):
+    """What the witness buffer holds after an answer: past the witness all is kept."""
+    if number != COMPETITION:
+        return "kept"
+    a, j, k, w = meaning.first_competition()
+    return "kept | " + " ".join(map(str, [a, j, k, len(w), *w]))
+
+
+def value_line(value, room):
+    """The line for a schema value made up, and the numbers of its search and its judgement."""
+    meaning = value.meaning
+    types = range(min(value.held["types"], MOST_TYPES))
+    live = [as_set(meaning.live(a)) if meaning else 0 for a in types]
+    bears = sorted(meaning.borne) if meaning else []
+    reached = sorted(meaning.reached()) if meaning else []
+    search, judgement = value_answers(meaning, room)
+    line = "; ".join([
+        "inside" if meaning else "outside", listed("live", live, ""),
+        listed("bears", bears, " none"), listed("reached", reached, " none"),
+        f"search {search} | {buffer_text(search, meaning)}",
+        f"judge {answer_text(judgement, 0)} | {buffer_text(judgement, meaning)}"])
+    return line, (f"search {search}", f"judge {judgement}")
+
+
+def listed(name, numbers, none):
+    return name + ("".join(f" {number}" for number in numbers) or none)
+
+
+def value_answers(meaning, room):
+    """The search's number and the judgement's."""
+    if not has_room(room):
+        return SHORT_WITNESS_ROOM, SHORT_WITNESS_ROOM
+    if meaning is None:
+        return OUTSIDE_LIMITS, OUTSIDE_LIMITS
+    return COMPETITION if meaning.first_competition() else TAKEN, meaning.answer()[0]
+
+
+def confirm_witness(meaning, numbers):
+    """Is A J K n and the word's types a witness of this schema?"""
+    a, j, k, n, *w = numbers
+    confirm_type_and_length(meaning, a, n)
+    if n != len(w) or (j, k) not in meaning.pairs_after(a, tuple(w)):
+        raise Wrong(f"they do not compete after the word: {numbers}")
+
+
+def confirm_length(meaning, a, j, k, n):
+    """Do J and K compete in A after some beginning of n types?"""
+    confirm_type_and_length(meaning, a, n)
+    if not meaning.compete_after(a, j, k, n):
+        raise Wrong(f"{j} and {k} do not compete in {a} after {n} types")
+
+
+def confirm_type_and_length(meaning, a, n):
+    if meaning.first_competition()[0] != a or a not in meaning.borne or n > MOST_WORD:
+        raise Wrong(f"wrong type or length of a witness: {a}, {n}")

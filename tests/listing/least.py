@@ -1,0 +1,107 @@
+"""How often each kind of case must have each answer at the least, written as documents.py counts;
+`lent` is a lent call that was taken."""
+
+TOTALS = {"S": 3800, "C": 1300, "E": 11400, "J": 27400, "V": 500, "P": 1024, "Q": 300}
+
+LEAST = {
+    "S samples": "3 0, 1 2, 1 4, 1 8, 1 9, 6 cases",
+    "S buffers": "11 0, 21 1, 3 2, 2 3, 2 4, 2 8, 3 9, 42 cases",
+    "S limits": "21 0, 8 2, 5 3, 52 4, 11 5, 3 6, 2 7, 4 8, 104 cases",
+    "S structures": "30 0, 8 8, 30 9, 68 cases",
+    "S cut": "48 2, 48 cases",
+    "S every byte": "42 0, 168 2, 40 3, 268 4, 4 6, 29 7, 2 8, 38 9, 588 cases",
+    "S after DONE": "2 2, 25 3, 3 4, 1 7, 1 8, 1 9, 31 cases",
+    "S repeats": "7 0, 9 3, 8 4, 20 6, 1 7, 4 8, 3 9, 51 cases",
+    "S random bytes": "1 0, 144 2, 16 3, 66 4, 11 6, 4 7, 1 8, 240 cases",
+    "S damaged": "34 0, 62 2, 80 3, 82 4, 44 6, 10 7, 38 8, 2 9, 350 cases",
+    "S random": "175 0, 30 8, 180 9, 385 cases",
+    "C samples": "2 13, 1 14, 1 17, 68 lent, 3 lent refused, 14 ok, 46 type, 5 cases",
+    "C no schema": "9 10, 2 18, 1 lent, 4 lent refused, 3 ok, 2 type, 2 cases",
+    "C every refusal":
+        "126 11, 480 12, 248 13, 66 15, 177 16, 21 17, 108 18, 26 lent, 601 lent refused, 33 ok, "
+        "27 type, 6 cases",
+    "C levels":
+        "1 11, 7 12, 5 13, 5 14, 5 15, 3 16, 2 18, 226 lent, 15 lent refused, 190 ok, 220 type, 3 "
+        "cases",
+    "C large":
+        "4 11, 2 12, 4 13, 1 15, 3 16, 1 17, 1 18, 30 lent, 7 lent refused, 35 ok, 34 type, 3 "
+        "cases",
+    "C readings made up":
+        "1113 10, 176 11, 73 12, 221 13, 4 14, 41 15, 118 16, 41 17, 109 18, 161 lent, 993 lent "
+        "refused, 136 ok, 185 type, 85 cases",
+    "C schemas made up":
+        "617 10, 180 11, 361 13, 178 15, 11 16, 8 17, 9 18, 456 lent, 759 lent refused, 522 ok, "
+        "355 type, 186 cases",
+    "C random schemas":
+        "270 11, 160 12, 389 13, 65 15, 315 16, 73 17, 240 18, 1752 lent, 694 lent refused, 1490 "
+        "ok, 2315 type, 220 cases",
+    "C walks":
+        "62 11, 18 12, 49 13, 10 15, 39 16, 8 17, 31 18, 150 lent, 109 lent refused, 156 ok, 146 "
+        "type, 24 cases",
+    "C long":
+        "5 11, 45 12, 117 13, 58 14, 119 16, 58 17, 97 18, 501 lent, 449 lent refused, 521 ok, "
+        "734 type, 6 cases",
+    "C random values":
+        "148 10, 99 11, 110 12, 448 13, 35 14, 45 15, 226 16, 93 17, 175 18, 317 lent, 700 lent "
+        "refused, 241 ok, 423 type, 130 cases",
+    "E samples": "3 0, 1 11, 1 13, 1 14, 1 17, 2 19, 1 20, 8 cases",
+    "E cut": "7 0, 123 19, 129 cases",
+    "E buffers": "46 0, 46 11, 46 12, 46 19, 116 20, 298 cases",
+    "E after the finish": "46 11, 42 19, 88 cases",
+    "E stray bytes": "6 11, 364 12, 22 13, 2 15, 23 16, 40 18, 287 19, 744 cases",
+    "E every byte": "2 0, 1 11, 253 12, 1 13, 2 16, 1 18, 382 19, 640 cases",
+    "E every event": "150 11, 516 12, 329 13, 86 15, 238 16, 23 17, 123 18, 50 20, 1514 cases",
+    "E levels": "11 0, 9 12, 3 13, 17 14, 2 16, 4 18, 7 19, 36 20, 87 cases",
+    "E no schema": "74 10, 74 19, 147 cases",
+    "E large": "1 0, 2 11, 1 13, 1 14, 1 17, 1 18, 2 19, 1 20, 8 cases",
+    "E large schemas": "10 0, 1 12, 15 13, 3 17, 2 19, 30 cases",
+    "E random, valid": "450 0, 450 cases",
+    "E random, buffers": "330 20, 330 cases",
+    "E random, damaged":
+        "129 0, 5 11, 162 12, 227 13, 53 15, 138 16, 62 17, 55 18, 123 19, 159 20, 1110 cases",
+    "E random, any bytes": "41 12, 10 13, 1 15, 1 16, 12 18, 56 19, 1 20, 120 cases",
+    "J samples": "4 0, 1 2, 1 4, 1 8, 1 9, 2 13, 1 14, 2 17, 10 cases",
+    "J random":
+        "2819 0, 170 8, 280 9, 595 11, 844 12, 1466 13, 763 15, 733 16, 1063 17, 1117 18, 2363 "
+        "19, 12210 cases",
+    "J damaged":
+        "26 0, 105 2, 65 3, 175 4, 51 6, 40 7, 27 8, 7 11, 2 12, 16 13, 1 16, 17 17, 5 18, 4 19, "
+        "538 cases",
+    "J deep": "13 0, 36 12, 90 13, 65 14, 23 16, 17 17, 18 18, 99 19, 360 cases",
+    "J big files": "1 0, 1 4, 29 5, 1 8, 1 13, 32 cases",
+    "J sizes": "2 0, 1 2, 3 3, 1 5, 1 11, 1 14, 1 17, 1 18, 1 19, 3 too long, 12 cases",
+    "V samples":
+        "7 judge 0, 13 judge 1, 4 judge 10, 1 judge 8, 2 judge 9, 8 search 0, 13 search 1, 4 "
+        "search 10, 2 search 9, 27 cases",
+    "V limits":
+        "99 judge 0, 9 judge 1, 186 judge 10, 6 judge 8, 4 judge 9, 106 search 0, 9 search 1, 186 "
+        "search 10, 4 search 9, 305 cases",
+    "V structures": "15 judge 0, 4 judge 8, 15 judge 9, 19 search 0, 15 search 9, 34 cases",
+    "V by puts":
+        "15 judge 0, 9 judge 1, 2 judge 8, 3 judge 9, 17 search 0, 9 search 1, 3 search 9, 30 "
+        "cases",
+    "V random":
+        "115 judge 0, 42 judge 1, 5 judge 10, 17 judge 8, 20 judge 9, 132 search 0, 42 search 1, "
+        "5 search 10, 20 search 9, 200 cases",
+    "P pairs": "512 inside, 16 outside, 528 cases",
+    "Q sets":
+        "71 below no, 85 below yes, 123 has no, 33 has yes, 68 meets no, 87 meets yes, 156 cases",
+}
+
+
+def counts_of(text):
+    """The numbers by answer."""
+    return {answer: int(number) for number, answer in
+            (part.split(" ", 1) for part in text.split(", "))}
+
+
+def too_rare(totals, counts):
+    """The letters, kinds and answers that came up too rarely."""
+    rare = [f"{letter}: {totals[letter]}, not {number}" for letter, number in TOTALS.items()
+            if totals[letter] < number]
+    for kind, text in LEAST.items():
+        for answer, number in counts_of(text).items():
+            found = counts.get(kind, {}).get(answer, 0)
+            if found < number:
+                rare.append(f"{kind}, {answer}: {found}, not {number}")
+    return rare
