@@ -1,10 +1,13 @@
 //! Damage to files: by commands, and by bytes.
 
 use crate::chance::Chance;
+use plain::codes::{CLOSE, DONE, FINAL, FINISH, OPEN, ROOT, STEP, TAGS, TYPE};
+use plain::limits::{MOST_STATES, MOST_STEPS, MOST_TYPES};
 
 /// Bytes at the edges of the file forms.
 const EDGES: [u8; 16] = [
-    0x00, 0x01, 0x10, 0x11, 0x12, 0x13, 0x14, 0x1F, 0x20, 0x21, 0x22, 0x2F, 0x3F, 0x40, 0x80, 0xFF,
+    0x00, 0x01, TAGS, TYPE, FINAL, STEP, ROOT, DONE, 0x20, OPEN, CLOSE, FINISH, 0x3F, 0x40, 0x80,
+    0xFF,
 ];
 
 /// Damages a schema file, its commands first.
@@ -25,9 +28,9 @@ fn offsets(file: &[u8]) -> Vec<usize> {
     let mut place = 0;
     while place < file.len() {
         place += match file[place] {
-            0x10 | 0x12 | 0x14 => 2,
-            0x11 => 3,
-            0x13 => 4,
+            TAGS | FINAL | ROOT => 2,
+            TYPE => 3,
+            STEP => 4,
             _ => 1,
         };
         offsets.push(place);
@@ -62,7 +65,7 @@ fn commands(chance: &mut Chance, file: &mut Vec<u8>) {
         8 => too_many(chance, file, &offsets),
         _ => {
             let any = [
-                chance.small(0x10..=0x14),
+                chance.small(TAGS..=ROOT),
                 chance.small(0..=3),
                 chance.small(0..=3),
                 chance.small(0..=3),
@@ -82,7 +85,7 @@ fn unknown_type(chance: &mut Chance, file: &mut [u8], offsets: &[usize]) {
     let steps: Vec<usize> = offsets
         .iter()
         .copied()
-        .filter(|&place| file.get(place) == Some(&0x13))
+        .filter(|&place| file.get(place) == Some(&STEP))
         .collect();
     if steps.is_empty() {
         return;
@@ -119,24 +122,29 @@ fn too_many(chance: &mut Chance, file: &mut Vec<u8>, offsets: &[usize]) {
             .filter(|&&place| file.get(place) == Some(&command))
             .count()
     };
-    let (types, steps) = (given(0x11), given(0x13));
+    let (types, steps) = (given(TYPE), given(STEP));
     let root = offsets[offsets.len() - 3];
     let one_less = usize::from(chance.once_in(4));
     let mut more = vec![];
     if chance.percent(75) {
-        more.extend([0x11, 0, 1].repeat(64_usize.saturating_sub(types + one_less)));
-        more.extend([0x11, chance.small(0..=5), chance.small(0..=33)]);
+        more.extend([TYPE, 0, 1].repeat(MOST_TYPES.saturating_sub(types + one_less)));
+        more.extend([TYPE, chance.small(0..=5), chance.small(0..=33)]);
     } else {
         let by = chance.small(0..=63);
-        let count = 1024_usize.saturating_sub(steps + one_less);
-        more.extend([0x11, 0, 32]);
-        more.extend((0..count).flat_map(|step| [0x13, (step % 32) as u8, by, (step / 32) as u8]));
+        let count = MOST_STEPS.saturating_sub(steps + one_less);
+        more.extend([TYPE, 0, MOST_STATES as u8]);
+        let ends = |step: usize| ((step % MOST_STATES) as u8, (step / MOST_STATES) as u8);
+        more.extend(
+            (0..count)
+                .map(ends)
+                .flat_map(|(from, to)| [STEP, from, by, to]),
+        );
         let other = if chance.percent(50) {
             by
         } else {
             chance.small(0..=64)
         };
-        more.extend([0x13, chance.small(0..=32), other, chance.small(0..=32)]);
+        more.extend([STEP, chance.small(0..=32), other, chance.small(0..=32)]);
     }
     insert(file, root, &more);
 }

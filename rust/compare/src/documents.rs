@@ -2,10 +2,8 @@
 
 use crate::chance::Chance;
 use crate::guide::{DEEP, Guide, NEVER};
-
-const OPEN: u8 = 0x21;
-const CLOSE: u8 = 0x22;
-const FINISH: u8 = 0x2F;
+use plain::codes::{CLOSE, FINISH, OPEN};
+use plain::limits::MOST_OPEN;
 
 /// How a document is made.
 #[derive(Debug, Clone, Copy)]
@@ -33,7 +31,7 @@ impl Plan {
         };
         let closing = chance.of(&[5, 30, 60]);
         let depth = if chance.percent(8) {
-            chance.within(62..=67)
+            chance.within(MOST_OPEN - 2..=MOST_OPEN + 3)
         } else {
             1
         };
@@ -140,7 +138,7 @@ impl Walk<'_> {
     }
 
     fn put(&mut self, event: &[u8]) {
-        let near_the_limit = self.open.len() >= 63 && self.chance.once_in(4);
+        let near_the_limit = self.open.len() >= MOST_OPEN - 1 && self.chance.once_in(4);
         if self.plan.stray_at == Some(self.events) || near_the_limit {
             self.stray();
         }

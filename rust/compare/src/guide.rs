@@ -2,6 +2,7 @@
 //! of the smallest rest of each state, in openings.
 
 use crate::model::{Model, Step};
+use plain::limits::MOST_OPEN;
 
 /// No tree, or no rest.
 pub const NEVER: u32 = u32::MAX;
@@ -20,7 +21,7 @@ pub struct Guide<'m> {
 }
 
 /// A depth past the levels of a reading.
-pub const DEEP: usize = 70;
+pub const DEEP: usize = MOST_OPEN + 6;
 
 impl<'m> Guide<'m> {
     pub fn new(model: &'m Model) -> Self {

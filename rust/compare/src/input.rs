@@ -5,6 +5,7 @@ use std::fmt;
 use crate::chance::Chance;
 use crate::guide::Guide;
 use crate::{damage, documents, schemas};
+use plain::limits::WITNESS;
 
 #[derive(Debug, Clone, PartialEq, Eq)]
 pub struct Input {
@@ -24,10 +25,10 @@ impl Input {
             files(chance)
         };
         let witness = match chance.below(100) {
-            0 => chance.below(plain::WITNESS),
-            1 => chance.of(&[0, 4, 5, 530, 531]),
-            2..20 => chance.within(plain::WITNESS..=700),
-            _ => plain::WITNESS,
+            0 => chance.below(WITNESS),
+            1 => chance.of(&[0, 4, 5, WITNESS - 2, WITNESS - 1]),
+            2..20 => chance.within(WITNESS..=WITNESS + 170),
+            _ => WITNESS,
         };
         let most = plain::openings(&events).count();
         let types = match chance.below(10) {

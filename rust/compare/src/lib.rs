@@ -2,6 +2,7 @@
 //! every answer and every lent byte compared.
 #![forbid(unsafe_code)]
 
+mod calls;
 mod chance;
 mod damage;
 mod documents;

@@ -1,6 +1,7 @@
 //! A schema as the generators keep it, and its file.
 
 use crate::chance::Chance;
+use plain::codes::{DONE, FINAL, ROOT, STEP, TAGS, TYPE};
 
 #[derive(Debug, Clone)]
 pub struct Model {
@@ -98,24 +99,24 @@ impl Model {
 
     /// The file that states this schema, its FINAL and STEP commands in any order.
     pub fn file(&self, chance: &mut Chance) -> Vec<u8> {
-        let mut file = vec![0x10, self.tags];
+        let mut file = vec![TAGS, self.tags];
         for block in &self.types {
-            file.extend([0x11, block.tag, block.states]);
+            file.extend([TYPE, block.tag, block.states]);
             let finals = block
                 .accepting
                 .iter()
-                .map(|&state| (2, [0x12, state, 0, 0]));
+                .map(|&state| (2, [FINAL, state, 0, 0]));
             let steps = block
                 .steps
                 .iter()
-                .map(|&Step { from, by, to }| (4, [0x13, from, by, to]));
+                .map(|&Step { from, by, to }| (4, [STEP, from, by, to]));
             let mut commands: Vec<(usize, [u8; 4])> = finals.chain(steps).collect();
             chance.shuffle(&mut commands);
             for (length, command) in commands {
                 file.extend(&command[..length]);
             }
         }
-        file.extend([0x14, self.root, 0x1F]);
+        file.extend([ROOT, self.root, DONE]);
         file
     }
 }

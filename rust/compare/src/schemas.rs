@@ -4,6 +4,7 @@ use crate::chance::Chance;
 use crate::far_words;
 use crate::guide::{Guide, NEVER};
 use crate::model::{Model, Step, Type};
+use plain::limits::{MOST_STATES, MOST_STEPS, MOST_TAGS, MOST_TYPES};
 
 /// The most that a random schema has of each.
 #[derive(Debug, Clone, Copy)]
@@ -27,10 +28,10 @@ const MIDDLE: Size = Size {
     steps: 150,
 };
 const LIMITS: Size = Size {
-    tags: 32,
-    types: 64,
-    states: 32,
-    steps: 1024,
+    tags: MOST_TAGS as u8,
+    types: MOST_TYPES as u8,
+    states: MOST_STATES as u8,
+    steps: MOST_STEPS,
 };
 
 /// A schema, within the limits but for a step or two now and then.
@@ -193,7 +194,7 @@ fn one_type_a_tag(chance: &mut Chance, size: Size) -> Model {
         },
     );
     let spare = chance.small(0..=2);
-    model.tags = (model.types.len() as u8 + spare).min(32);
+    model.tags = (model.types.len() as u8 + spare).min(LIMITS.tags);
     for (number, block) in (0..).zip(&mut model.types) {
         block.tag = number;
     }
@@ -227,7 +228,11 @@ fn nesting(chance: &mut Chance, size: Size) -> Model {
 
 /// Each type holds the next one; the last bears a tree, or does not.
 fn chain(chance: &mut Chance, size: Size) -> Model {
-    let most = if chance.once_in(10) { 64 } else { size.types };
+    let most = if chance.once_in(10) {
+        LIMITS.types
+    } else {
+        size.types
+    };
     let length = chance.small(1..=most);
     let tags = chance.small(1..=size.tags);
     let mut types: Vec<Type> = (1..length)
@@ -262,10 +267,10 @@ fn at_limits(chance: &mut Chance) -> Model {
     let few = chance.small(1..=3);
     let states = chance.of(&[8, 16, 32]);
     match chance.below(20) {
-        0 => full(chance, 64, states, 1024),
-        1 => full(chance, few, 32, 1024),
-        2..11 => full(chance, 64, 2, 130),
-        _ => full(chance, few, 32, 90),
+        0 => full(chance, LIMITS.types, states, LIMITS.steps),
+        1 => full(chance, few, LIMITS.states, LIMITS.steps),
+        2..11 => full(chance, LIMITS.types, 2, 130),
+        _ => full(chance, few, LIMITS.states, 90),
     }
 }
 

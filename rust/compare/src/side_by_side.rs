@@ -1,8 +1,10 @@
 //! Both implementations on one input, and everything that they answer and write.
 
+use crate::calls;
 use crate::chance::Chance;
 use crate::input::Input;
-use plain::Job;
+use plain::questions::{COMPETITION, NONE};
+use plain::{Job, Witness};
 
 /// What one implementation answers to an input.
 #[derive(Debug, Clone, Copy, PartialEq, Eq)]
@@ -12,15 +14,11 @@ pub struct Answers {
     pub job: Job,
 }
 
-/// The parts of a witness: A, J, K and w.
-type Parts<'a> = (u8, u8, u8, &'a [u8]);
-
 /// The functions that both crates have.
 trait Implementation {
     const NAME: &str;
     fn check_schema(schema: &[u8], witness: &mut [u8]) -> (u8, usize);
     fn type_document(schema: &[u8], events: &[u8], witness: &mut [u8], types: &mut [u8]) -> Job;
-    fn witness(bytes: &[u8]) -> Option<Parts<'_>>;
 }
 
 macro_rules! implementation {
@@ -56,10 +54,6 @@ macro_rules! implementation {
                     },
                 }
             }
-
-            fn witness(bytes: &[u8]) -> Option<Parts<'_>> {
-                $library::witness(bytes).map(|w| (w.within, w.one, w.other, w.word))
-            }
         }
     };
 }
@@ -85,6 +79,7 @@ pub fn compare(input: &Input, chance: &mut Chance) -> Result<Answers, String> {
     if !openings.eq(plain::openings(events).map(|opening| (opening.level, opening.tag))) {
         return Err("openings differ".into());
     }
+    calls::compare(input, &plain.job, &plain_types)?;
     Ok(plain)
 }
 
@@ -181,7 +176,7 @@ fn run<I: Implementation>(before: &Lent) -> Result<(Answers, Vec<u8>), String> {
     };
     let (number, count) = match job {
         Job::SchemaRefused { number, .. } => (number, 0),
-        Job::EventsRead { count, .. } => (0, count),
+        Job::EventsRead { count, .. } => (NONE, count),
     };
     check_written::<I>(number, count, before, &after)?;
     Ok((
@@ -208,7 +203,7 @@ fn check_written<I: Implementation>(
         return fault("bytes changed besides the types of the openings");
     }
     let length = match number {
-        9 => match check_witness::<I>(after) {
+        COMPETITION => match check_witness(after) {
             Ok(length) => length,
             Err(what) => return fault(what),
         },
@@ -221,14 +216,15 @@ fn check_written<I: Implementation>(
 }
 
 /// The length of the witness, if its types compete.
-fn check_witness<I: Implementation>(lent: &Lent) -> Result<usize, &'static str> {
+fn check_witness(lent: &Lent) -> Result<usize, &'static str> {
     let bytes = lent.witness.inner();
-    let witness = plain::witness(bytes).ok_or("no witness in the buffer")?;
-    if I::witness(bytes) != Plain::witness(bytes) {
+    let witness = Witness::from_bytes(bytes).ok_or("no witness in the buffer")?;
+    let parts = typestock::witness(bytes).map(|w| (w.within, w.one, w.other, w.word));
+    if parts != Some((witness.within, witness.one, witness.other, witness.word)) {
         return Err("the parts of the witness differ");
     }
     if !plain::competes(lent.schema.inner(), &witness) {
         return Err("the types of the witness do not compete");
     }
-    Ok(5 + witness.word.len())
+    Ok(witness.length())
 }

@@ -4,13 +4,19 @@ use std::fmt;
 
 use crate::input::Input;
 use crate::side_by_side::Answers;
-use plain::Job;
+use plain::limits::WITNESS;
+use plain::questions::{COMPETITION, FINISHED, NO_ROOM, NONE};
+use plain::{Job, Witness};
+
+/// How many numbers a schema file and an event file are answered with, 0 among them.
+const SCHEMAS: usize = COMPETITION as usize + 1;
+const EVENTS: usize = NO_ROOM as usize + 1;
 
 #[derive(Debug, Clone, Default)]
 pub struct Tally {
     pub inputs: u64,
-    schemas: [u64; 10],
-    events: [u64; 21],
+    schemas: [u64; SCHEMAS],
+    events: [u64; EVENTS],
     longest_schema: usize,
     longest_events: usize,
     most_openings: usize,
@@ -32,7 +38,7 @@ impl Tally {
             self.deepest = self.deepest.max(levels.max().unwrap_or(0));
             self.longest_schema = self.longest_schema.max(input.schema.len());
         }
-        if answers.schema.0 == 9 {
+        if answers.schema.0 == COMPETITION {
             self.longest_word = self.longest_word.max(length_of_word(input));
         }
     }
@@ -56,8 +62,8 @@ impl Tally {
 
     /// The answers of schema files and event files, with how often each came up.
     pub fn numbers(&self) -> impl Iterator<Item = (&'static str, usize, u64)> {
-        let schemas = (0..10).map(|number| ("schema", number, self.schemas[number]));
-        let events = std::iter::once(0).chain(11..=20);
+        let schemas = (0..SCHEMAS).map(|number| ("schema", number, self.schemas[number]));
+        let events = std::iter::once(usize::from(NONE)).chain(usize::from(FINISHED)..EVENTS);
         schemas.chain(events.map(|number| ("events", number, self.events[number])))
     }
 
@@ -69,9 +75,9 @@ impl Tally {
 
 /// The length of the word of the plain implementation's witness, which is a shortest one.
 fn length_of_word(input: &Input) -> usize {
-    let mut buffer = [0; plain::WITNESS];
+    let mut buffer = [0; WITNESS];
     plain::check_schema(&input.schema, &mut buffer);
-    plain::witness(&buffer).map_or(0, |witness| witness.word.len())
+    Witness::from_bytes(&buffer).map_or(0, |witness| witness.word.len())
 }
 
 impl fmt::Display for Tally {

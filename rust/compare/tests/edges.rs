@@ -2,10 +2,8 @@
 
 use compare::{Answers, Chance, Input, compare};
 use plain::Job;
-
-const OPEN: u8 = 0x21;
-const CLOSE: u8 = 0x22;
-const FINISH: u8 = 0x2F;
+use plain::codes::{CLOSE, FINISH, OPEN};
+use plain::limits::WITNESS;
 
 /// One type that holds itself without end.
 const NESTING: [u8; 14] = [0x10, 1, 0x11, 0, 1, 0x12, 0, 0x13, 0, 0, 0, 0x14, 0, 0x1F];
@@ -42,8 +40,8 @@ fn longest_word() -> Vec<u8> {
 #[test]
 fn witness_buffers_of_every_length() {
     let refused = [0x10, 0x21];
-    for length in 0..=plain::WITNESS + 40 {
-        let short = length < plain::WITNESS;
+    for length in 0..=WITNESS + 40 {
+        let short = length < WITNESS;
         let number = |schema: &[u8]| both(schema, &[], length, 0).schema.0;
         assert_eq!(number(&NESTING), if short { 1 } else { 0 });
         assert_eq!(number(&refused), if short { 1 } else { 4 });
@@ -77,10 +75,7 @@ fn types_buffers_of_every_length() {
                 count: 64,
             },
         };
-        assert_eq!(
-            both(&NESTING, &events, plain::WITNESS, length).job,
-            expected
-        );
+        assert_eq!(both(&NESTING, &events, WITNESS, length).job, expected);
     }
 }
 
@@ -88,11 +83,11 @@ fn types_buffers_of_every_length() {
 fn files_cut_at_every_byte() {
     let schema = longest_word();
     for end in 0..schema.len() {
-        assert_eq!(both(&schema[..end], &[], plain::WITNESS, 0).schema.0, 2);
+        assert_eq!(both(&schema[..end], &[], WITNESS, 0).schema.0, 2);
     }
     let events = [OPEN, 0, OPEN, 0, CLOSE, 0, CLOSE, 0, FINISH];
     for end in 0..events.len() {
-        let job = both(&NESTING, &events[..end], plain::WITNESS, 9).job;
+        let job = both(&NESTING, &events[..end], WITNESS, 9).job;
         let count = (end / 2).min(2);
         assert_eq!(
             job,
@@ -137,7 +132,7 @@ fn places_and_counts_of_many_bytes() {
     ]
     .concat();
     let count = children + 1;
-    let job = |events: &[u8], room| both(&NESTING, events, plain::WITNESS, room).job;
+    let job = |events: &[u8], room| both(&NESTING, events, WITNESS, room).job;
     let place = events.len();
     assert_eq!(
         job(&events, count),
@@ -165,16 +160,13 @@ fn places_and_counts_of_many_bytes() {
         }
     );
     let schema = [&NESTING[..], &[0x10; 100_000]].concat();
-    assert_eq!(
-        both(&schema, &[], plain::WITNESS, 0).schema,
-        (3, NESTING.len())
-    );
+    assert_eq!(both(&schema, &[], WITNESS, 0).schema, (3, NESTING.len()));
 }
 
 #[test]
 fn levels_of_openings_past_the_limit() {
     let down = [OPEN, 7].repeat(100_000);
-    both(&NESTING, &down, plain::WITNESS, 100);
+    both(&NESTING, &down, WITNESS, 100);
     assert_eq!(
         typestock::openings(&down)
             .last()

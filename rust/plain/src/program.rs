@@ -1,12 +1,10 @@
 //! What the program `typestock` prints.
 
-use std::fmt::Write;
+use std::fmt::{self, Write};
 
-use crate::{Job, WITNESS, openings, type_document, witness};
-
-const LONGEST_SCHEMA: usize = 16_384;
-const LONGEST_EVENTS: usize = 32_768;
-const MOST_TYPES_OUT: usize = 16_384;
+use crate::limits::{PROGRAM_EVENTS, PROGRAM_SCHEMA, PROGRAM_TYPES, WITNESS};
+use crate::questions::{COMPETITION, NONE, Number};
+use crate::{Job, Witness, openings, type_document};
 
 /// The text that the program prints for the bytes of `schema.tab` and of its standard input.
 pub fn print(schema: &[u8], events: &[u8]) -> Vec<u8> {
@@ -15,29 +13,17 @@ pub fn print(schema: &[u8], events: &[u8]) -> Vec<u8> {
     text.into_bytes()
 }
 
-fn write_text(text: &mut String, schema: &[u8], events: &[u8]) -> std::fmt::Result {
-    if events.len() > LONGEST_EVENTS {
+fn write_text(text: &mut String, schema: &[u8], events: &[u8]) -> fmt::Result {
+    if events.len() > PROGRAM_EVENTS {
         return writeln!(text, "too long");
     }
-    let schema = &schema[..schema.len().min(LONGEST_SCHEMA)];
-    let mut found = [0; WITNESS];
-    let mut types = vec![0; MOST_TYPES_OUT];
-    match type_document(schema, events, &mut found, &mut types) {
+    let schema = &schema[..schema.len().min(PROGRAM_SCHEMA)];
+    let mut witness = [0; WITNESS];
+    let mut types = vec![0; PROGRAM_TYPES];
+    match type_document(schema, events, &mut witness, &mut types) {
         Job::SchemaRefused { number, place } => {
             writeln!(text, "schema refused {number} at {place}")?;
-            match witness(&found) {
-                Some(w) if number == 9 => {
-                    writeln!(
-                        text,
-                        "type {} gives {} or {} after {}",
-                        w.within,
-                        w.one,
-                        w.other,
-                        w.word.len()
-                    )
-                }
-                _ => Ok(()),
-            }
+            write_witness(text, number, &witness)
         }
         Job::EventsRead {
             number,
@@ -49,9 +35,25 @@ fn write_text(text: &mut String, schema: &[u8], events: &[u8]) -> std::fmt::Resu
                 writeln!(text, "{} {} {of}", opening.level, opening.tag)?;
             }
             match number {
-                0 => writeln!(text, "accepted {count}"),
+                NONE => writeln!(text, "accepted {count}"),
                 _ => writeln!(text, "refused {number} at {place}"),
             }
         }
+    }
+}
+
+/// The line of a witness, if the schema was refused for competition.
+fn write_witness(text: &mut String, number: Number, bytes: &[u8]) -> fmt::Result {
+    match Witness::from_bytes(bytes) {
+        Some(Witness {
+            within,
+            one,
+            other,
+            word,
+        }) if number == COMPETITION => {
+            let length = word.len();
+            writeln!(text, "type {within} gives {one} or {other} after {length}")
+        }
+        _ => Ok(()),
     }
 }

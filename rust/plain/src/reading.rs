@@ -1,109 +1,253 @@
-//! A reading: the elements that are open, and the questions 11 to 18.
+//! A reading: the elements that are open, and the questions 10 to 18.
 
-use crate::schema::START;
-use crate::set::States;
-use crate::trimming::Trimmed;
+use crate::limits::{MOST_OPEN, MOST_TYPES, Tag, Type};
+use crate::questions::{
+    FINISHED, INCOMPLETE, NO_SUCH_OPENING, NOTHING_OPEN, Number, OTHER_TAG, OUTSIDE_LIMITS,
+    ROOT_NOT_CLOSED, TOO_DEEP, UNKNOWN_TAG, ask,
+};
+use crate::schema::{Schema, Step};
+use crate::states::States;
+use crate::trimming::{StatesOf, live_states};
 
-const MOST_OPEN: usize = 64;
-
-/// An open element: its type, and the live states that its children's types lead to.
+/// A reading: for each open level, the root's first, the element's type and the live states that its
+/// children's types lead to; entries past `depth` are not used. It lies in memory as the engine has it.
 #[derive(Debug, Clone, Copy, PartialEq, Eq)]
-struct Element {
-    of: u8,
-    states: States,
+#[repr(C)]
+pub struct Reading {
+    pub depth: u8,
+    /// Has the root been opened?
+    pub rooted: bool,
+    pub finished: bool,
+    pub types: [Type; MOST_OPEN],
+    pub sets: [States; MOST_OPEN],
 }
 
-/// A reading under an accepted schema. A refused event leaves it as it was.
-#[derive(Debug, Clone)]
-pub struct Reading<'s> {
-    schema: &'s Trimmed,
-    open: Vec<Element>,
-    started: bool,
-    finished: bool,
+/// What a call on a reading is answered: the type of an opening that was taken, that a closing or a
+/// finish was taken, or the number of the refusal. It lies in memory as the engine's exports for the
+/// benchmark have it: the case's number, then the type or the refusal's.
+#[derive(Debug, Clone, Copy, PartialEq, Eq)]
+#[repr(u8)]
+pub enum Answer {
+    Typed(Type) = 0,
+    Taken = 1,
+    Refused(Number) = 2,
 }
 
-impl<'s> Reading<'s> {
-    pub fn fresh(schema: &'s Trimmed) -> Self {
-        Reading {
-            schema,
-            open: Vec::with_capacity(MOST_OPEN),
-            started: false,
-            finished: false,
+/// A call's answer and the reading that follows it, which is unchanged if the call was refused.
+#[derive(Debug, Clone, Copy, PartialEq, Eq)]
+#[repr(C)]
+pub struct Answered {
+    pub answer: Answer,
+    pub reading: Reading,
+}
+
+/// The calls on a reading that is handed over and handed back.
+impl Reading {
+    /// No event was taken.
+    pub const FRESH: Reading = Reading {
+        depth: 0,
+        rooted: false,
+        finished: false,
+        types: [0; MOST_OPEN],
+        sets: [States::NONE; MOST_OPEN],
+    };
+
+    #[inline]
+    pub fn open(mut self, schema: &Schema, tag: Tag) -> Answered {
+        let answer = self.open_lent(schema, tag);
+        Answered {
+            answer,
+            reading: self,
         }
     }
 
-    pub fn is_finished(&self) -> bool {
-        self.finished
+    #[inline]
+    pub fn close(mut self, schema: &Schema, tag: Tag) -> Answered {
+        let answer = self.close_lent(schema, tag);
+        Answered {
+            answer,
+            reading: self,
+        }
     }
 
-    /// Takes an opening and answers its type, or the number of its refusal.
-    pub fn open(&mut self, tag: u8) -> Result<u8, u8> {
-        self.check(tag)?;
-        let (of, after) = self.child(tag).ok_or(13)?;
-        if self.open.len() == MOST_OPEN {
-            return Err(14);
+    #[inline]
+    pub fn finish(mut self, schema: &Schema) -> Answered {
+        let answer = self.finish_lent(schema);
+        Answered {
+            answer,
+            reading: self,
         }
-        if let Some(parent) = self.open.last_mut() {
-            parent.states = after;
-        }
-        self.open.push(Element {
-            of,
-            states: States::only(START),
+    }
+}
+
+/// The same calls on a lent reading, which is moved on by one event.
+impl Reading {
+    pub fn open_lent(&mut self, schema: &Schema, tag: Tag) -> Answer {
+        let opened = self.within_limits(schema).and_then(|()| {
+            let (of, after) = self.ask_opening(&Live::of(schema), tag)?;
+            self.enter(of, after);
+            Ok(of)
         });
-        self.started = true;
-        Ok(of)
+        opened.map_or_else(Answer::Refused, Answer::Typed)
     }
 
-    /// Takes a closing, or answers the number of its refusal.
-    pub fn close(&mut self, tag: u8) -> Result<(), u8> {
-        self.check(tag)?;
-        let element = self.open.last().ok_or(15)?;
-        let block = self.schema.block(element.of);
-        if block.tag != tag {
-            return Err(16);
+    pub fn close_lent(&mut self, schema: &Schema, tag: Tag) -> Answer {
+        let within = self.within_limits(schema);
+        let closed = within.and_then(|()| self.take_closing(schema, tag));
+        closed.map_or_else(Answer::Refused, |()| Answer::Taken)
+    }
+
+    pub fn finish_lent(&mut self, schema: &Schema) -> Answer {
+        let within = self.within_limits(schema);
+        let finished = within.and_then(|()| self.take_finish());
+        finished.map_or_else(Answer::Refused, |()| Answer::Taken)
+    }
+
+    /// Question 10 of the schema and of the open levels.
+    fn within_limits(&self, schema: &Schema) -> Result<(), Number> {
+        let within = schema.within_limits() && self.levels_within(schema);
+        ask(OUTSIDE_LIMITS, within)
+    }
+
+    fn levels_within(&self, schema: &Schema) -> bool {
+        let depth = usize::from(self.depth);
+        let fits = |(&of, set): (&Type, &States)| {
+            of < schema.types && set.all_below(schema.states[usize::from(of)])
+        };
+        depth <= MOST_OPEN && self.types[..depth].iter().zip(&self.sets).all(fits)
+    }
+}
+
+/// What is known of a schema by which an opening gets its type.
+pub(crate) trait Ahead {
+    fn schema(&self) -> &Schema;
+
+    /// Does the root type bear a tree?
+    fn root_bears(&self) -> bool;
+
+    /// The smallest tree-bearing type of the tag that leads from the set to a live state, in an
+    /// element of the type `within`; and the live states that it leads to.
+    fn child(&self, within: Type, set: States, tag: Tag) -> Option<(Type, States)>;
+}
+
+/// The events: questions 11 to 18, and the reading moved on if none is answered no.
+impl Reading {
+    /// The type that an opening gets, and the states that it leads its parent to.
+    #[inline]
+    pub(crate) fn ask_opening(
+        &self,
+        ahead: &impl Ahead,
+        tag: Tag,
+    ) -> Result<(Type, States), Number> {
+        self.check(ahead.schema(), tag)?;
+        let coming = self.coming(ahead, tag).ok_or(NO_SUCH_OPENING)?;
+        ask(TOO_DEEP, usize::from(self.depth) < MOST_OPEN)?;
+        Ok(coming)
+    }
+
+    /// Moves on by an opening that was answered so.
+    #[inline]
+    pub(crate) fn enter(&mut self, of: Type, after: States) {
+        let depth = usize::from(self.depth);
+        if depth > 0 {
+            self.sets[depth - 1] = after;
         }
-        if !element.states.meets(block.accepting) {
-            return Err(17);
-        }
-        self.open.pop();
+        self.types[depth] = of;
+        self.sets[depth] = States::START;
+        self.depth += 1;
+        self.rooted = true;
+    }
+
+    #[inline]
+    pub(crate) fn take_closing(&mut self, schema: &Schema, tag: Tag) -> Result<(), Number> {
+        self.check(schema, tag)?;
+        ask(NOTHING_OPEN, self.depth > 0)?;
+        let inner = usize::from(self.depth) - 1;
+        let of = usize::from(self.types[inner]);
+        ask(OTHER_TAG, schema.tag[of] == tag)?;
+        ask(INCOMPLETE, self.sets[inner].meets(schema.accepting[of]))?;
+        self.depth -= 1;
         Ok(())
     }
 
-    /// Takes a finish, or answers the number of its refusal.
-    pub fn finish(&mut self) -> Result<(), u8> {
-        if self.finished {
-            return Err(11);
-        }
-        if !self.started || !self.open.is_empty() {
-            return Err(18);
-        }
+    #[inline]
+    pub(crate) fn take_finish(&mut self) -> Result<(), Number> {
+        ask(FINISHED, !self.finished)?;
+        ask(ROOT_NOT_CLOSED, self.rooted && self.depth == 0)?;
         self.finished = true;
         Ok(())
     }
 
-    /// The questions before all others of an opening and a closing.
-    fn check(&self, tag: u8) -> Result<(), u8> {
-        if self.finished {
-            return Err(11);
-        }
-        if tag >= self.schema.tags() {
-            return Err(12);
-        }
-        Ok(())
+    /// The first questions of an opening and a closing.
+    #[inline]
+    fn check(&self, schema: &Schema, tag: Tag) -> Result<(), Number> {
+        ask(FINISHED, !self.finished)?;
+        ask(UNKNOWN_TAG, tag < schema.tags)
     }
 
-    /// The type of a child of this tag, and the states that it leads its parent to.
-    fn child(&self, tag: u8) -> Option<(u8, States)> {
-        let Some(parent) = self.open.last() else {
-            let root = self.schema.root;
-            let fits = !self.started && self.schema.block(root).tag == tag;
-            return fits.then_some((root, States::NONE));
-        };
-        let block = self.schema.block(parent.of);
-        let may_come = block
-            .types_from_any(parent.states)
-            .common(self.schema.of_tag(tag));
-        let of = may_come.smallest()?;
-        Some((of, block.next_of_any(parent.states, of)))
+    /// The type that an opening of this tag gets, and the states that it leads its parent to.
+    #[inline]
+    fn coming(&self, ahead: &impl Ahead, tag: Tag) -> Option<(Type, States)> {
+        if self.depth > 0 {
+            let inner = usize::from(self.depth) - 1;
+            return ahead.child(self.types[inner], self.sets[inner], tag);
+        }
+        let root = ahead.schema().root;
+        let fits = ahead.schema().tag[usize::from(root)] == tag && ahead.root_bears();
+        (!self.rooted && fits).then_some((root, States::NONE))
     }
+}
+
+/// A schema with its live states.
+struct Live<'s> {
+    schema: &'s Schema,
+    live: StatesOf,
+}
+
+impl<'s> Live<'s> {
+    fn of(schema: &'s Schema) -> Self {
+        let live = live_states(schema);
+        Live { schema, live }
+    }
+
+    fn bears(&self, of: Type) -> bool {
+        self.live[usize::from(of)].has_start()
+    }
+}
+
+impl Ahead for Live<'_> {
+    fn schema(&self) -> &Schema {
+        self.schema
+    }
+
+    fn root_bears(&self) -> bool {
+        self.bears(self.schema.root)
+    }
+
+    fn child(&self, within: Type, set: States, tag: Tag) -> Option<(Type, States)> {
+        let live = self.live[usize::from(within)];
+        let steps = self.schema.steps_at(self.schema.block(within));
+        let count = steps.filter(|step| {
+            let fits = self.schema.tag[usize::from(step.by)] == tag;
+            fits && self.bears(step.by) && live.has(step.to)
+        });
+        smallest(count, set)
+    }
+}
+
+/// The smallest type of the steps from states of the set, and the states that it leads to.
+#[inline]
+pub(crate) fn smallest(steps: impl Iterator<Item = Step>, set: States) -> Option<(Type, States)> {
+    const NO_TYPE: Type = MOST_TYPES as Type;
+    let (mut smallest, mut after) = (NO_TYPE, States::NONE);
+    steps.for_each(|Step { from, by, to }| {
+        if set.has(from) {
+            if by < smallest {
+                (smallest, after) = (by, States::only(to));
+            } else if by == smallest {
+                after.add(to);
+            }
+        }
+    });
+    (smallest != NO_TYPE).then_some((smallest, after))
 }

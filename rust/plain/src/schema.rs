@@ -1,130 +1,102 @@
-//! Schemas: tags, types and their content automata.
+//! Schemas as values: tags, types and their content automata.
 
-use crate::set::{States, Types};
+use std::ops::Range;
 
-pub const MOST_TAGS: u8 = 32;
-pub const MOST_TYPES: u8 = 64;
-pub const MOST_STATES: u8 = 32;
-pub const MOST_STEPS: usize = 1024;
+use crate::limits::{MOST_STATES, MOST_STEPS, MOST_TAGS, MOST_TYPES, State, Tag, Type};
+use crate::states::States;
 
-/// The state in which every content automaton starts.
-pub const START: u8 = 0;
-
-/// A schema; a type's number is its place among the blocks.
-#[derive(Debug, Clone)]
+/// A schema. The first `types` entries of the tables by type are used, and as many of the steps as
+/// these types have, type after type. It lies in memory as the engine has it.
+#[derive(Debug, Clone, Copy, PartialEq, Eq)]
+#[repr(C)]
 pub struct Schema {
     pub tags: u8,
-    pub blocks: Vec<Block>,
-    pub root: u8,
+    pub types: u8,
+    pub root: Type,
+    /// For each type its tag, its number of states, its accepting states and its number of steps.
+    pub tag: [Tag; MOST_TYPES],
+    pub states: [u8; MOST_TYPES],
+    pub accepting: [States; MOST_TYPES],
+    pub steps: [u16; MOST_TYPES],
+    /// For each step the state that it is from, the type that it is by and the state that it leads to.
+    pub from: [State; MOST_STEPS],
+    pub by: [Type; MOST_STEPS],
+    pub to: [State; MOST_STEPS],
 }
 
-/// One type: its tag and its content automaton.
-#[derive(Debug, Clone)]
-pub struct Block {
-    pub tag: u8,
-    pub accepting: States,
-    /// For each state the types that steps from it carry.
-    by: Vec<Types>,
-    /// For each state and type the states that steps lead to.
-    next: Vec<States>,
+/// A step of a content automaton.
+#[derive(Debug, Clone, Copy, PartialEq, Eq)]
+pub struct Step {
+    pub from: State,
+    pub by: Type,
+    pub to: State,
 }
 
-impl Block {
-    pub fn new(tag: u8, states: u8) -> Self {
-        let states = usize::from(states);
-        Block {
-            tag,
-            accepting: States::NONE,
-            by: vec![Types::NONE; states],
-            next: vec![States::NONE; states * usize::from(MOST_TYPES)],
-        }
+impl Schema {
+    /// No tag and no type; every entry is 0.
+    pub const BLANK: Schema = Schema {
+        tags: 0,
+        types: 0,
+        root: 0,
+        tag: [0; MOST_TYPES],
+        states: [0; MOST_TYPES],
+        accepting: [States::NONE; MOST_TYPES],
+        steps: [0; MOST_TYPES],
+        from: [0; MOST_STEPS],
+        by: [0; MOST_STEPS],
+        to: [0; MOST_STEPS],
+    };
+
+    /// Question 10 of a schema: are the counts inside the limits, and is each tag, type and state of
+    /// the used entries below its count?
+    pub fn within_limits(&self) -> bool {
+        let counts = (1..=MOST_TAGS).contains(&usize::from(self.tags))
+            && usize::from(self.types) <= MOST_TYPES
+            && self.root < self.types;
+        counts && self.blocks().all(|(of, own)| self.block_within(of, own))
     }
 
-    pub fn states(&self) -> u8 {
-        self.by.len() as u8
+    /// Are the type's entries and its steps inside the limits?
+    fn block_within(&self, of: usize, own: Range<usize>) -> bool {
+        let states = self.states[of];
+        own.end <= MOST_STEPS
+            && self.tag[of] < self.tags
+            && (1..=MOST_STATES).contains(&usize::from(states))
+            && self.accepting[of].all_below(states)
+            && self
+                .steps_at(own)
+                .all(|Step { from, by, to }| from < states && by < self.types && to < states)
     }
 
-    /// Adds a step; false if it was there.
-    pub fn add_step(&mut self, from: u8, by: u8, to: u8) -> bool {
-        self.by[usize::from(from)].add(by);
-        self.next[Self::entry(from, by)].add(to)
+    /// Each type with the places of its steps.
+    #[inline]
+    pub fn blocks(&self) -> impl Iterator<Item = (usize, Range<usize>)> {
+        let mut end = 0;
+        let counts = self.steps[..usize::from(self.types)].iter();
+        counts.enumerate().map(move |(of, &count)| {
+            let start = end;
+            end += usize::from(count);
+            (of, start..end)
+        })
     }
 
-    /// The types that steps from this state carry.
-    pub fn types_from(&self, state: u8) -> Types {
-        self.by[usize::from(state)]
+    /// The places of a type's steps.
+    #[inline]
+    pub fn block(&self, of: Type) -> Range<usize> {
+        let of = usize::from(of);
+        let start = self.steps[..of]
+            .iter()
+            .map(|&count| usize::from(count))
+            .sum();
+        start..start + usize::from(self.steps[of])
     }
 
-    /// The types that steps from these states carry.
-    pub fn types_from_any(&self, states: States) -> Types {
-        states
-            .numbers()
-            .fold(Types::NONE, |all, state| all.union(self.types_from(state)))
-    }
-
-    /// The states that a type leads to from this state.
-    pub fn next(&self, state: u8, by: u8) -> States {
-        self.next[Self::entry(state, by)]
-    }
-
-    /// The states that a type leads to from these states.
-    pub fn next_of_any(&self, states: States, by: u8) -> States {
-        states
-            .numbers()
-            .fold(States::NONE, |all, state| all.union(self.next(state, by)))
-    }
-
-    /// The states that words over these types lead to from the start.
-    pub fn reachable(&self, types: Types) -> States {
-        let mut found = States::only(START);
-        let mut waiting = vec![START];
-        while let Some(state) = waiting.pop() {
-            for by in self.types_from(state).common(types).numbers() {
-                let new = self.next(state, by).without(found);
-                found = found.union(new);
-                waiting.extend(new.numbers());
-            }
-        }
-        found
-    }
-
-    /// The states from which words over these types lead to an accepting state.
-    pub fn live(&self, types: Types) -> States {
-        let mut live = self.accepting;
-        loop {
-            let before = live;
-            for state in (0..self.states()).rev().filter(|&state| !before.has(state)) {
-                let mut by = self.types_from(state).common(types).numbers();
-                if by.any(|by| self.next(state, by).meets(live)) {
-                    live.add(state);
-                }
-            }
-            if live == before {
-                return live;
-            }
-        }
-    }
-
-    /// Drops the steps by other types than these and the steps to other states than these.
-    pub fn keep(&mut self, types: Types, states: States) {
-        for state in 0..self.states() {
-            let mut kept = Types::NONE;
-            for by in self.types_from(state).numbers() {
-                let next = &mut self.next[Self::entry(state, by)];
-                *next = if types.has(by) {
-                    next.common(states)
-                } else {
-                    States::NONE
-                };
-                if !next.is_empty() {
-                    kept.add(by);
-                }
-            }
-            self.by[usize::from(state)] = kept;
-        }
-    }
-
-    fn entry(state: u8, by: u8) -> usize {
-        usize::from(state) * usize::from(MOST_TYPES) + usize::from(by)
+    /// The steps at these places.
+    #[inline]
+    pub fn steps_at(&self, places: Range<usize>) -> impl Iterator<Item = Step> {
+        let from = self.from[places.clone()].iter();
+        let by = &self.by[places.clone()];
+        let steps = from.zip(by).zip(&self.to[places]);
+        steps.map(|((&from, &by), &to)| Step { from, by, to })
     }
 }

@@ -1,147 +1,217 @@
 //! The schema file: its commands and the questions 2 to 7.
 
-use crate::schema::{Block, MOST_STATES, MOST_STEPS, MOST_TAGS, MOST_TYPES, Schema};
+use crate::codes::{DONE, FINAL, ROOT, STEP, TAGS, TYPE};
+use crate::limits::{MOST_STATES, MOST_STEPS, MOST_TAGS, MOST_TYPES, State, Tag, Type};
+use crate::questions::{
+    NO_COMMAND, Number, OUT_OF_ORDER, OUT_OF_RANGE, REPEATED, TOO_MANY, UNKNOWN_TYPE, ask,
+};
+use crate::schema::{Schema, Step};
 
 /// A refused file: the number of the first question answered no, and its place.
 #[derive(Debug, Clone, Copy, PartialEq, Eq)]
 pub struct Refusal {
-    pub number: u8,
+    pub number: Number,
     pub place: usize,
 }
 
 #[derive(Debug, Clone, Copy)]
 enum Command {
     Tags { count: u8 },
-    Type { tag: u8, states: u8 },
-    Final { state: u8 },
-    Step { from: u8, by: u8, to: u8 },
-    Root { of: u8 },
+    Type { tag: Tag, states: u8 },
+    Final { state: State },
+    Step(Step),
+    Root { of: Type },
     Done,
 }
 
-/// Reads the schema that a file states.
-pub fn read(file: &[u8]) -> Result<Schema, Refusal> {
-    let mut draft = Draft::default();
-    let mut place = 0;
-    while !draft.done {
-        let (command, length) = command(&file[place..]).ok_or(Refusal { number: 2, place })?;
-        draft
-            .take(command, place)
-            .map_err(|number| Refusal { number, place })?;
-        place += length;
-    }
-    if place < file.len() {
-        return Err(Refusal { number: 3, place });
-    }
-    draft.schema()
-}
-
 /// The command that these bytes begin with, and its length.
+#[inline]
 fn command(bytes: &[u8]) -> Option<(Command, usize)> {
     match *bytes {
-        [0x10, count, ..] => Some((Command::Tags { count }, 2)),
-        [0x11, tag, states, ..] => Some((Command::Type { tag, states }, 3)),
-        [0x12, state, ..] => Some((Command::Final { state }, 2)),
-        [0x13, from, by, to, ..] => Some((Command::Step { from, by, to }, 4)),
-        [0x14, of, ..] => Some((Command::Root { of }, 2)),
-        [0x1F, ..] => Some((Command::Done, 1)),
+        [TAGS, count, ..] => Some((Command::Tags { count }, 2)),
+        [TYPE, tag, states, ..] => Some((Command::Type { tag, states }, 3)),
+        [FINAL, state, ..] => Some((Command::Final { state }, 2)),
+        [STEP, from, by, to, ..] => Some((Command::Step(Step { from, by, to }), 4)),
+        [ROOT, of, ..] => Some((Command::Root { of }, 2)),
+        [DONE, ..] => Some((Command::Done, 1)),
         _ => None,
     }
 }
 
-/// What the commands read so far state.
-#[derive(Default)]
-struct Draft {
-    tags: Option<u8>,
-    blocks: Vec<Block>,
-    root: Option<u8>,
-    done: bool,
-    steps: usize,
-    /// Type and place of each STEP that names a type whose block had not begun.
-    ahead: Vec<(u8, usize)>,
+/// Reads the schema that a file states into a blank one.
+pub fn read(file: &[u8], schema: &mut Schema) -> Result<(), Refusal> {
+    let mut draft = Draft {
+        phase: Phase::Start,
+        schema,
+        steps: 0,
+    };
+    let mut place = 0;
+    while draft.phase != Phase::Done {
+        let refused = |number| Refusal { number, place };
+        let (command, length) = command(&file[place..]).ok_or(refused(NO_COMMAND))?;
+        draft.take(command).map_err(refused)?;
+        place += length;
+    }
+    if place < file.len() {
+        let number = OUT_OF_ORDER;
+        return Err(Refusal { number, place });
+    }
+    match draft.first_unknown() {
+        None => Ok(()),
+        Some(step) => Err(Refusal {
+            number: UNKNOWN_TYPE,
+            place: place_of_step(file, step),
+        }),
+    }
 }
 
-impl Draft {
+/// The place of a STEP, counted from 0, in a file that was read to its end.
+fn place_of_step(file: &[u8], mut left: usize) -> usize {
+    let mut place = 0;
+    while let Some((command, length)) = command(&file[place..]) {
+        if matches!(command, Command::Step(_)) {
+            if left == 0 {
+                break;
+            }
+            left -= 1;
+        }
+        place += length;
+    }
+    place
+}
+
+/// Which commands may come: TAGS, a TYPE, what stands in a block or after it, DONE, none.
+#[derive(Debug, Clone, Copy, PartialEq, Eq)]
+enum Phase {
+    Start,
+    Tags,
+    Blocks,
+    Root,
+    Done,
+}
+
+/// What the commands read so far state.
+struct Draft<'s> {
+    phase: Phase,
+    schema: &'s mut Schema,
+    /// The steps of all blocks so far.
+    steps: usize,
+}
+
+impl Draft<'_> {
     /// Takes a command, or answers the number of its refusal.
-    fn take(&mut self, command: Command, place: usize) -> Result<(), u8> {
-        ask(3, self.in_order(command))?;
-        ask(4, self.in_range(command))?;
-        ask(5, self.within_limits(command))?;
-        ask(6, self.put(command, place))
+    #[inline]
+    fn take(&mut self, command: Command) -> Result<(), Number> {
+        ask(OUT_OF_ORDER, self.in_order(command))?;
+        ask(OUT_OF_RANGE, self.in_range(command))?;
+        ask(TOO_MANY, self.within_limits(command))?;
+        ask(REPEATED, self.is_new(command))?;
+        self.put(command);
+        Ok(())
     }
 
+    #[inline]
     fn in_order(&self, command: Command) -> bool {
-        let in_blocks = !self.blocks.is_empty() && self.root.is_none();
         match command {
-            Command::Tags { .. } => self.tags.is_none(),
-            Command::Type { .. } => self.tags.is_some() && self.root.is_none(),
-            Command::Final { .. } | Command::Step { .. } | Command::Root { .. } => in_blocks,
-            Command::Done => self.root.is_some(),
+            Command::Tags { .. } => self.phase == Phase::Start,
+            Command::Type { .. } => matches!(self.phase, Phase::Tags | Phase::Blocks),
+            Command::Final { .. } | Command::Step(_) | Command::Root { .. } => {
+                self.phase == Phase::Blocks
+            }
+            Command::Done => self.phase == Phase::Root,
         }
     }
 
+    #[inline]
     fn in_range(&self, command: Command) -> bool {
-        let states = self.blocks.last().map_or(0, Block::states);
+        let up_to = |count: u8, most: usize| (1..=most).contains(&usize::from(count));
         match command {
-            Command::Tags { count } => (1..=MOST_TAGS).contains(&count),
-            Command::Type { tag, states } => {
-                self.tags.is_some_and(|tags| tag < tags) && (1..=MOST_STATES).contains(&states)
+            Command::Tags { count } => up_to(count, MOST_TAGS),
+            Command::Type { tag, states } => tag < self.schema.tags && up_to(states, MOST_STATES),
+            Command::Final { state } => state < self.states(),
+            Command::Step(Step { from, by, to }) => {
+                from < self.states() && usize::from(by) < MOST_TYPES && to < self.states()
             }
-            Command::Final { state } => state < states,
-            Command::Step { from, by, to } => from < states && by < MOST_TYPES && to < states,
-            Command::Root { of } => usize::from(of) < self.blocks.len(),
+            Command::Root { of } => of < self.schema.types,
             Command::Done => true,
         }
     }
 
+    #[inline]
     fn within_limits(&self, command: Command) -> bool {
         match command {
-            Command::Type { .. } => self.blocks.len() < usize::from(MOST_TYPES),
-            Command::Step { .. } => self.steps < MOST_STEPS,
+            Command::Type { .. } => usize::from(self.schema.types) < MOST_TYPES,
+            Command::Step(_) => self.steps < MOST_STEPS,
             _ => true,
         }
     }
 
-    /// Adds what the command states; false if it was given in this block before.
-    fn put(&mut self, command: Command, place: usize) -> bool {
+    /// Is it no FINAL or STEP that its block already has?
+    #[inline]
+    fn is_new(&self, command: Command) -> bool {
         match command {
-            Command::Tags { count } => self.tags = Some(count),
-            Command::Type { tag, states } => self.blocks.push(Block::new(tag, states)),
-            Command::Final { state } => return self.block().accepting.add(state),
-            Command::Step { from, by, to } => {
-                self.steps += 1;
-                if usize::from(by) >= self.blocks.len() {
-                    self.ahead.push((by, place));
-                }
-                return self.block().add_step(from, by, to);
+            Command::Final { state } => !self.schema.accepting[self.block()].has(state),
+            Command::Step(step) => {
+                let first = self.steps - usize::from(self.schema.steps[self.block()]);
+                let mut given = self.schema.steps_at(first..self.steps);
+                !given.any(|other| other == step)
             }
-            Command::Root { of } => self.root = Some(of),
-            Command::Done => self.done = true,
+            _ => true,
         }
-        true
     }
 
-    fn block(&mut self) -> &mut Block {
-        self.blocks
-            .last_mut()
-            .expect("FINAL and STEP stand in a block")
-    }
-
-    /// The schema of the whole file, if each STEP names a type that was given.
-    fn schema(self) -> Result<Schema, Refusal> {
-        let missing = |&&(by, _): &&(u8, usize)| usize::from(by) >= self.blocks.len();
-        if let Some(&(_, place)) = self.ahead.iter().find(missing) {
-            return Err(Refusal { number: 7, place });
+    /// Adds what the command states.
+    #[inline]
+    fn put(&mut self, command: Command) {
+        match command {
+            Command::Tags { count } => {
+                self.schema.tags = count;
+                self.phase = Phase::Tags;
+            }
+            Command::Type { tag, states } => self.put_type(tag, states),
+            Command::Final { state } => self.schema.accepting[self.block()].add(state),
+            Command::Step(step) => self.put_step(step),
+            Command::Root { of } => {
+                self.schema.root = of;
+                self.phase = Phase::Root;
+            }
+            Command::Done => self.phase = Phase::Done,
         }
-        Ok(Schema {
-            tags: self.tags.expect("the file began with TAGS"),
-            root: self.root.expect("ROOT stood before DONE"),
-            blocks: self.blocks,
-        })
     }
-}
 
-/// A question's number, if the answer is no.
-fn ask(number: u8, yes: bool) -> Result<(), u8> {
-    if yes { Ok(()) } else { Err(number) }
+    #[inline]
+    fn put_type(&mut self, tag: Tag, states: u8) {
+        let of = usize::from(self.schema.types);
+        self.schema.tag[of] = tag;
+        self.schema.states[of] = states;
+        self.schema.types += 1;
+        self.phase = Phase::Blocks;
+    }
+
+    #[inline]
+    fn put_step(&mut self, Step { from, by, to }: Step) {
+        self.schema.from[self.steps] = from;
+        self.schema.by[self.steps] = by;
+        self.schema.to[self.steps] = to;
+        self.schema.steps[self.block()] += 1;
+        self.steps += 1;
+    }
+
+    /// The type whose block is being read.
+    #[inline]
+    fn block(&self) -> usize {
+        usize::from(self.schema.types) - 1
+    }
+
+    /// The number of states of the type whose block is being read.
+    #[inline]
+    fn states(&self) -> u8 {
+        self.schema.states[self.block()]
+    }
+
+    /// The first STEP that names a type that was not given, counted from 0.
+    fn first_unknown(&self) -> Option<usize> {
+        let given = &self.schema.by[..self.steps];
+        given.iter().position(|&by| by >= self.schema.types)
+    }
 }

@@ -1,14 +1,13 @@
 //! The samples of the boot wall, and the points that the questions' order settles.
 
-use crate::competition::number;
-use crate::{
-    Job, Opening, SchemaAnswer, WITNESS, Witness, check_schema, competes, openings, print,
-    type_document, witness,
-};
+mod made_up;
 
-const OPEN: u8 = 0x21;
-const CLOSE: u8 = 0x22;
-const FINISH: u8 = 0x2F;
+use crate::codes::{CLOSE, FINISH, OPEN};
+use crate::competition::pair_number;
+use crate::limits::WITNESS;
+use crate::{
+    Job, Opening, SchemaAnswer, Witness, check_schema, competes, openings, print, type_document,
+};
 
 /// A byte that no answer writes.
 const UNTOUCHED: u8 = 0xEE;
@@ -46,7 +45,7 @@ fn check(schema: &[u8]) -> (u8, usize, Vec<u8>) {
     let mut buffer = [UNTOUCHED; WITNESS];
     let SchemaAnswer { number, place } = check_schema(schema, &mut buffer);
     let written = match number {
-        9 => 5 + witness(&buffer).unwrap().word.len(),
+        9 => Witness::from_bytes(&buffer).unwrap().length(),
         _ => 0,
     };
     assert!(buffer[written..].iter().all(|&byte| byte == UNTOUCHED));
@@ -251,6 +250,7 @@ fn at_the_sixty_fifth_level() {
 
 #[test]
 fn pairs_of_states() {
+    let number = pair_number;
     assert_eq!((number(0, 0), number(3, 1), number(31, 31)), (0, 7, 527));
     assert_eq!(number(1, 3), 7);
 }
@@ -283,17 +283,17 @@ fn witness_buffers() {
 
 #[test]
 fn witness_parts() {
-    assert_eq!(witness(&[]), None);
-    assert_eq!(witness(&[0, 1, 2, 1]), None);
-    assert_eq!(witness(&[0, 1, 2, 1, 0]), None);
+    assert_eq!(Witness::from_bytes(&[]), None);
+    assert_eq!(Witness::from_bytes(&[0, 1, 2, 1]), None);
+    assert_eq!(Witness::from_bytes(&[0, 1, 2, 1, 0]), None);
     let parts = Witness {
         within: 0,
         one: 1,
         other: 2,
         word: &[7],
     };
-    assert_eq!(witness(&[0, 1, 2, 1, 0, 7, 8]), Some(parts));
-    assert_eq!(witness(&[0, 1, 2, 1, 1, 7, 8]), None);
+    assert_eq!(Witness::from_bytes(&[0, 1, 2, 1, 0, 7, 8]), Some(parts));
+    assert_eq!(Witness::from_bytes(&[0, 1, 2, 1, 1, 7, 8]), None);
 }
 
 #[test]

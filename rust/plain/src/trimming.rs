@@ -1,95 +1,100 @@
-//! Trimming: the types that bear a tree, the live states, the types that are reached.
+//! Trimming: the live states, the types that bear a tree, the types that are reached.
 
-use crate::schema::{Block, Schema};
-use crate::set::{States, Types};
+use crate::limits::{MOST_TYPES, State};
+use crate::schema::{Schema, Step};
+use crate::states::States;
 
-/// A schema of which only the steps that count are left: by types that bear a tree, to live states.
-#[derive(Debug, Clone)]
-pub struct Trimmed {
-    pub root: u8,
-    /// For each tag its types.
-    of_tag: Vec<Types>,
-    blocks: Vec<Block>,
-    bearing: Types,
+/// For each type a set of its states.
+pub type StatesOf = [States; MOST_TYPES];
+
+/// What trimming finds of each type of a schema inside the limits; entries past the types are empty.
+#[derive(Debug, Clone, Copy, PartialEq, Eq)]
+#[repr(C)]
+pub struct Trimming {
+    /// The states from which an accepting state can be reached by types that bear a tree.
+    pub live: StatesOf,
+    /// Does it bear a tree? Its start state is live then.
+    pub bears: [bool; MOST_TYPES],
+    /// Is it the root type, or in a word of a reached type?
+    pub reached: [bool; MOST_TYPES],
 }
 
-impl Trimmed {
-    pub fn of(schema: Schema) -> Self {
-        let Schema {
-            tags,
-            mut blocks,
-            root,
-        } = schema;
-        let bearing = bearing(&blocks);
-        let mut of_tag = vec![Types::NONE; usize::from(tags)];
-        for (number, block) in (0..).zip(&mut blocks) {
-            of_tag[usize::from(block.tag)].add(number);
-            let live = block.live(bearing);
-            block.keep(bearing, live);
+impl Trimming {
+    pub const NONE: Trimming = Trimming {
+        live: [States::NONE; MOST_TYPES],
+        bears: [false; MOST_TYPES],
+        reached: [false; MOST_TYPES],
+    };
+
+    pub fn of(schema: &Schema) -> Trimming {
+        let live = live_states(schema);
+        Trimming {
+            bears: live.map(States::has_start),
+            reached: reached_types(schema, &live, &states_ahead(schema, &live)),
+            live,
         }
-        Trimmed {
-            root,
-            of_tag,
-            blocks,
-            bearing,
-        }
-    }
-
-    pub fn tags(&self) -> u8 {
-        self.of_tag.len() as u8
-    }
-
-    /// The block of a type, if there is one of this number.
-    pub fn given(&self, number: u8) -> Option<&Block> {
-        self.blocks.get(usize::from(number))
-    }
-
-    /// The block of a type that was given.
-    pub fn block(&self, number: u8) -> &Block {
-        &self.blocks[usize::from(number)]
-    }
-
-    /// The types of a tag below the number of tags.
-    pub fn of_tag(&self, tag: u8) -> Types {
-        self.of_tag[usize::from(tag)]
-    }
-
-    /// The types of this type's tag.
-    pub fn like(&self, number: u8) -> Types {
-        self.of_tag(self.block(number).tag)
-    }
-
-    pub fn bears(&self, number: u8) -> bool {
-        self.bearing.has(number)
-    }
-
-    /// The types that are reached, if the root type bears a tree.
-    pub fn reached(&self) -> Types {
-        let mut reached = Types::only(self.root);
-        let mut waiting = vec![self.root];
-        while let Some(number) = waiting.pop() {
-            let block = self.block(number);
-            let states: States = block.reachable(self.bearing);
-            let new = block.types_from_any(states).without(reached);
-            reached = reached.union(new);
-            waiting.extend(new.numbers());
-        }
-        reached
     }
 }
 
-/// The types that bear a tree: those with a word over types found before.
-fn bearing(blocks: &[Block]) -> Types {
-    let mut bearing = Types::NONE;
+/// The live states, round by round: a type bears a tree once its start state is live.
+pub fn live_states(schema: &Schema) -> StatesOf {
+    let types = usize::from(schema.types);
+    let mut live = [States::NONE; MOST_TYPES];
+    live[..types].copy_from_slice(&schema.accepting[..types]);
     loop {
-        let before = bearing;
-        for (number, block) in (0..).zip(blocks) {
-            if !bearing.has(number) && block.reachable(bearing).meets(block.accepting) {
-                bearing.add(number);
+        let before = live;
+        if !spread(schema, &before, &mut live, |step| (step.to, step.from)) {
+            return live;
+        }
+    }
+}
+
+/// The states that words over tree-bearing types lead to from the start, round by round.
+fn states_ahead(schema: &Schema, live: &StatesOf) -> StatesOf {
+    let mut ahead = [States::START; MOST_TYPES];
+    while spread(schema, live, &mut ahead, |step| (step.from, step.to)) {}
+    ahead
+}
+
+/// One round: a step by a tree-bearing type adds its second state to a set that has its first. Was one added?
+#[inline(always)]
+fn spread(
+    schema: &Schema,
+    live: &StatesOf,
+    sets: &mut StatesOf,
+    ends: impl Fn(Step) -> (State, State),
+) -> bool {
+    let mut added = false;
+    for (of, own) in schema.blocks() {
+        let mut set = sets[of];
+        for step in schema.steps_at(own) {
+            let (first, second) = ends(step);
+            if live[usize::from(step.by)].has_start() && set.has(first) {
+                set.add(second);
             }
         }
-        if bearing == before {
-            return bearing;
+        added |= set != sets[of];
+        sets[of] = set;
+    }
+    added
+}
+
+/// The reached types, round by round.
+fn reached_types(schema: &Schema, live: &StatesOf, ahead: &StatesOf) -> [bool; MOST_TYPES] {
+    let mut reached = [false; MOST_TYPES];
+    reached[usize::from(schema.root)] = true;
+    loop {
+        let before = reached;
+        for (of, own) in schema.blocks() {
+            if reached[of] {
+                for Step { from, by, to } in schema.steps_at(own) {
+                    let by = usize::from(by);
+                    reached[by] |= ahead[of].has(from) && live[by].has_start() && live[of].has(to);
+                }
+            }
+        }
+        if reached == before {
+            return reached;
         }
     }
 }

@@ -1,7 +1,7 @@
-// A schema as a RELAX NG grammar: a named pattern for each type, its content a regular expression, which eliminating the states of the type's
-// automaton one by one gives.
-use crate::common::schema::Schema;
-use crate::common::schemas::block;
+//! A schema as a RELAX NG grammar: a named pattern for each type, its content a regular expression, which eliminating the states of the type's
+//! automaton one by one gives.
+use plain::Schema;
+use std::ops::Range;
 
 #[derive(Clone, PartialEq)]
 enum Pattern {
@@ -48,19 +48,17 @@ fn many(a: Pattern) -> Pattern {
     }
 }
 
-// What leads from the start state to an accepting one.
-fn content(schema: &Schema, a: usize) -> Pattern {
+/// What leads from the start state to an accepting one.
+fn content(schema: &Schema, a: usize, own: Range<usize>) -> Pattern {
     let states = schema.states[a] as usize;
     let end = states;
     let mut to = vec![vec![Nothing; states + 1]; states];
-    for i in block(schema, a) {
-        let (p, q) = (schema.from[i] as usize, schema.to[i] as usize);
-        to[p][q] = or(to[p][q].clone(), Type(schema.by[i]));
+    for step in schema.steps_at(own) {
+        let (p, q) = (usize::from(step.from), usize::from(step.to));
+        to[p][q] = or(to[p][q].clone(), Type(step.by));
     }
-    for (p, row) in to.iter_mut().enumerate() {
-        if schema.accepting[a] >> p & 1 == 1 {
-            row[end] = Empty;
-        }
+    for p in schema.accepting[a].iter() {
+        to[usize::from(p)][end] = Empty;
     }
     for out in (1..states).rev() {
         let around = many(to[out][out].clone());
@@ -96,12 +94,12 @@ pub fn grammar(schema: &Schema) -> String {
         "<grammar xmlns=\"http://relaxng.org/ns/structure/1.0\">\n<start><ref name=\"t{}\"/></start>\n",
         schema.root
     );
-    for a in 0..schema.types as usize {
+    for (a, own) in schema.blocks() {
         out += &format!(
             "<define name=\"t{a}\"><element name=\"e{}\">",
             schema.tag[a]
         );
-        write(&content(schema, a), &mut out);
+        write(&content(schema, a, own), &mut out);
         out += "</element></define>\n";
     }
     out + "</grammar>\n"

@@ -1,12 +1,14 @@
-// Event files: those that are timed, and random ones.
-use crate::common::calls::{FRESH, LEVELS, REFUSED};
-use crate::common::documents::document;
-use crate::common::events::EventFile;
-use crate::common::random::Random;
-use crate::common::schema::Schema;
-use crate::common::schemas::{STEPS_GROW, dense, layered, mixed, nesting, small};
+//! Event files: those that are timed, and random ones.
+use super::calls::Events;
+use crate::documents::document;
+use crate::random::Random;
+use crate::schemas::{STEPS_GROW, dense, layered, mixed, nesting, small};
+use plain::codes::{CLOSE, FINISH, OPEN};
+use plain::limits::MOST_OPEN;
+use plain::questions::TOO_DEEP;
+use plain::{Answer, Reading, Schema};
 
-// A schema, and a file whose events are all taken.
+/// A schema, and a file whose events are all taken.
 pub struct FileCase {
     pub name: String,
     pub schema: Schema,
@@ -23,7 +25,7 @@ fn case(name: impl Into<String>, schema: Schema, bytes: usize, depths: [u8; 2]) 
     }
 }
 
-// Files that grow, of three schemas.
+/// Files that grow, of three schemas.
 fn lengths() -> Vec<FileCase> {
     let schemas = [
         ("R", small(), [1, 2]),
@@ -39,9 +41,9 @@ fn lengths() -> Vec<FileCase> {
     schemas.into_iter().flat_map(grow).collect()
 }
 
-// The timed files.
+/// The timed files.
 pub fn file_cases() -> Vec<FileCase> {
-    let deep = LEVELS as u8;
+    let deep = MOST_OPEN as u8;
     let mut all = lengths();
     all.extend([
         case(
@@ -74,9 +76,9 @@ pub fn file_cases() -> Vec<FileCase> {
 const SCHEMAS: u32 = 4_000;
 const FILES: u32 = 12;
 
-// A file of mostly taken events, some of them deep; some have a byte spoiled or are cut.
+/// A file of mostly taken events, some of them deep; some have a byte spoiled or are cut.
 fn random_file(random: &mut Random, schema: &Schema) -> Vec<u8> {
-    let mut reading = FRESH;
+    let mut reading = Reading::FRESH;
     let mut file = Vec::new();
     let care = random.below(4) != 0;
     let deep = random.below(16) == 0;
@@ -84,25 +86,28 @@ fn random_file(random: &mut Random, schema: &Schema) -> Vec<u8> {
     for _ in 0..tries {
         let tag = random.byte(schema.tags.clamp(1, 32) + 1);
         let (code, answered) = match random.below(12) {
-            0 => (0x2f, reading.finish(*schema)),
-            1..=4 if !deep => (0x22, reading.close(*schema, tag)),
-            _ => (0x21, reading.open(*schema, tag)),
+            0 => (FINISH, reading.finish(schema)),
+            1..=4 if !deep => (CLOSE, reading.close(schema, tag)),
+            _ => (OPEN, reading.open(schema, tag)),
         };
-        let full = answered.answer.kind == REFUSED && answered.answer.of == 14;
-        if answered.answer.kind == REFUSED && !full && (care || random.below(16) != 0) {
+        let refused = match answered.answer {
+            Answer::Refused(number) => number != TOO_DEEP,
+            Answer::Typed(_) | Answer::Taken => false,
+        };
+        if refused && (care || random.below(16) != 0) {
             continue;
         }
         file.push(code);
-        if code != 0x2f {
+        if code != FINISH {
             file.push(tag);
         }
         reading = answered.reading;
     }
     if care && random.below(2) == 0 {
         for n in (0..reading.depth as usize).rev() {
-            file.extend([0x22, schema.tag[reading.types[n] as usize % 64]]);
+            file.extend([CLOSE, schema.tag[reading.types[n] as usize % 64]]);
         }
-        file.push(0x2f);
+        file.push(FINISH);
     }
     if !file.is_empty() && random.below(6) == 0 {
         let at = random.below(file.len() as u64) as usize;
@@ -114,10 +119,8 @@ fn random_file(random: &mut Random, schema: &Schema) -> Vec<u8> {
     file
 }
 
-pub type Answers = fn(&Schema, &[u8], &mut [u8]) -> EventFile;
-
-// The same files to both; the answer and the whole buffer compared. Of each number, how many files got it.
-pub fn compare_files(one: Answers, other: Answers) -> Option<[u32; 21]> {
+/// The same files to both; the answer and the whole buffer compared. Of each number, how many files got it.
+pub fn compare_files(one: Events, other: Events) -> Option<[u32; 21]> {
     let mut random = Random(0xD1B5_4A32_D192_ED03);
     let mut numbers = [0; 21];
     for _ in 0..SCHEMAS {

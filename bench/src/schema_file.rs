@@ -1,83 +1,50 @@
-// The schema file's call beside plain Rust of the same questions, written in two ways: `plain` stops at the first equal step when it looks for a
-// repeated STEP; `alike` compares a STEP with all of its block without a branch, as the proved reader does.
-#[allow(dead_code)]
-#[path = "../common/mod.rs"]
-mod common;
-mod plain;
-
-use common::measure::{Asked, heading, in_turn, row};
-use common::random::Random;
-use common::schema::{Schema, WITNESS};
-use common::schemas::{
+//! The schema file's call beside plain Rust of the same questions.
+use crate::engine;
+use crate::measure::{Asked, agree, heading, in_turn, row};
+use crate::random::Random;
+use crate::schemas::{
     STEPS_GROW, full, layered, longest, mixed, samples, schema_file, shuffled, single, small, wide,
 };
-use plain::{Alike, Numbers, Obvious, read};
+use plain::codes::{STEP, TYPE};
+use plain::limits::WITNESS;
+use plain::{Schema, SchemaAnswer, check_schema};
 use std::hint::black_box;
 
-// A slice goes over as its pointer and its length.
-unsafe extern "C" {
-    fn typestock_check_schema(
-        file: *const u8,
-        len: usize,
-        witness: *mut u8,
-        room: usize,
-    ) -> Numbers;
-}
+type Read = fn(&[u8], &mut [u8]) -> SchemaAnswer;
 
-fn proved(file: &[u8], witness: &mut [u8]) -> Numbers {
-    // SAFETY: each pointer and length are one slice's, which lives through the call; the witness is lent to it alone.
-    unsafe {
-        typestock_check_schema(
-            file.as_ptr(),
-            file.len(),
-            witness.as_mut_ptr(),
-            witness.len(),
-        )
-    }
-}
-
-type Read = fn(&[u8], &mut [u8]) -> Numbers;
-
-const READERS: [Read; 3] = [proved, read::<Obvious>, read::<Alike>];
-
-// Whether the answers agree, with the whole of a buffer of `room` bytes. On 9 the three search alike, so the witnesses agree too.
-fn agree(file: &[u8], room: usize) -> bool {
-    let answers = READERS.map(|read| {
+/// Whether the answers agree, with the whole of a buffer of `room` bytes. On 9 both search alike, so the witnesses agree too.
+fn same(file: &[u8], room: usize) -> bool {
+    let [proved, plain] = [engine::check_schema, check_schema].map(|read: Read| {
         let mut witness = vec![0xA5; room];
         (read(file, &mut witness), witness)
     });
-    answers[0] == answers[1] && answers[0] == answers[2]
+    proved == plain
 }
 
-// A row for the files, read one after another. Whether all answers agree.
+/// A row for the files, read one after another. Whether all answers agree.
 fn report(what: &str, files: &[Vec<u8>], asked: Asked) -> bool {
-    let same = files.iter().all(|file| agree(file, WITNESS));
     let all = |read: Read, witness: &mut [u8]| {
         for file in files {
             black_box(read(black_box(file), witness));
         }
     };
-    let [mut x, mut y, mut z] = [[0; WITNESS]; 3];
-    let [a, b, c] = READERS;
+    let [mut ours, mut theirs] = [[0; WITNESS]; 2];
     let times = in_turn(
-        &mut [&mut || all(a, &mut x), &mut || all(b, &mut y), &mut || {
-            all(c, &mut z)
+        &mut [&mut || all(engine::check_schema, &mut ours), &mut || {
+            all(check_schema, &mut theirs)
         }],
     );
     let size: usize = files.iter().map(Vec::len).sum();
     row(what, &size.to_string(), &times, asked);
-    if !same {
-        println!("ANSWERS DIFFER");
-    }
-    same
+    agree(files.iter().all(|file| same(file, WITNESS)))
 }
 
 fn one(what: &str, schema: &Schema) -> bool {
     report(what, &[schema_file(schema)], Asked::Nothing)
 }
 
-// The longest files, in two orders of their steps. Questions 1 to 7 cannot be called alone: the root type with no step leaves 8 and 9 little to
-// ask, and a last step that gets 7 leaves them nothing.
+/// The longest files, in two orders of their steps. Questions 1 to 7 cannot be called alone: the root type with no step leaves 8 and 9 little to
+/// ask, and a last step that gets 7 leaves them nothing.
 fn longest_files() -> bool {
     let mut same = true;
     for (order, steps) in [("in order", full(32, 32, 1)), ("shuffled", shuffled())] {
@@ -97,7 +64,7 @@ fn longest_files() -> bool {
     )
 }
 
-// Files with a command more, bytes changed or an end cut off, most of them refused, to all three readers. How many got each number.
+/// Files with a command more, bytes changed or an end cut off, most of them refused, to both readers. How many got each number.
 fn spoiled() -> Option<[u32; 10]> {
     let mut random = Random(0x9E37_79B9_7F4A_7C15);
     let mut schemas = samples();
@@ -106,7 +73,7 @@ fn spoiled() -> Option<[u32; 10]> {
     for n in 0..40_000 {
         let mut file = schema_file(&schemas[n % schemas.len()]);
         if random.below(4) == 0 {
-            let more: &[u8] = [&[0x11, 0, 1][..], &[0x13, 0, 0, 0]][random.below(2) as usize];
+            let more: &[u8] = [&[TYPE, 0, 1][..], &[STEP, 0, 0, 0]][random.below(2) as usize];
             let root = file.len() - 3;
             file.splice(root..root, more.iter().copied());
         }
@@ -118,16 +85,18 @@ fn spoiled() -> Option<[u32; 10]> {
             file.truncate(random.below(file.len() as u64) as usize);
         }
         let room = WITNESS - usize::from(random.below(32) == 0);
-        if !agree(&file, room) {
+        if !same(&file, room) {
             return None;
         }
-        numbers[usize::from(proved(&file, &mut vec![0; room]).number)] += 1;
+        let answer = engine::check_schema(&file, &mut vec![0; room]);
+        numbers[usize::from(answer.number)] += 1;
     }
     Some(numbers)
 }
 
-fn main() {
-    heading("Schema files", "bytes", &["plain", "alike"]);
+/// The part; whether all answers agree.
+pub fn run() -> bool {
+    heading("Schema files", "bytes", &["plain"]);
     let files: Vec<Vec<u8>> = samples().iter().map(schema_file).collect();
     let mut same = one("1 type, no step", &single());
     same &= one("R", &small());
@@ -155,7 +124,7 @@ fn main() {
     }
     match spoiled() {
         Some(numbers) => println!(
-            "{} spoiled files: the same answers and witnesses of all three. Numbers 0 to 9: {numbers:?}",
+            "{} spoiled files: the same answers and witnesses. Numbers 0 to 9: {numbers:?}",
             numbers.iter().sum::<u32>()
         ),
         None => {
@@ -163,5 +132,5 @@ fn main() {
             same = false;
         }
     }
-    std::process::exit(i32::from(!same));
+    same
 }

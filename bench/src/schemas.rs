@@ -1,6 +1,7 @@
-// The schemas that are timed, and the file that states a schema.
-use super::random::Random;
-use super::schema::Schema;
+//! The schemas that are timed, and the file that states a schema.
+use crate::random::Random;
+use plain::codes::{DONE, FINAL, ROOT, STEP, TAGS, TYPE};
+use plain::{Schema, States};
 
 pub struct Type {
     pub tag: u8,
@@ -32,12 +33,12 @@ pub fn schema(tags: u8, root: u8, types: &[Type]) -> Schema {
         tags,
         types: types.len() as u8,
         root,
-        ..Schema::NONE
+        ..Schema::BLANK
     };
     for (a, t) in types.iter().enumerate() {
         s.tag[a] = t.tag;
         s.states[a] = t.states;
-        s.accepting[a] = t.accepting;
+        s.accepting[a] = States(t.accepting);
         s.steps[a] = t.steps.len() as u16;
     }
     for (i, step) in types.iter().flat_map(|t| &t.steps).enumerate() {
@@ -46,37 +47,33 @@ pub fn schema(tags: u8, root: u8, types: &[Type]) -> Schema {
     s
 }
 
-// The steps of a type.
-pub fn block(s: &Schema, a: usize) -> std::ops::Range<usize> {
-    let start = s.steps[..a].iter().map(|&n| n as usize).sum();
-    start..start + s.steps[a] as usize
-}
-
-// The schema file that states the schema.
+/// The schema file that states the schema.
 pub fn schema_file(s: &Schema) -> Vec<u8> {
-    let mut file = vec![0x10, s.tags];
-    for a in 0..s.types as usize {
-        file.extend([0x11, s.tag[a], s.states[a]]);
-        let accepting = (0..32).filter(|q| s.accepting[a] >> q & 1 == 1);
-        file.extend(accepting.flat_map(|q| [0x12, q]));
-        file.extend(block(s, a).flat_map(|i| [0x13, s.from[i], s.by[i], s.to[i]]));
+    let mut file = vec![TAGS, s.tags];
+    for (a, own) in s.blocks() {
+        file.extend([TYPE, s.tag[a], s.states[a]]);
+        file.extend(s.accepting[a].iter().flat_map(|q| [FINAL, q]));
+        file.extend(
+            s.steps_at(own)
+                .flat_map(|step| [STEP, step.from, step.by, step.to]),
+        );
     }
-    file.extend([0x14, s.root, 0x1f]);
+    file.extend([ROOT, s.root, DONE]);
     file
 }
 
-// Document 01's R.
+/// Document 01's R.
 pub fn small() -> Schema {
     let root = typed(0, 2, 0b10, [[0, 1, 0], [0, 2, 1], [1, 3, 1]]);
     schema(3, 0, &[root, leaf(1), leaf(2), leaf(1)])
 }
 
-// One type with no step.
+/// One type with no step.
 pub fn single() -> Schema {
     schema(1, 0, &[leaf(0)])
 }
 
-// 000's a → b1 or b2, b1 → c, b2 → d, with d as given.
+/// 000's a → b1 or b2, b1 → c, b2 → d, with d as given.
 fn choice(d: Type) -> Schema {
     let a = typed(0, 2, 0b10, [[0, 1, 1], [0, 2, 1]]);
     let b1 = typed(1, 2, 0b10, [[0, 3, 1]]);
@@ -84,7 +81,7 @@ fn choice(d: Type) -> Schema {
     schema(4, 0, &[a, b1, b2, leaf(2), d])
 }
 
-// Document 01's samples after R, in its order.
+/// Document 01's samples after R, in its order.
 pub fn samples() -> Vec<Schema> {
     let two_ways = typed(0, 4, 0b1000, [[0, 1, 1], [0, 1, 2], [1, 2, 3], [2, 3, 3]]);
     let two_types = typed(0, 3, 0b100, [[0, 1, 1], [1, 2, 2], [1, 3, 2]]);
@@ -101,7 +98,7 @@ pub fn samples() -> Vec<Schema> {
     ]
 }
 
-// 003's a1? b1 (b1 or c1)* a2 c1.
+/// 003's a1? b1 (b1 or c1)* a2 c1.
 pub fn optional() -> Schema {
     let root = [
         [0, 1, 1],
@@ -116,13 +113,13 @@ pub fn optional() -> Schema {
     schema(4, 0, &[root, leaf(1), leaf(2), leaf(3), leaf(1)])
 }
 
-// Steps 0 to 1, 1 to 2 and so on, all by one type. In this order a round over the steps makes one more state live, the last but one first.
+/// Steps 0 to 1, 1 to 2 and so on, all by one type. In this order a round over the steps makes one more state live, the last but one first.
 pub fn line(n: u8, by: u8) -> Vec<[u8; 3]> {
     (0..n).map(|s| [s, by, s + 1]).collect()
 }
 
-// 63 types with 16 steps each, and a leaf. Each type needs the one before it, the root is the last, so a round adds one state, and a round
-// of reaching adds one type.
+/// 63 types with 16 steps each, and a leaf. Each type needs the one before it, the root is the last, so a round adds one state, and a round
+/// of reaching adds one type.
 pub fn chain() -> Schema {
     let mut types = vec![leaf(0)];
     for a in 1..64 {
@@ -136,14 +133,14 @@ pub fn chain() -> Schema {
     schema(32, 63, &types)
 }
 
-// Steps from each of the states to each of the first `targets`, by one type.
+/// Steps from each of the states to each of the first `targets`, by one type.
 pub fn full(states: u8, targets: u8, by: u8) -> Vec<[u8; 3]> {
     (0..states)
         .flat_map(|p| (0..targets).map(move |q| [p, by, q]))
         .collect()
 }
 
-// Type 0 steps from each of 32 states to each, by type 1; the other 63 are leaves. All 528 pairs are reached, each by many ways.
+/// Type 0 steps from each of 32 states to each, by type 1; the other 63 are leaves. All 528 pairs are reached, each by many ways.
 pub fn dense() -> Schema {
     let mut types = vec![Type {
         tag: 0,
@@ -155,7 +152,7 @@ pub fn dense() -> Schema {
     schema(32, 0, &types)
 }
 
-// Type 0 steps from each of its states to each of the first `targets`, by 31 leaves of different tags in turn; all its states are accepting.
+/// Type 0 steps from each of its states to each of the first `targets`, by 31 leaves of different tags in turn; all its states are accepting.
 pub fn mixed(states: u8, targets: u8) -> Schema {
     let mut steps = full(states, targets, 1);
     for (i, step) in steps.iter_mut().enumerate() {
@@ -171,7 +168,7 @@ pub fn mixed(states: u8, targets: u8) -> Schema {
     schema(32, 0, &types)
 }
 
-// How many states and targets make 16, 32 and so on to 1,024 steps of `mixed`.
+/// How many states and targets make 16, 32 and so on to 1,024 steps of `mixed`.
 pub const STEPS_GROW: [(u8, u8); 7] = [
     (4, 4),
     (8, 4),
@@ -182,7 +179,7 @@ pub const STEPS_GROW: [(u8, u8); 7] = [
     (32, 32),
 ];
 
-// So many types of 4 states, all accepting, with a step from each state to each, by 16 types of different tags where there are so many.
+/// So many types of 4 states, all accepting, with a step from each state to each, by 16 types of different tags where there are so many.
 pub fn layered(types: u8) -> Schema {
     let tags = types.min(32);
     let types: Vec<Type> = (0..u32::from(types))
@@ -201,20 +198,20 @@ pub fn layered(types: u8) -> Schema {
     schema(tags, 0, &types)
 }
 
-// One type, with one step by itself.
+/// One type, with one step by itself.
 pub fn nesting() -> Schema {
     schema(2, 0, &[typed(0, 1, 1, [[0, 0, 0]]), leaf(1)])
 }
 
-// A line of 31 steps with a loop at its start: all 528 pairs are reached.
+/// A line of 31 steps with a loop at its start: all 528 pairs are reached.
 fn looped(by: u8) -> Vec<[u8; 3]> {
     let mut steps = line(31, by);
     steps.push([0, by, 0]);
     steps
 }
 
-// 32 types of 32 states with 32 steps each: type 0 needs nothing, each other the one before it, and in each all pairs are reached. `leaves`
-// more types are leaves.
+/// 32 types of 32 states with 32 steps each: type 0 needs nothing, each other the one before it, and in each all pairs are reached. `leaves`
+/// more types are leaves.
 pub fn wide(leaves: u8) -> Schema {
     let mut types = vec![Type {
         tag: 0,
@@ -234,14 +231,14 @@ pub fn wide(leaves: u8) -> Schema {
     schema(32, 31, &types)
 }
 
-// Types of 32 states, all accepting, and the steps in the first: with 64 types and 1,024 steps a longest schema file.
+/// Types of 32 states, all accepting, and the steps in the first: with 64 types and 1,024 steps a longest schema file.
 pub fn longest(types: u8, steps: Vec<[u8; 3]>, root: u8) -> Schema {
     let mut all: Vec<Type> = (0..types).map(|_| typed(0, 32, u32::MAX, [])).collect();
     all[0].steps = steps;
     schema(32, root, &all)
 }
 
-// From two states by sixteen types to each state, shuffled: no processor foresees which earlier steps are from the same state as the next.
+/// From two states by sixteen types to each state, shuffled: no processor foresees which earlier steps are from the same state as the next.
 pub fn shuffled() -> Vec<[u8; 3]> {
     let mut steps: Vec<_> = (0..1024u16)
         .map(|n| [(n % 2) as u8, (n / 2 % 16) as u8, (n / 32) as u8])

@@ -1,4 +1,4 @@
-// Marsaglia's xorshift.
+//! Marsaglia's xorshift.
 pub struct Random(pub u64);
 
 impl Random {

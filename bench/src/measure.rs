@@ -1,8 +1,8 @@
-// Times calls side by side, and prints a row of the table for them. A time is the processor's time of this thread, so that a turn of another
-// process is not in it.
+//! Times calls side by side, and prints a row of the table for them. A time is the processor's time of this thread, so that a turn of another
+//! process is not in it.
 use std::time::{Duration, Instant};
 
-// As C has it on 64-bit Linux.
+/// As C has it on 64-bit Linux.
 #[repr(C)]
 struct Timespec {
     seconds: i64,
@@ -26,16 +26,16 @@ fn thread_time() -> Duration {
     Duration::new(time.seconds as u64, time.nanoseconds as u32)
 }
 
-// A run is so many calls that it takes about half a millisecond, or one call; a row has at most `MOST` runs of each contender.
+/// A run is so many calls that it takes about half a millisecond, or one call; a row has at most `MOST` runs of each contender.
 const RUN: Duration = Duration::from_micros(500);
 const MOST: usize = 200;
 const LEAST: usize = 20;
 const ROW: Duration = Duration::from_millis(900);
 
-// The highest ratio that is asked of an event file.
+/// The highest ratio that is asked of an event file.
 pub const RATIO: f64 = 1.3;
 
-// What is asked of a row.
+/// What is asked of a row.
 #[derive(Clone, Copy)]
 pub enum Asked {
     Nothing,
@@ -61,8 +61,8 @@ fn calls_in_a_run(call: &mut dyn FnMut()) -> u32 {
     calls
 }
 
-// Microseconds a call in each run of each contender. The runs go in turn, every second time backwards, so that a slow phase of the machine
-// strikes all of them.
+/// Microseconds a call in each run of each contender. The runs go in turn, every second time backwards, so that a slow phase of the machine
+/// strikes all of them.
 pub fn in_turn(contenders: &mut [Call]) -> Vec<Vec<f64>> {
     let calls: Vec<u32> = contenders.iter_mut().map(|c| calls_in_a_run(c)).collect();
     let mut times = vec![Vec::new(); contenders.len()];
@@ -84,7 +84,7 @@ pub fn in_turn(contenders: &mut [Call]) -> Vec<Vec<f64>> {
     times
 }
 
-// The number with so many in a hundred below it.
+/// The number with so many in a hundred below it.
 pub fn percentile(numbers: &[f64], percent: usize) -> f64 {
     let mut sorted = numbers.to_vec();
     sorted.sort_by(f64::total_cmp);
@@ -95,7 +95,7 @@ pub fn median(numbers: &[f64]) -> f64 {
     percentile(numbers, 50)
 }
 
-// Three figures or more.
+/// Three figures or more.
 pub fn figure(x: f64) -> String {
     let places = match x {
         _ if 100.0 <= x => 0,
@@ -106,7 +106,7 @@ pub fn figure(x: f64) -> String {
     format!("{x:.places$}")
 }
 
-// A section of the table, the proved call beside the named contenders; `size` says what is counted or told there.
+/// A section of the table, the proved call beside the named contenders; `size` says what is counted or told there.
 pub fn heading(section: &str, size: &str, others: &[&str]) {
     print!(
         "\n{section:<58} {size:>8} {:>8} {:>15}",
@@ -118,8 +118,8 @@ pub fn heading(section: &str, size: &str, others: &[&str]) {
     println!();
 }
 
-// A row: the medians in microseconds, of the proved call the tenth and the ninetieth hundredth beside it, and the medians of the ratios of two
-// runs that were made in turn. Whether what is asked was met.
+/// A row: the medians in microseconds, of the proved call the tenth and the ninetieth hundredth beside it, and the medians of the ratios of two
+/// runs that were made in turn. Whether what is asked was met.
 pub fn row(what: &str, size: &str, times: &[Vec<f64>], asked: Asked) -> bool {
     let proved = &times[0];
     let ratios: Vec<f64> = times[1..]
@@ -143,6 +143,14 @@ pub fn row(what: &str, size: &str, times: &[Vec<f64>], asked: Asked) -> bool {
     };
     println!("{}{limit}", if met { "" } else { "  OVER" });
     met
+}
+
+/// Says so where answers differ.
+pub fn agree(same: bool) -> bool {
+    if !same {
+        println!("ANSWERS DIFFER");
+    }
+    same
 }
 
 fn ratio(proved: &[f64], other: &[f64]) -> f64 {

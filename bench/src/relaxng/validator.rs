@@ -1,4 +1,4 @@
-// The RELAX NG validators as processes.
+//! The RELAX NG validators as processes.
 use std::collections::HashSet;
 use std::path::{Path, PathBuf};
 use std::process::Command;
@@ -31,7 +31,7 @@ impl Validator {
         Command::new(self.name()).arg("--version").output().is_ok()
     }
 
-    // The documents that it says are not valid: `xmllint` has a line for each, `jing` for each error.
+    /// The documents that it says are not valid: `xmllint` has a line for each, `jing` for each error.
     pub fn refused(self, rng: &Path, files: &[&Path]) -> HashSet<PathBuf> {
         let ran = self.command(rng).args(files).output().expect("it runs");
         let text = [ran.stdout, ran.stderr].concat();
@@ -46,7 +46,7 @@ impl Validator {
         text.lines().filter_map(file).collect()
     }
 
-    // Milliseconds of the whole process, the best of three.
+    /// Milliseconds of the whole process, the best of three.
     pub fn time(self, rng: &Path, files: &[&Path]) -> f64 {
         let run = |_| {
             let start = Instant::now();

@@ -1,16 +1,10 @@
-// The calls on a reading that are timed: schemas, and the readings that the calls are made on.
-use crate::common::calls::{FRESH, LEVELS, Reading};
-use crate::common::schema::Schema;
-use crate::common::schemas::{Type, chain, leaf, line, schema, small, wide};
+//! The calls on a reading that are timed: schemas, and the readings that the calls are made on.
+use super::calls::Call;
+use crate::schemas::{Type, chain, leaf, line, schema, small, wide};
+use plain::limits::MOST_OPEN;
+use plain::{Reading, Schema, States};
 
-#[derive(Clone, Copy)]
-pub enum Call {
-    Open(u8),
-    Close(u8),
-    Finish,
-}
-
-// One call, and the most microseconds that it may take.
+/// One call, and the most microseconds that it may take.
 pub struct Case {
     pub name: &'static str,
     pub most: Option<f64>,
@@ -19,30 +13,30 @@ pub struct Case {
     pub call: Call,
 }
 
-// The root element of R is open, in the states of the set.
+/// The root element of R is open, in the states of the set.
 fn inside_root(set: u32) -> Reading {
     let mut reading = Reading {
         depth: 1,
         rooted: true,
-        ..FRESH
+        ..Reading::FRESH
     };
-    reading.sets[0] = set;
+    reading.sets[0] = States(set);
     reading
 }
 
-// 63 open levels of the type, each with all its states.
+/// 63 open levels of the type, each with all its states.
 fn nested(schema: &Schema, a: u8) -> Reading {
     let states = schema.states[a as usize];
     Reading {
         depth: 63,
         rooted: true,
         finished: false,
-        types: [a; LEVELS],
-        sets: [((1u64 << states) - 1) as u32; LEVELS],
+        types: [a; MOST_OPEN],
+        sets: [States(((1u64 << states) - 1) as u32); MOST_OPEN],
     }
 }
 
-// A line whose steps are by types below `a`, the last by the one before `a`: no state but the last is live before that type bears a tree.
+/// A line whose steps are by types below `a`, the last by the one before `a`: no state but the last is live before that type bears a tree.
 fn mixed_line(n: u8, a: u8) -> Vec<[u8; 3]> {
     let mut steps = line(n, a - 1);
     for step in &mut steps[..n as usize - 1] {
@@ -51,8 +45,8 @@ fn mixed_line(n: u8, a: u8) -> Vec<[u8; 3]> {
     steps
 }
 
-// A leaf, and 63 types with 1,024 steps in all, each of which needs the one before it. A round adds one state, so there are 1,025 rounds: no
-// schema has more, since each round but the last adds a state by a step that added none before.
+/// A leaf, and 63 types with 1,024 steps in all, each of which needs the one before it. A round adds one state, so there are 1,025 rounds: no
+/// schema has more, since each round but the last adds a state by a step that added none before.
 fn longest() -> Schema {
     let mut types = vec![leaf(0)];
     for a in 1..64 {
@@ -67,13 +61,13 @@ fn longest() -> Schema {
     schema(32, 63, &types)
 }
 
-// Steps back, by the type, until there are `n` steps.
+/// Steps back, by the type, until there are `n` steps.
 fn fill(steps: &mut Vec<[u8; 3]>, by: u8, n: usize) {
     let back = (0..32).flat_map(|p| (0..=p).map(move |q| [p, by, q]));
     steps.extend(back.take(n - steps.len()));
 }
 
-// Type 0 has 32 states in a line and steps back, by two leaves of one tag. A round adds one state.
+/// Type 0 has 32 states in a line and steps back, by two leaves of one tag. A round adds one state.
 fn one_type() -> Schema {
     let mut steps = line(31, 1);
     fill(&mut steps, 1, 31 + 528);
@@ -88,7 +82,7 @@ fn one_type() -> Schema {
     schema(32, 0, &types)
 }
 
-// 31 leaves, 28 types of 32 states in a chain, and a last type with the 156 steps that are left.
+/// 31 leaves, 28 types of 32 states in a chain, and a last type with the 156 steps that are left.
 fn mixture() -> Schema {
     let mut types: Vec<Type> = (0..31).map(leaf).collect();
     for a in 31..60 {

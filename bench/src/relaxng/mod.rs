@@ -1,28 +1,24 @@
-// The same documents by the proved engine and by the RELAX NG validators that are installed, `xmllint --relaxng` and `jing`: what each costs, and
-// whether they agree on valid and damaged documents. A validator reads XML text and says whether a document is valid; it gives no types out. The
-// engine reads an event file, answers with the place of the first refusal, and gives the type of each element.
-#[allow(dead_code)]
-#[path = "../common/mod.rs"]
-mod common;
+//! The same documents by the proved engine and by the RELAX NG validators that are installed, `xmllint --relaxng` and `jing`: what each costs, and
+//! whether they agree on valid and damaged documents. A validator reads XML text and says whether a document is valid; it gives no types out. The
+//! engine reads an event file, answers with the place of the first refusal, and gives the type of each element.
 mod grammar;
-#[path = "../reading/proved_file.rs"]
-mod proved_file;
 mod trees;
 mod validator;
 
-use common::measure::{figure, in_turn, median, percentile};
-use common::random::Random;
-use common::schema::Schema;
-use common::schemas::{Type, layered, leaf, optional, schema, small};
+use crate::engine::events;
+use crate::measure::{figure, in_turn, median, percentile};
+use crate::random::Random;
+use crate::schemas::{Type, layered, leaf, optional, schema, small};
 use grammar::grammar;
-use proved_file::proved_file;
+use plain::Schema;
+use plain::questions::NONE;
 use std::fs::{create_dir_all, write};
 use std::hint::black_box;
 use std::path::{Path, PathBuf};
 use trees::{Tree, valid};
 use validator::Validator;
 
-// A document in both forms.
+/// A document in both forms.
 struct Document {
     events: Vec<u8>,
     xml: PathBuf,
@@ -40,7 +36,7 @@ fn document(tree: &Tree, xml: PathBuf) -> Document {
     }
 }
 
-// R as the racks of a wall: type 0 holds racks, a rack hire boots, the sale mark, boots for sale.
+/// R as the racks of a wall: type 0 holds racks, a rack hire boots, the sale mark, boots for sale.
 fn wall() -> Schema {
     let rack = Type {
         tag: 1,
@@ -57,11 +53,11 @@ fn wall() -> Schema {
     schema(4, 0, &[wall, rack, leaf(2), leaf(3), leaf(2)])
 }
 
-// How many documents a validator's process is given.
+/// How many documents a validator's process is given.
 const DOCUMENTS: usize = 40;
-// An event file of 32 KB has so many elements.
+/// An event file of 32 KB has so many elements.
 const ELEMENTS: i64 = 8_180;
-// Documents that are compared, by schema; two of three are damaged.
+/// Documents that are compared, by schema; two of three are damaged.
 const COMPARED: usize = 300;
 
 struct Subject {
@@ -89,16 +85,16 @@ impl Subject {
         valid(&self.schema, self.schema.root, &mut elements, 1, random)
     }
 
-    fn taken(&self, events: &[u8]) -> bool {
-        proved_file(&self.schema, events, &mut vec![0; events.len()]).number == 0
+    fn taken(&self, file: &[u8]) -> bool {
+        events(&self.schema, file, &mut vec![0; file.len()]).number == NONE
     }
 
-    // The engine's row: microseconds a document.
+    /// The engine's row: microseconds a document.
     fn report_engine(&self, document: &Document) -> f64 {
         assert!(self.taken(&document.events));
         let mut out = vec![0; document.events.len()];
         let times = in_turn(&mut [&mut || {
-            _ = black_box(proved_file(black_box(&self.schema), &document.events, &mut out));
+            _ = black_box(events(black_box(&self.schema), &document.events, &mut out));
         }]);
         let [low, middle, high] = [10, 50, 90].map(|n| percentile(&times[0], n));
         let spread = format!("{} to {}", figure(low), figure(high));
@@ -129,7 +125,18 @@ impl Subject {
         );
     }
 
-    // Whether the validators agree with the engine.
+    /// The rows of a large document.
+    fn report(&self, validators: &[Validator], random: &mut Random) {
+        let [large, tiny] = [(ELEMENTS, "large.xml"), (1, "tiny.xml")].map(|(elements, name)| {
+            document(&self.tree(elements, random), self.directory.join(name))
+        });
+        let ours = self.report_engine(&large);
+        for &validator in validators {
+            self.report_validator(validator, &large, &tiny.xml, ours);
+        }
+    }
+
+    /// Whether the validators agree with the engine.
     fn compare(&self, validators: &[Validator], random: &mut Random) -> bool {
         let documents: Vec<Document> = (0..COMPARED)
             .map(|n| {
@@ -159,57 +166,57 @@ impl Subject {
     }
 }
 
-fn main() {
-    let directory = PathBuf::from(
-        std::env::args()
-            .nth(1)
-            .expect("a directory for the documents"),
-    );
-    let mut random = Random(0x5851_F42D_4C95_7F2D);
-    let (here, missing): (Vec<_>, Vec<_>) = [Validator::Xmllint, Validator::Jing]
-        .into_iter()
-        .partition(|v| v.installed());
-    println!(
-        "\n{:<42} {:<9} {:>7} {:>9} {:>15} {:>9} {:>7}",
-        "RELAX NG validators, a document", "", "bytes", "time", "10 to 90 %", "start, ms", "times"
-    );
+/// Where the documents are written.
+const DIRECTORY: &str = concat!(env!("CARGO_MANIFEST_DIR"), "/../target/bench/documents");
+
+fn subjects() -> Vec<Subject> {
     let schemas = [
         ("R", small()),
         ("R as the racks of a wall", wall()),
         ("003's a1? b1 (b1 or c1)* a2 c1", optional()),
         ("16 types of 16 steps", layered(16)),
     ];
-    let subjects: Vec<Subject> = schemas
-        .into_iter()
-        .enumerate()
-        .map(|(n, (name, schema))| Subject::new(name, schema, directory.join(n.to_string())))
-        .collect();
-    for subject in &subjects {
-        let large = document(
-            &subject.tree(ELEMENTS, &mut random),
-            subject.directory.join("large.xml"),
-        );
-        let tiny = document(
-            &subject.tree(1, &mut random),
-            subject.directory.join("tiny.xml"),
-        );
-        let ours = subject.report_engine(&large);
-        for &validator in &here {
-            subject.report_validator(validator, &large, &tiny.xml, ours);
-        }
-    }
-    for validator in missing {
-        println!("{}: not installed", validator.name());
-    }
+    let subject = |(n, (name, schema)): (usize, _)| {
+        let directory = Path::new(DIRECTORY).join(n.to_string());
+        Subject::new(name, schema, directory)
+    };
+    schemas.into_iter().enumerate().map(subject).collect()
+}
+
+fn heading() {
+    println!(
+        "\n{:<42} {:<9} {:>7} {:>9} {:>15} {:>9} {:>7}",
+        "RELAX NG validators, a document", "", "bytes", "time", "10 to 90 %", "start, ms", "times"
+    );
+}
+
+fn legend() {
     println!(
         "time: microseconds a document. A validator's is by the clock, a process with {DOCUMENTS} documents, the best of three, less its start on a tiny one;\n\
          jing's has the warming up of its Java machine in it. times: beside the proved engine's time.\n\
          proved: an event file in; the place of the first refusal and the type of each element out.\n\
          xmllint, jing: XML text in, which they parse; valid or not out, no types."
     );
+}
+
+/// The part; whether the validators agree with the engine.
+pub fn run() -> bool {
+    let mut random = Random(0x5851_F42D_4C95_7F2D);
+    let (here, missing): (Vec<_>, Vec<_>) = [Validator::Xmllint, Validator::Jing]
+        .into_iter()
+        .partition(|validator| validator.installed());
+    let subjects = subjects();
+    heading();
+    for subject in &subjects {
+        subject.report(&here, &mut random);
+    }
+    for validator in missing {
+        println!("{}: not installed", validator.name());
+    }
+    legend();
     let mut agree = true;
     for subject in subjects.iter().filter(|_| !here.is_empty()) {
         agree &= subject.compare(&here, &mut random);
     }
-    std::process::exit(i32::from(!agree));
+    agree
 }

@@ -1,0 +1,76 @@
+//! The proved engine's calls: those on values in libengine_bench.a, and the schema file's in
+//! libtypestock_c.a. The values lie in memory as the plain implementation has them.
+use plain::limits::{Tag, Type, WITNESS};
+use plain::{Answer, Answered, EventAnswer, Reading, Schema, SchemaAnswer, Trimming};
+use std::mem::{offset_of, size_of};
+
+/// A trimming, and whether the schema is inside the limits; if not, the trimming is empty.
+#[derive(PartialEq)]
+#[repr(C)]
+pub struct Trimmed {
+    pub inside: bool,
+    pub trimming: Trimming,
+}
+
+// The layouts that the exports have: C's, of the fields in the engine's order.
+const _: () = {
+    assert!(size_of::<Schema>() == 3588 && offset_of!(Schema, accepting) == 132);
+    assert!(offset_of!(Schema, steps) == 388 && offset_of!(Schema, from) == 516);
+    assert!(size_of::<Trimmed>() == 388 && offset_of!(Trimmed, trimming) == 4);
+    assert!(offset_of!(Trimming, bears) == 256 && offset_of!(Trimming, reached) == 320);
+    assert!(size_of::<Reading>() == 324 && offset_of!(Reading, sets) == 68);
+    assert!(size_of::<Answer>() == 2 && size_of::<Answered>() == 328);
+    assert!(offset_of!(Answered, reading) == 4);
+    assert!(size_of::<SchemaAnswer>() == 16 && size_of::<EventAnswer>() == 24);
+};
+
+// A slice goes over as its pointer and its length. Those that are safe take plain values or a reference, and the engine is proved to hand back a
+// bool and an answer's kind as they are declared.
+unsafe extern "C" {
+    #[link_name = "bench_within"]
+    pub safe fn within(schema: Schema) -> bool;
+    #[link_name = "bench_trim"]
+    pub safe fn trim(schema: Schema) -> Trimmed;
+    fn bench_competition(schema: Schema, witness: *mut u8, room: usize) -> u8;
+    #[link_name = "bench_open"]
+    pub safe fn open(schema: Schema, reading: Reading, tag: Tag) -> Answered;
+    #[link_name = "bench_open_lent"]
+    pub safe fn open_lent(reading: &mut Reading, schema: Schema, tag: Tag) -> Answer;
+    #[link_name = "bench_close"]
+    pub safe fn close(schema: Schema, reading: Reading, tag: Tag) -> Answered;
+    #[link_name = "bench_finish"]
+    pub safe fn finish(schema: Schema, reading: Reading) -> Answered;
+    fn bench_events(
+        schema: Schema,
+        events: *const u8,
+        length: usize,
+        types: *mut Type,
+        room: usize,
+    ) -> EventAnswer;
+    fn typestock_check_schema(
+        file: *const u8,
+        length: usize,
+        witness: *mut u8,
+        room: usize,
+    ) -> SchemaAnswer;
+}
+
+/// The number and the witness buffer of a search for competition in a schema as a value.
+pub fn competition(schema: &Schema) -> (u8, [u8; WITNESS]) {
+    let mut witness = [0; WITNESS];
+    // SAFETY: the pointer and the length are one slice's, which is lent to the call alone.
+    let number = unsafe { bench_competition(*schema, witness.as_mut_ptr(), witness.len()) };
+    (number, witness)
+}
+
+pub fn events(schema: &Schema, file: &[u8], out: &mut [Type]) -> EventAnswer {
+    let (room, out) = (out.len(), out.as_mut_ptr());
+    // SAFETY: each pointer and length are one slice's, which lives through the call; the buffer is lent to it alone.
+    unsafe { bench_events(*schema, file.as_ptr(), file.len(), out, room) }
+}
+
+pub fn check_schema(file: &[u8], witness: &mut [u8]) -> SchemaAnswer {
+    let (room, witness) = (witness.len(), witness.as_mut_ptr());
+    // SAFETY: as above.
+    unsafe { typestock_check_schema(file.as_ptr(), file.len(), witness, room) }
+}

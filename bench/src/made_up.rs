@@ -1,0 +1,64 @@
+//! Random schemas, inside the limits and outside them.
+use crate::random::Random;
+use crate::schemas::{Type, schema};
+use plain::{Schema, States};
+
+impl Random {
+    /// A set of the first `n` states.
+    pub fn states(&mut self, n: u8) -> States {
+        States(self.below(1 << n) as u32)
+    }
+
+    /// Up to four types and states, or up to the limits.
+    pub fn schema(&mut self) -> Schema {
+        let (tags, types, states) = if self.below(4) == 0 {
+            (32, 64, 32)
+        } else {
+            (3, 4, 4)
+        };
+        let tags = 1 + self.byte(tags);
+        let types = 1 + self.byte(types);
+        let blocks: Vec<Type> = (0..types)
+            .map(|_| {
+                let states = 1 + self.byte(states);
+                let steps = self.below(2 * u64::from(states).min(8));
+                Type {
+                    tag: self.byte(tags),
+                    states,
+                    accepting: self.states(states).0,
+                    steps: (0..steps)
+                        .map(|_| [self.byte(states), self.byte(types), self.byte(states)])
+                        .collect(),
+                }
+            })
+            .collect();
+        let mut s = schema(tags, self.byte(types), &blocks);
+        if self.below(8) == 0 {
+            self.spoil(&mut s);
+        }
+        s
+    }
+
+    /// Some number of the schema becomes another: one of its counts, one near a limit or any.
+    fn spoil(&mut self, s: &mut Schema) {
+        let a = self.byte(s.types) as usize;
+        let i = self.below(16) as usize;
+        let near = [s.tags, s.types, s.states[a], 0, 32, 33, 64, 65];
+        let any = match self.below(16) {
+            n @ 0..8 => near[n as usize],
+            _ => self.byte(255),
+        };
+        match self.below(10) {
+            0 => s.tags = any,
+            1 => s.types = any,
+            2 => s.root = any,
+            3 => s.tag[a] = any,
+            4 => s.states[a] = any % 40,
+            5 => s.accepting[a] = self.states(32),
+            6 => s.steps[a] = self.below(1100) as u16,
+            7 => s.from[i] = any % 40,
+            8 => s.by[i] = any,
+            _ => s.to[i] = any % 40,
+        }
+    }
+}

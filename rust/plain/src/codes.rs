@@ -1,0 +1,14 @@
+//! The first bytes of the commands and the events.
+
+// Commands of a schema file.
+pub const TAGS: u8 = 0x10;
+pub const TYPE: u8 = 0x11;
+pub const FINAL: u8 = 0x12;
+pub const STEP: u8 = 0x13;
+pub const ROOT: u8 = 0x14;
+pub const DONE: u8 = 0x1F;
+
+// Events of an event file.
+pub const OPEN: u8 = 0x21;
+pub const CLOSE: u8 = 0x22;
+pub const FINISH: u8 = 0x2F;

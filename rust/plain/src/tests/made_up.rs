@@ -1,0 +1,124 @@
+//! Calls on schemas and readings that no file stated and no events led to.
+
+use super::{OPEN, boots};
+use crate::limits::{MOST_OPEN, MOST_STEPS, MOST_TYPES};
+use crate::questions::{
+    INCOMPLETE, NO_EVENT, NO_SUCH_OPENING, OUTSIDE_LIMITS, TOO_DEEP, UNKNOWN_TAG,
+};
+use crate::{Answer, Answered, Reading, Schema, States, event_file, schema_file};
+
+fn stated(file: &[u8]) -> Schema {
+    let mut schema = Schema::BLANK;
+    schema_file::read(file, &mut schema).unwrap();
+    schema
+}
+
+/// An element of this type is open, in these states.
+fn inside(of: u8, set: u32) -> Reading {
+    let mut reading = Reading {
+        depth: 1,
+        rooted: true,
+        ..Reading::FRESH
+    };
+    reading.types[0] = of;
+    reading.sets[0] = States(set);
+    reading
+}
+
+/// Every call on these gets 10, and the reading is unchanged.
+fn outside(schema: &Schema, reading: Reading) {
+    let answered = Answered {
+        answer: Answer::Refused(OUTSIDE_LIMITS),
+        reading,
+    };
+    assert_eq!(reading.open(schema, 0), answered);
+    assert_eq!(reading.close(schema, 0), answered);
+    assert_eq!(reading.finish(schema), answered);
+}
+
+#[test]
+fn schemas_outside_the_limits() {
+    let changes: [fn(&mut Schema); 14] = [
+        |schema| schema.tags = 0,
+        |schema| schema.tags = 33,
+        |schema| schema.types = 0,
+        |schema| schema.types = 65,
+        |schema| schema.root = 4,
+        |schema| schema.tag[3] = 3,
+        |schema| schema.states[1] = 0,
+        |schema| schema.states[1] = 33,
+        |schema| schema.accepting[0] = States(0b100),
+        |schema| schema.steps[3] = MOST_STEPS as u16 - 2,
+        |schema| schema.from[0] = 2,
+        |schema| schema.by[2] = 4,
+        |schema| schema.to[2] = 2,
+        |schema| schema.steps[1] = u16::MAX,
+    ];
+    for change in changes {
+        let mut schema = stated(&boots());
+        assert!(schema.within_limits());
+        change(&mut schema);
+        assert!(!schema.within_limits());
+        outside(&schema, Reading::FRESH);
+        let number = |events: &[u8]| event_file::read(&schema, events, &mut []).number;
+        assert_eq!(number(&[OPEN, 0]), OUTSIDE_LIMITS);
+        assert_eq!((number(&[]), number(&[OPEN])), (NO_EVENT, NO_EVENT));
+    }
+}
+
+#[test]
+fn entries_that_are_not_used() {
+    let mut schema = stated(&boots());
+    schema.tag[4] = 99;
+    schema.states[MOST_TYPES - 1] = 99;
+    schema.by[3] = 99;
+    assert!(schema.within_limits());
+    let mut reading = inside(0, 0b01);
+    reading.types[1] = 99;
+    assert_eq!(reading.open(&schema, 2).answer, Answer::Typed(2));
+}
+
+#[test]
+fn levels_outside_the_limits() {
+    let schema = stated(&boots());
+    outside(&schema, inside(4, 1));
+    outside(&schema, inside(0, 0b100));
+    outside(&schema, inside(1, 0b10));
+    let mut deep = inside(0, 1);
+    deep.sets = [States::START; MOST_OPEN];
+    deep.depth = MOST_OPEN as u8 + 1;
+    outside(&schema, deep);
+    deep.depth -= 1;
+    let refused = |number| Answer::Refused(number);
+    assert_eq!(deep.open(&schema, 1).answer, refused(TOO_DEEP));
+    assert_eq!(deep.open(&schema, 0).answer, refused(NO_SUCH_OPENING));
+    assert_eq!(deep.open(&schema, 3).answer, refused(UNKNOWN_TAG));
+}
+
+#[test]
+fn the_smallest_type_and_the_live_states() {
+    let mut schema = stated(&boots());
+    // From both states a boot may come: for hire, type 1, or for sale, type 3.
+    let both = inside(0, 0b11).open(&schema, 1);
+    assert_eq!(both.answer, Answer::Typed(1));
+    assert_eq!(both.reading.sets[..2], [States(0b01), States::START]);
+    // Without an accepting state type 1 bears no tree, so the boot is for sale.
+    schema.accepting[1] = States::NONE;
+    let for_sale = inside(0, 0b11).open(&schema, 1);
+    assert_eq!(for_sale.answer, Answer::Typed(3));
+    assert_eq!(for_sale.reading.sets[0], States(0b10));
+    // The root bears no tree.
+    schema.accepting[0] = States::NONE;
+    let answer = Reading::FRESH.open(&schema, 0).answer;
+    assert_eq!(answer, Answer::Refused(NO_SUCH_OPENING));
+}
+
+#[test]
+fn the_set_of_no_states() {
+    let schema = stated(&boots());
+    let refused = |number| Answer::Refused(number);
+    let empty = inside(0, 0);
+    assert_eq!(empty.open(&schema, 1).answer, refused(NO_SUCH_OPENING));
+    assert_eq!(empty.close(&schema, 0).answer, refused(INCOMPLETE));
+    assert_eq!(inside(0, 0b10).close(&schema, 0).answer, Answer::Taken);
+}
