@@ -2,6 +2,7 @@
 pub mod Bits
 pub mod Values
 pub mod LimitLaws
+pub mod RowLaws
 pub mod Rounds
 pub mod SpreadLaws
 pub mod ReachLaws

@@ -1,13 +1,18 @@
 // Schemas as values: the state set, the schema, its limits and its trimming.
+mod entry;
 mod limits;
 mod reach;
+mod rows;
 mod span;
 mod spread;
 mod state_set;
 mod tables;
 mod value;
 
+pub use entry::Entry;
 pub use limits::within;
+pub use rows::BEGINS;
+pub use rows::ROWS;
 pub use span::Span;
 pub use state_set::StateSet;
 pub use tables::LiveStates;

@@ -1,0 +1,54 @@
+// An entry of a row as one number: a step that counts. From the lowest bit on five bits for the state that it leads from, five for the state
+// that it leads to, nine for its type, five for that type's tag.
+use crate::value::STATES;
+use crate::value::TAGS;
+use crate::value::TYPES;
+use sdtd::Tag;
+use sdtd::TypeNo;
+ghost use mathlib.Core.Path.{_≡_};
+ghost use Rattle.schema.specs.Rows.{entry, fromIn, toIn, byIn, tagIn};
+
+// An entry has room for so many types.
+const TYPE_ROOM: u32 = 512;
+
+// what one more of each adds to the entry
+const TO: u32 = STATES as u32;
+
+const BY: u32 = TO * STATES as u32;
+
+const TAG: u32 = BY * TYPE_ROOM;
+
+pub struct Entry(pub u32);
+
+impl Entry {
+    pub fn from(self) -> u8
+        ensures { λ r. ⌜ r ≡ fromIn (self .0) ⌝ }
+    {
+        (self.0 % STATES as u32) as u8
+    }
+
+    pub fn to(self) -> u8
+        ensures { λ r. ⌜ r ≡ toIn (self .0) ⌝ }
+    {
+        (self.0 / TO % STATES as u32) as u8
+    }
+
+    pub fn by(self) -> TypeNo
+        ensures { λ r. ⌜ r .0 ≡ byIn (self .0) ⌝ }
+    {
+        TypeNo((self.0 / BY % TYPES as u32) as u8)
+    }
+
+    pub fn tag(self) -> Tag
+        ensures { λ r. ⌜ r .0 ≡ tagIn (self .0) ⌝ }
+    {
+        Tag((self.0 / TAG % TAGS as u32) as u8)
+    }
+}
+
+// The entry of a step.
+pub(crate) fn entry_of(from: u8, to: u8, by: TypeNo, tag: Tag) -> Entry
+    ensures { λ r. ⌜ r .0 ≡ entry from to (by .0) (tag .0) ⌝ }
+{
+    Entry(from as u32 + TO * to as u32 + BY * by.0 as u32 + TAG * tag.0 as u32)
+}
