@@ -3,9 +3,13 @@ pub mod Bits
 pub mod Values
 pub mod LimitLaws
 pub mod RowLaws
+pub mod PuttingLaws
+pub mod RowTurns
 pub mod Rounds
 pub mod SpreadLaws
 pub mod ReachLaws
 pub mod FirstTables
+pub mod RowsLaid
+pub mod RowsExact
 pub mod TablesExact
 pub mod TablesTrim

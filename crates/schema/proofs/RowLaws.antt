@@ -37,7 +37,7 @@ module _ {S : Schema} (within : WithinLimits S) where
       ]
 
   -- the entry of a step that counts gives back what it was made of
-  counted-reads : {a : ℕ} {s : Step} → Counts S a s → Reads (s .from) (s .to) (s .by) (tagOf S (s .by)) (entryOf S s)
+  pub counted-reads : {a : ℕ} {s : Step} → Counts S a s → Reads (s .from) (s .to) (s .by) (tagOf S (s .by)) (entryOf S s)
   counted-reads {a} {s} c =
       let w = own-within S a within (counted-type a s (c .given)) s (c .given) in
       let b = within .blocks (blockOf S (s .by)) (getD-member (S .blocks) (s .by) noBlock (w .by)) in

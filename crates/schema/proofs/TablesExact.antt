@@ -16,6 +16,7 @@ use Rattle.sdtd.proofs.Fixpoint.{LiveClosed, live-closed, live-exact, bears-liv
 use Rattle.schema.specs.States.{member, bearsIn}
 use Rattle.schema.specs.Value.{stepsOf, meaning}
 use Rattle.schema.specs.Trimming.{LiveExactly, Exact}
+use Rattle.schema.specs.Rows.{RowsMean}
 use Rattle.schema.specs.Spread.{spreadAll, reachAll, Settled, firstSets, startStates, bearing}
 use Rattle.schema.specs.declared.value.Schema.{Schema}
 use Rattle.schema.proofs.Rounds.{bearing-at, start-sets}
@@ -188,23 +189,26 @@ module _
             step = λ a s p m f b l. let o = own-step fits within a s m in reached-takes a s o p (reaches a s o f b l);
           }
 
-      exact : Exact (meaning v) (record { inside = true; live = live; bears = bearing live; reached = reached })
-      exact =
+      exact : {entries begins : List ℕ} → RowsMean (meaning v) entries begins
+          → Exact (meaning v) (record { inside = true; live = live; bears = bearing live; reached = reached; entries = entries; begins = begins })
+      exact rows =
           record {
             live = λ a q. (live-is a q .1, live-is a q .0);
             bears = λ a. rw (bearing-at live (live-table .long) a) (bears-is a .1, bears-is a .0);
             reached = λ a. let e = reached-exact reached-rules (reached-table .sound) a in (e .1, e .0);
+            rows = rows;
           }
 
 -- the tables that the three loops settle at
 pub tables-exact :
-    {v : Schema} {live forward : List ℕ} {reached : List Bool} → Fits v → WithinLimits (meaning v)
+    {v : Schema} {live forward : List ℕ} {reached : List Bool} {entries begins : List ℕ} → Fits v → WithinLimits (meaning v)
     → Settled (λ t. spreadAll (v .steps) (stepsOf (v .from) (v .by) (v .to)) t 0 0 (v .types) t) (firstSets (v .types) (v .accepting)) live
     → Settled (λ t. spreadAll (v .steps) (stepsOf (v .to) (v .by) (v .from)) live 0 0 (v .types) t) startStates forward
     → Settled (λ t. reachAll (v .steps) (stepsOf (v .from) (v .by) (v .to)) live forward live 0 0 (v .types) t)
     (set (replicate mostTypes false) (v .root .0) true) reached
-    → Exact (meaning v) (record { inside = true; live = live; bears = bearing live; reached = reached })
-tables-exact fits within l f r = exact fits within l f r
+    → RowsMean (meaning v) entries begins
+    → Exact (meaning v) (record { inside = true; live = live; bears = bearing live; reached = reached; entries = entries; begins = begins })
+tables-exact fits within l f r rows = exact fits within l f r rows
 
 -- the table that the first loop settles at
 pub live-exactly :

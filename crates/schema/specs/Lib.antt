@@ -1,7 +1,8 @@
--- Schemas as values. `Spread` and `Limits` say what the private loops compute; no public promise cites them.
+-- Schemas as values. `Spread`, `RowMaking` and `Limits` say what the private loops compute; no public promise cites them.
 pub mod States
 pub mod Value
 pub mod Rows
 pub mod Trimming
 pub mod Limits
 pub mod Spread
+pub mod RowMaking

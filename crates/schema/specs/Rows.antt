@@ -38,6 +38,10 @@ tagIn e = e / (mostStates * mostStates * typeRoom) % mostTags
 abbrev pub entryOf : Schema → Step → ℕ
 entryOf S s = entry (s .from) (s .to) (s .by) (tagOf S (s .by))
 
+-- a row for each state of each type
+abbrev pub mostRows : ℕ
+mostRows = mostTypes * mostStates
+
 -- the row of the state p of the type a, among all rows
 abbrev pub rowPlace : ℕ → ℕ → ℕ
 rowPlace a p = mostStates * a + p

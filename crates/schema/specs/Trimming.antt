@@ -3,25 +3,32 @@ use mathlib.Core.Path.{_≡_}
 use mathlib.Core.Bool.{false}
 use mathlib.Core.Logic.{_↔_}
 use mathlib.Core.List.{List}
-use Prim.Native.Nat.{ℕ}
+use Prim.Native.Nat.{ℕ, suc}
 use lib.Dec.{T}
 use lib.ListN.{getD, replicate}
-use Rattle.sdtd.specs.Limits.{mostTypes}
+use Rattle.sdtd.specs.Limits.{mostTypes, mostSteps}
 use Rattle.sdtd.specs.Schema.{Schema, WithinLimits}
 use Rattle.sdtd.specs.Trim.{Bears, Live, Reached, trimmedByTests}
-use Rattle.schema.specs.States.{member, noStates}
+use Rattle.schema.specs.States.{member, noStates, bearsIn}
+use Rattle.schema.specs.Rows.{mostRows, RowsMean}
 use Rattle.schema.specs.declared.tables.Trimming.{Trimming}
 use Rattle.schema.specs.declared.tables.LiveStates.{LiveStates}
+use Rattle.schema.specs.declared.tables.LiveRows.{LiveRows}
 
 -- the table has exactly the live states
 abbrev pub LiveExactly : Schema → List ℕ → Type 0
 LiveExactly S table = (a q : ℕ) → T (member q (getD table a 0)) ↔ Live S a q
+
+-- the table of sets tells exactly which types bear a tree
+abbrev pub BearsExactly : Schema → List ℕ → Type 0
+BearsExactly S table = (j : ℕ) → T (bearsIn table j) ↔ Bears S j
 
 -- each table is exactly the definition
 pub record Exact (S : Schema) (t : Trimming) : Type 0 where
   pub live : LiveExactly S (t .live)
   pub bears : (a : ℕ) → T (getD (t .bears) a false) ↔ Bears S a
   pub reached : (a : ℕ) → T (getD (t .reached) a false) ↔ Reached S a
+  pub rows : RowsMean S (t .entries) (t .begins)
 
 -- The schema trimmed by the tables: a type is kept that is in `reached` and `bears`, and of it each step by a type in `bears` between states
 -- in `live`.
@@ -38,7 +45,14 @@ trimmedByTables t S =
 -- outside the limits: tables of nothing
 abbrev pub nothing : Trimming
 nothing =
-    record { inside = false; live = replicate mostTypes noStates; bears = replicate mostTypes false; reached = replicate mostTypes false }
+    record {
+      inside = false;
+      live = replicate mostTypes noStates;
+      bears = replicate mostTypes false;
+      reached = replicate mostTypes false;
+      entries = replicate mostSteps 0;
+      begins = replicate (suc mostRows) 0;
+    }
 
 -- exactly the definitions inside the limits, and nothing outside them
 pub record TrimMeans (S : Schema) (t : Trimming) : Type 0 where
@@ -51,3 +65,12 @@ pub record LiveMeans (S : Schema) (r : LiveStates) : Type 0 where
   pub inside : T (r .inside) ↔ WithinLimits S
   pub live : WithinLimits S → LiveExactly S (r .live)
   pub outside : ¬ WithinLimits S → r .live ≡ replicate mostTypes noStates
+
+-- the live states and the rows of a schema inside the limits, and nothing outside them
+pub record LiveRowsMean (S : Schema) (r : LiveRows) : Type 0 where
+  pub inside : T (r .inside) ↔ WithinLimits S
+  pub live : WithinLimits S → LiveExactly S (r .live)
+  pub rows : WithinLimits S → RowsMean S (r .entries) (r .begins)
+  pub outside :
+      ¬ WithinLimits S
+      → (r .live ≡ replicate mostTypes noStates) × (r .entries ≡ replicate mostSteps 0) × (r .begins ≡ replicate (suc mostRows) 0)

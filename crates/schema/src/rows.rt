@@ -1,9 +1,219 @@
 // The steps that count, in rows: for each type, state by state, the entries of its steps from that state.
+use crate::entry::Entry;
+use crate::entry::entry_of;
+use crate::span::Span;
+use crate::spread::bears_in;
+use crate::state_set::StateSet;
 use crate::value::STATES;
+use crate::value::STEPS;
+use crate::value::Schema;
 use crate::value::TYPES;
+use sdtd::Tag;
+use sdtd::TypeNo;
+ghost use mathlib.Core.Path.{_≡_};
+ghost use mathlib.Core.Bool.{cond};
+ghost use mathlib.Core.List.{_∷_, []};
+ghost use Prim.Native.Nat.{_+_, _*_, _≤_, _<_};
+ghost use lib.Dec.{ltb};
+ghost use lib.ListN.{length, getD, take};
+ghost use Rattle.sdtd.specs.Limits.{mostTypes, mostStates, mostSteps};
+ghost use Rattle.sdtd.specs.Schema.{WithinLimits};
+ghost use Rattle.schema.specs.Value.{stepsOf, meaning};
+ghost use Rattle.schema.specs.Trimming.{LiveExactly, BearsExactly};
+ghost use Rattle.schema.specs.Rows.{mostRows, RowsMean};
+ghost use Rattle.schema.specs.RowMaking.{putAll, countsBy, countedStep, picked, counted as countedBy, rowTables, addRow, rowBy, addRows};
 
 // A row for each state of each type.
 pub const ROWS: usize = TYPES * STATES as usize;
 
 // Where each row begins, and where the last ends.
 pub const BEGINS: usize = ROWS + 1;
+
+// The entries of all rows, and where each row begins.
+pub(crate) struct Rows {
+    pub(crate) entries: [u32; STEPS],
+    pub(crate) begins: [u16; BEGINS],
+}
+
+// Does a step by the type j to the state q count, where `own` are the live states of the type that has it?
+// Inside the limits the remainder changes nothing: a type is below TYPES.
+fn counts(bears: &[u32; TYPES], own: u32, from: u8, j: TypeNo, q: u8) -> bool
+    ensures { λ r. ⌜ r ≡ countsBy (now (bears .entry)) own (record { from = from; by = j .0; to = q }) ⌝ }
+{
+    if !bears_in(bears, j.0 as usize % TYPES) {
+        return false;
+    }
+    StateSet(own).has(q)
+}
+
+// The step's entry at the place n, if it counts; and the place past it.
+fn keep_step<'a>(
+    kept: &'a mut [u32; STEPS],
+    n: usize,
+    tag: &'a [u8; TYPES],
+    bears: &'a [u32; TYPES],
+    own: u32,
+    from: u8,
+    by: TypeNo,
+    to: u8,
+) -> usize
+    requires { ⌜ n < mostSteps ⌝ }
+    ensures { λ r. ⌜ (now (kept .exit)
+        ≡ putAll (countedStep (now (tag .entry)) (now (bears .entry)) own (record { from = from; by = by .0; to = to })) n (now (kept .entry)))
+        × (r ≡ n + length (countedStep (now (tag .entry)) (now (bears .entry)) own (record { from = from; by = by .0; to = to }))) ⌝ }
+{
+    if !counts(bears, own, from, by, to) {
+        return n;
+    }
+    let entry = entry_of(from, to, by, Tag(tag[by.0 as usize % TYPES]));
+    kept[n] = entry.0;
+    n + 1
+}
+
+// The entries of the steps of the span that count, from the first place on; and how many there are.
+fn counted<'a>(
+    kept: &'a mut [u32; STEPS],
+    from: &'a [u8; STEPS],
+    by: &'a [u8; STEPS],
+    to: &'a [u8; STEPS],
+    span: Span,
+    tag: &'a [u8; TYPES],
+    bears: &'a [u32; TYPES],
+    own: u32,
+) -> usize
+    requires { ⌜ span .start + span .n ≤ mostSteps ⌝ }
+    ensures { λ r. ⌜ (now (kept .exit)
+        ≡ putAll (countedBy (now (tag .entry)) (now (bears .entry)) own
+        (stepsOf (now (from .entry)) (now (by .entry)) (now (to .entry)) (span .start) (span .n))) 0 (now (kept .entry)))
+        × (r ≡ length (countedBy (now (tag .entry)) (now (bears .entry)) own
+        (stepsOf (now (from .entry)) (now (by .entry)) (now (to .entry)) (span .start) (span .n)))) ⌝ }
+{
+    let end = span.start + span.n;
+    let mut n = 0;
+    let mut i = span.start;
+    while i < end {
+        n = keep_step(kept, n, tag, bears, own, from[i], TypeNo(by[i]), to[i]);
+        i += 1;
+    }
+    n
+}
+
+// The entry at the place `at`, if it leads from the state p; and the place past it.
+fn pick_one(entries: &mut [u32; STEPS], at: usize, e: u32, p: u8) -> usize
+    requires { ⌜ at + length (picked p (e ∷ [])) ≤ mostSteps ⌝ }
+    ensures { λ r. ⌜ (now (entries .exit) ≡ putAll (picked p (e ∷ [])) at (now (entries .entry)))
+        × (r ≡ at + length (picked p (e ∷ []))) ⌝ }
+{
+    if Entry(e).from() != p {
+        return at;
+    }
+    entries[at] = e;
+    at + 1
+}
+
+// Of the first n entries kept, those that lead from the state p, from the place `at` on; and the place past them.
+fn pick<'a>(
+    entries: &'a mut [u32; STEPS],
+    at: usize,
+    kept: &'a [u32; STEPS],
+    n: usize,
+    p: u8,
+) -> usize
+    requires { ⌜ (n ≤ mostSteps) × (n ≤ length (now kept)) × (at + length (picked p (take n (now kept))) ≤ mostSteps) ⌝ }
+    ensures { λ r. ⌜ (now (entries .exit) ≡ putAll (picked p (take n (now (kept .entry)))) at (now (entries .entry)))
+        × (r ≡ at + length (picked p (take n (now (kept .entry))))) ⌝ }
+{
+    let mut past = at;
+    let mut i = 0;
+    while i < n {
+        past = pick_one(entries, past, kept[i], p);
+        i += 1;
+    }
+    past
+}
+
+// The row of the state p, the row i, from the first n entries kept, put where the rows before it end.
+fn add_row<'a>(
+    entries: &'a mut [u32; STEPS],
+    begins: &'a mut [u16; BEGINS],
+    i: usize,
+    kept: &'a [u32; STEPS],
+    n: usize,
+    p: u8,
+)
+    requires { ⌜ (i < mostRows) × (n ≤ mostSteps) × (n ≤ length (now kept))
+        × (getD (now begins) i 0 + length (picked p (take n (now kept))) ≤ mostSteps) ⌝ }
+    ensures { λ _. ⌜ rowTables (now (entries .exit)) (now (begins .exit))
+        ≡ addRow (picked p (take n (now (kept .entry)))) i (rowTables (now (entries .entry)) (now (begins .entry))) ⌝ }
+{
+    let at = begins[i] as usize;
+    let past = pick(entries, at, kept, n, p);
+    begins[i + 1] = past as u16;
+}
+
+// How many entries are asked for those from the state p: none, where the type has not so many states.
+fn asked(p: u8, states: u8, n: usize) -> usize
+    ensures { λ r. ⌜ (r ≡ cond (ltb p states) n 0) × (r ≤ n) ⌝ }
+{
+    if p < states {
+        return n;
+    }
+    0
+}
+
+// The rows of the type a, from the first n entries kept.
+fn type_rows<'a>(
+    entries: &'a mut [u32; STEPS],
+    begins: &'a mut [u16; BEGINS],
+    a: usize,
+    kept: &'a [u32; STEPS],
+    n: usize,
+    states: u8,
+)
+    requires { ⌜ (a < mostTypes) × (n ≤ length (now kept)) × (mostRows < length (now begins))
+        × (getD (now begins) (mostStates * a) 0 + n ≤ mostSteps) ⌝ }
+    ensures { λ _. ⌜ rowTables (now (entries .exit)) (now (begins .exit))
+        ≡ addRows (now (kept .entry)) n states (mostStates * a) 0 mostStates (rowTables (now (entries .entry)) (now (begins .entry))) ⌝ }
+{
+    let first = STATES as usize * a;
+    let mut p: u8 = 0;
+    while p < STATES {
+        let m = asked(p, states, n);
+        add_row(entries, begins, first + p as usize, kept, m, p);
+        p += 1;
+    }
+}
+
+// The rows of a schema inside the limits, by tables of exactly the types that bear a tree and exactly the live states.
+pub(crate) fn make_rows(schema: Schema, bears: [u32; TYPES], live: [u32; TYPES]) -> Rows
+    requires { ⌜ WithinLimits (meaning schema) × BearsExactly (meaning schema) bears × LiveExactly (meaning schema) live ⌝ }
+    ensures { λ r. ⌜ RowsMean (meaning schema) (r .entries) (r .begins) ⌝ }
+{
+    let mut entries = [0u32; STEPS];
+    let mut begins = [0u16; BEGINS];
+    let mut kept = [0u32; STEPS];
+    let steps = schema.steps;
+    let states = schema.states;
+    let types = schema.types as usize;
+    let mut start = 0;
+    let mut a = 0;
+    while a < types {
+        let n = steps[a] as usize;
+        let span = Span { start, n };
+        let own = live[a];
+        let count = counted(
+            &mut kept,
+            &schema.from,
+            &schema.by,
+            &schema.to,
+            span,
+            &schema.tag,
+            &bears,
+            own,
+        );
+        type_rows(&mut entries, &mut begins, a, &kept, count, states[a]);
+        start += n;
+        a += 1;
+    }
+    Rows { entries, begins }
+}

@@ -3,6 +3,8 @@ use crate::limits::within;
 use crate::reach::StateTables;
 use crate::reach::reach_all;
 use crate::reach::same_flags;
+use crate::rows::BEGINS;
+use crate::rows::make_rows;
 use crate::spread::bears_in;
 use crate::spread::same_sets;
 use crate::spread::spread_all;
@@ -20,15 +22,18 @@ ghost use Rattle.sdtd.specs.Limits.{mostTypes, mostSteps};
 ghost use Rattle.sdtd.specs.Schema.{WithinLimits};
 ghost use Rattle.schema.specs.Value.{stepsOf, offset, meaning};
 ghost use Rattle.schema.specs.Spread.{spreadAll, reachAll, Settled, firstSets, startStates, bearing};
-ghost use Rattle.schema.specs.Trimming.{Exact, TrimMeans, LiveMeans};
+ghost use Rattle.schema.specs.Trimming.{Exact, TrimMeans, LiveMeans, LiveRowsMean};
 
 // Whether a schema is inside the limits. Entry a: the live states of the type a as a set, whether it bears a tree, whether it is reached.
+// The steps that count in rows: their entries, and where each row begins.
 #[repr(C)]
 pub struct Trimming {
     pub inside: bool,
     pub live: [u32; TYPES],
     pub bears: [bool; TYPES],
     pub reached: [bool; TYPES],
+    pub entries: [u32; STEPS],
+    pub begins: [u16; BEGINS],
 }
 
 // The first `types` entries, and nothing in the others.
@@ -163,6 +168,40 @@ pub fn live(schema: Schema) -> LiveStates
     LiveStates { inside: true, live }
 }
 
+// Whether a schema is inside the limits, the live states of each type as a set, and the steps that count in rows: their entries, and where
+// each row begins.
+pub struct LiveRows {
+    pub inside: bool,
+    pub live: [u32; TYPES],
+    pub entries: [u32; STEPS],
+    pub begins: [u16; BEGINS],
+}
+
+// The live states and the rows of a schema inside the limits; nothing for any other.
+pub fn live_rows(schema: Schema) -> LiveRows
+    ensures { λ r. ⌜ LiveRowsMean (meaning schema) r ⌝ }
+{
+    let found = live(schema);
+    let live = found.live;
+    if !found.inside {
+        return LiveRows {
+            inside: false,
+            live,
+            entries: [0; STEPS],
+            begins: [0; BEGINS],
+        };
+    }
+    let rows = make_rows(schema, live, live);
+    let entries = rows.entries;
+    let begins = rows.begins;
+    LiveRows {
+        inside: true,
+        live,
+        entries,
+        begins,
+    }
+}
+
 // The tables of a schema inside the limits.
 fn trim_inside(schema: Schema) -> Trimming
     requires { ⌜ WithinLimits (meaning schema) ⌝ }
@@ -202,11 +241,16 @@ fn trim_inside(schema: Schema) -> Trimming
         root,
     );
     let bears = bearing_types(live);
+    let rows = make_rows(schema, live, live);
+    let entries = rows.entries;
+    let begins = rows.begins;
     Trimming {
         inside: true,
         live,
         bears,
         reached,
+        entries,
+        begins,
     }
 }
 
@@ -220,6 +264,8 @@ pub fn trim(schema: Schema) -> Trimming
             live: [StateSet::NONE.0; TYPES],
             bears: [false; TYPES],
             reached: [false; TYPES],
+            entries: [0; STEPS],
+            begins: [0; BEGINS],
         };
     }
     trim_inside(schema)

@@ -4,9 +4,11 @@ use borrow.Author.Needs.{needs}
 use lib.ListN.{getD}
 use mir.Syntax.{w32}
 use mir.Val.{Fits as FitsIn}
+use Rattle.schema.specs.Value.{meaning}
+use Rattle.schema.specs.Trimming.{LiveExactly}
 use Rattle.schema.proofs.LimitLaws.{Room, within-room}
 use Rattle.schema.proofs.FirstTables.{Fits}
-use Rattle.schema.proofs.TablesExact.{tables-exact}
+use Rattle.schema.proofs.TablesExact.{bears-in, tables-exact, live-exactly}
 use Rattle.schema.proofs.tables.trim_inside.Statement.{statement}
 use Rattle.schema.proofs.tables.trim_inside.Tie as tie
 
@@ -37,15 +39,30 @@ reached-types-requires c κs =
 bearing-types-requires : tie.Need-bearing-types-requires
 bearing-types-requires c κs = search needs
 
+-- where the function begins
+abbrev start : tie.After-bearing-types → tie.Start
+start c = c .before .before .before .before .before .before .before .before .before .before .before .before .before .before .before .before .before .before .before .before .before .before
+
+-- the live states that were found
+live-found : (c : tie.After-bearing-types)
+    → LiveExactly (meaning (start c .args .t1)) (c .before .before .before .before .before .before .before .before .before .before .before .before .before .before .live-states .result)
+live-found c =
+    live-exactly (fits (start c)) (start c .pre)
+    (c .before .before .before .before .before .before .before .before .before .before .before .before .before .before .live-states .ensures)
+
+make-rows-requires : tie.Need-make-rows-requires
+make-rows-requires c κs = (start c .pre, bears-in _ (c .before .before .before .before .before .before .before .before .before .before .before .before .before .before .live-states .result) (live-found c), live-found c)
+
 returns : tie.Need-returns
 returns c =
-    let start = c .before .before .before .before .before .before .before .before .before .before .before .before .before .before .before .before .before .before .before .before .before .before in (
+    let b = c .before .before .before in (
       tt,
-      rw (c .bearing-types .ensures)
-          (tables-exact (fits start) (start .pre)
-          (c .before .before .before .before .before .before .before .before .before .before .before .before .before .before .live-states .ensures)
-          (c .before .before .before .before .before .before .before .forward-states .ensures)
-          (c .before .reached-types .ensures)),
+      rw (b .bearing-types .ensures)
+          (tables-exact (fits (start b)) (start b .pre)
+          (b .before .before .before .before .before .before .before .before .before .before .before .before .before .before .live-states .ensures)
+          (b .before .before .before .before .before .before .before .forward-states .ensures)
+          (b .before .reached-types .ensures)
+          (c .before .before .make-rows .ensures)),
     )
 
 pub trim-inside-spec : {M : Type 1} → statement M
@@ -57,4 +74,5 @@ trim-inside-spec =
     forward-states-requires
     reached-types-requires
     bearing-types-requires
+    make-rows-requires
     returns)
