@@ -21,9 +21,9 @@ use Rattle.command.proofs.CommandLaws.{command-in-file, size-some}
 use Rattle.command.proofs.CaseLaws.{step-same}
 use Rattle.commands.specs.Questions.{rank, samePhase, failed}
 use Rattle.commands.specs.File.{Placed, Stated, nothingStated, current, stepCount, hasStep, seenOf, after, stopped, states, commandsFrom}
-use Rattle.commands.specs.File.{schemaBy, unknown}
+use Rattle.commands.specs.File.{schemaBy}
 use Rattle.commands.specs.Value.{EmptyFrom, StatedValue}
-use Rattle.commands.specs.Progress.{nothingRead, givenLast, lastType, progressAfter, unknownAt}
+use Rattle.commands.specs.Progress.{nothingRead, givenLast, lastType, progressAfter}
 use Rattle.commands.proofs.SchemaTables.{SchemaTables}
 use Rattle.commands.specs.declared.progress.Phase.{Phase}
 use Rattle.commands.specs.declared.progress.Phase.the-variants.{BeforeTags, BeforeTypes, InBlock, AfterRoot, AfterDone}
@@ -33,7 +33,7 @@ use Rattle.commands.proofs.Holding.{seenIn, tablesAfter, DraftHolds, Si
 use Rattle.commands.proofs.TableLaws.{current-holds, current-count, given-holds, type-sized, type-blocks, type-empty}
 use Rattle.commands.proofs.TableLaws.{accepting-sized, final-blocks, final-count, final-steps, accepting-empty}
 use Rattle.commands.proofs.TableLaws.{step-sized, step-blocks, step-count, step-steps, step-empty}
-use Rattle.commands.proofs.StatedLaws.{offset-back, valueIn, blocks-back, unknown-back}
+use Rattle.commands.proofs.StatedLaws.{offset-back, valueIn, blocks-back}
 
 -- before any command: tables of zeros hold that nothing is stated
 pub first-holds : {t : SchemaTables} → Sized t → EmptyPast t 0 0 → Holds nothingStated nothingRead t
@@ -110,7 +110,7 @@ module _ {g : Stated} {s : Progress} {t : SchemaTables} (h : Holds g s t) where
 
   -- one type, one accepting state or one step more
   after-type : (i : ℕ) (a : Tag) (k : ℕ) → length (g .blocks) < mostTypes
-      → Holds (after g i (TypeBlock a k)) (progressAfter s (TypeBlock a k)) (tablesAfter s t i (TypeBlock a k))
+      → Holds (after g i (TypeBlock a k)) (progressAfter s (TypeBlock a k)) (tablesAfter s t (TypeBlock a k))
   unfolding after progressAfter
   after-type i a k l =
       let n : s .types % mostTypes ≡ s .types = omega (arith, h .types) in
@@ -131,7 +131,7 @@ module _ {g : Stated} {s : Progress} {t : SchemaTables} (h : Holds g s t) where
 
   -- in a block
   module _ (in-block : rank (g .phase) ≡ rank InBlock) where
-    some-blocks : 0 < length (g .blocks)
+    pub some-blocks : 0 < length (g .blocks)
     some-blocks = omega (arith, h .some in-block, h .types)
 
     last-block : suc (lastType (s .types)) ≡ length (g .blocks)
@@ -147,7 +147,7 @@ module _ {g : Stated} {s : Progress} {t : SchemaTables} (h : Holds g s t) where
         only AfterRoot e = absurd (omega arith)
         only AfterDone e = absurd (omega arith)
 
-    after-final : (i q : ℕ) → Holds (after g i (Final q)) (progressAfter s (Final q)) (tablesAfter s t i (Final q))
+    after-final : (i q : ℕ) → Holds (after g i (Final q)) (progressAfter s (Final q)) (tablesAfter s t (Final q))
     unfolding after progressAfter
     after-final i q =
         let a = lastType (s .types) in
@@ -166,7 +166,7 @@ module _ {g : Stated} {s : Progress} {t : SchemaTables} (h : Holds g s t) where
         }
 
     after-step : (i p : ℕ) (j : TypeNo) (q : ℕ) → stepCount (g .blocks) < mostSteps
-        → Holds (after g i (Step p j q)) (progressAfter s (Step p j q)) (tablesAfter s t i (Step p j q))
+        → Holds (after g i (Step p j q)) (progressAfter s (Step p j q)) (tablesAfter s t (Step p j q))
     unfolding after progressAfter
     after-step i p j q l =
         let a = lastType (s .types) in
@@ -174,7 +174,7 @@ module _ {g : Stated} {s : Progress} {t : SchemaTables} (h : Holds g s t) where
         let n : m ≡ stepCount (g .blocks) = omega (arith, h .steps) in
         let y : Placed = record { step = step p (j .0) q; place = i } in
         record {
-          sized = step-sized t (h .sized) a m p (j .0) q i;
+          sized = step-sized t (h .sized) a m p (j .0) q;
           phase = phase-block;
           tags = h .tags;
           root = h .root;
@@ -184,11 +184,11 @@ module _ {g : Stated} {s : Progress} {t : SchemaTables} (h : Holds g s t) where
           steps-most = omega (arith, h .steps);
           some = λ p. h .some in-block;
           blocks = step-blocks t (h .sized) (g .blocks) a m p (j .0) q i last-block (omega arith) n (omega arith) (h .blocks);
-          empty = step-empty (h .empty) a m p (j .0) q i (omega (arith, h .types, last-block)) (omega (arith, h .steps));
+          empty = step-empty (h .empty) a m p (j .0) q (omega (arith, h .types, last-block)) (omega (arith, h .steps));
         }
 
   -- after a command that passed its questions, they hold what is stated then
-  pub after-holds : (i : ℕ) (c : Command) → failed (seenOf g c) c ≡ 0 → Holds (after g i c) (progressAfter s c) (tablesAfter s t i c)
+  pub after-holds : (i : ℕ) (c : Command) → failed (seenOf g c) c ≡ 0 → Holds (after g i c) (progressAfter s c) (tablesAfter s t c)
   unfolding after progressAfter
   after-holds i (Tags n) e = rw (← h .root) (stays BeforeTypes n (s .root) (omega arith))
   after-holds i (TypeBlock a k) e = after-type i a k (passed g (TypeBlock a k) e .5)
@@ -223,10 +223,6 @@ module _ {g : Stated} {s : Progress} {t : SchemaTables} (h : Holds g s t) where
               to = empty .to;
             };
       }
-
-  -- the places of the steps that name no given type are those of the tables
-  pub stated-unknown : unknown g ≡ unknownAt (t .by) (t .places) (s .types) 0 (s .steps)
-  stated-unknown = rw (h .types, h .steps) (unknown-back t (length (g .blocks)) (g .blocks) (h .blocks))
 
 -- what depends on a test is the same where it is the same under it
 under : {A : Type 0} (b : Bool) {x y : A} (z : A) → (T b → x ≡ y) → cond b x z ≡ cond b y z

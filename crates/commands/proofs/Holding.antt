@@ -11,7 +11,7 @@ use Rattle.commands.specs.File.{Placed, Draft, Stated, stepCount}
 use Rattle.commands.specs.Value.{EmptyFrom}
 use Rattle.commands.specs.Progress.{seenBy, lastType, givenAlready, tagAfter, statesAfter, acceptingAfter}
 use Rattle.commands.proofs.SchemaTables.{SchemaTables}
-use Rattle.commands.specs.Progress.{countsAfter, fromAfter, byAfter, toAfter, placesAfter}
+use Rattle.commands.specs.Progress.{countsAfter, fromAfter, byAfter, toAfter}
 use Rattle.commands.specs.declared.progress.Phase.the-variants.{InBlock}
 use Rattle.commands.specs.declared.progress.Progress.{Progress}
 use Rattle.commands.specs.declared.questions.Seen.{Seen}
@@ -23,9 +23,9 @@ seenIn s t c =
     seenBy s (getD (t .states) a 0) (record { 0 = getD (t .accepting) a 0 })
     (givenAlready (t .from) (t .by) (t .to) (s .steps) (getD (t .counts) a 0) c)
 
--- the tables after the command at the place i, which passed its questions
-abbrev pub tablesAfter : Progress → SchemaTables → ℕ → Command → SchemaTables
-tablesAfter s t i c =
+-- the tables after a command that passed its questions
+abbrev pub tablesAfter : Progress → SchemaTables → Command → SchemaTables
+tablesAfter s t c =
     record {
       tag = tagAfter (s .types) (t .tag) c;
       states = statesAfter (s .types) (t .states) c;
@@ -34,14 +34,13 @@ tablesAfter s t i c =
       from = fromAfter (s .steps) (t .from) c;
       by = byAfter (s .steps) (t .by) c;
       to = toAfter (s .steps) (t .to) c;
-      places = placesAfter (s .steps) i (t .places) c;
     }
 
 -- the steps of a block, the last first, stand from the place s of the tables on
 abbrev pub StepsHold : SchemaTables → List Placed → ℕ → Type 0
 StepsHold t [] s = Unit
 StepsHold t (x ∷ xs) s =
-    (stepAt (t .from) (t .by) (t .to) (s + length xs) ≡ x .step) × (getD (t .places) (s + length xs) 0 ≡ x .place) × StepsHold t xs s
+    (stepAt (t .from) (t .by) (t .to) (s + length xs) ≡ x .step) × StepsHold t xs s
 
 -- the block d is the type a, whose steps stand from the place s on
 pub record DraftHolds (t : SchemaTables) (d : Draft) (a s : ℕ) : Type 0 where
@@ -65,7 +64,6 @@ pub record Sized (t : SchemaTables) : Type 0 where
   pub from : length (t .from) ≡ mostSteps
   pub by : length (t .by) ≡ mostSteps
   pub to : length (t .to) ≡ mostSteps
-  pub places : length (t .places) ≡ mostSteps
 
 -- past the first a types and the first n steps the tables hold 0
 pub record EmptyPast (t : SchemaTables) (a n : ℕ) : Type 0 where

@@ -5,6 +5,7 @@ pub mod Holding
 pub mod TableLaws
 pub mod StatedLaws
 pub mod Drafts
+pub mod Places
 pub mod OneByOne
 pub mod StatedLimits
 pub mod Lengths

@@ -8,26 +8,28 @@ use Prim.Native.Nat.{ℕ, suc, _+_, _-_, _≤_, _<_}
 use native.Mathlib.Omega.{arith}
 use borrow.Author.Tests.{le-leb, lt-leb, ne-eqb}
 use lib.Dec.{T}
-use lib.ListN.{length, getD}
-use Rattle.sdtd.specs.declared.Verdict.{Verdict}
-use Rattle.sdtd.specs.declared.Verdict.the-variants.{Fine, RefusedAt}
+use lib.ListN.{length, getD, replicate}
+use Rattle.sdtd.specs.Limits.{mostTypes}
+use Rattle.sdtd.specs.declared.Verdict.the-variants.{Fine}
 use Rattle.command.specs.Command.{isCommand, commandAt, size}
 use Rattle.command.specs.declared.Command.{Command}
 use Rattle.command.proofs.CommandLaws.{command-in-file, size-some}
 use Rattle.commands.specs.Questions.{samePhase, failed}
-use Rattle.commands.specs.File.{Stated, nothingStated, seenOf, after, Commands, stopped, states, commandsFrom, commands, unknown}
+use Rattle.commands.specs.File.{Stated, nothingStated, seenOf, after, Commands, stopped, states, commandsFrom, commands}
 use Rattle.commands.specs.Value.{StatedValue}
 use Rattle.commands.specs.Answer.{stoppedAt, CommandsBy}
-use Rattle.commands.specs.Progress.{nothingRead, progressAfter, seenBy, lastType, givenAlready, unknownAt, KnownVerdict}
+use Rattle.commands.specs.Progress.{nothingRead, progressAfter, seenBy, lastType, givenAlready, placesAfter, leastFrom}
 use Rattle.commands.proofs.SchemaTables.{SchemaTables}
 use Rattle.commands.specs.declared.commands.StatedSchema.{StatedSchema}
 use Rattle.commands.specs.declared.progress.Phase.the-variants.{AfterDone}
 use Rattle.commands.specs.declared.progress.Progress.{Progress}
 use Rattle.commands.specs.declared.questions.Seen.{Seen}
 use Rattle.commands.proofs.Passing.{passed-command}
+use Rattle.commands.proofs.Passing.{passed as passed-by}
 use Rattle.commands.proofs.Holding.{seenIn, tablesAfter, Holds, Sized, EmptyPast}
 use Rattle.commands.proofs.StatedLaws.{valueIn}
-use Rattle.commands.proofs.Drafts.{first-holds, seen-holds, after-holds, stated-value, stated-unknown, fuel-enough}
+use Rattle.commands.proofs.Drafts.{first-holds, seen-holds, some-blocks, after-holds, stated-value, fuel-enough}
+use Rattle.commands.proofs.Places.{PlacesHold, first-places, places-after, first-named, none-named}
 
 -- one command, and what is left of the file
 module _ (fuel : ℕ) (file : List ℕ) (i : ℕ) (g : Stated) where
@@ -49,18 +51,25 @@ module _ (fuel : ℕ) (file : List ℕ) (i : ℕ) (g : Stated) where
   unfolding commandsFrom
   ends p l = rw (p, le-leb (length file) i l)
 
--- At the place i the progress and the tables hold what the commands before it state, and the commands from there on decide.
-pub record Reads (file : List ℕ) (i : ℕ) (s : Progress) (t : SchemaTables) : Type 0 where
+-- At the place i the progress, the tables and the places hold what the commands before it state, and the commands from there on decide.
+pub record Reads (file : List ℕ) (i : ℕ) (s : Progress) (t : SchemaTables) (places : List ℕ) : Type 0 where
   pub stated : Stated
   pub holds : Holds stated s t
+  pub named : PlacesHold (stated .blocks) (length file) i places
   pub rest : commandsFrom (suc (length file - i)) file i stated ≡ commands file
   pub within : i ≤ length file
 
-pub reads-first : (file : List ℕ) {t : SchemaTables} → Sized t → EmptyPast t 0 0 → Reads file 0 nothingRead t
+pub reads-first : (file : List ℕ) {t : SchemaTables} → Sized t → EmptyPast t 0 0 → Reads file 0 nothingRead t (replicate mostTypes (length file))
 unfolding commands
 reads-first file k z =
     let e : length file - 0 ≡ length file = omega arith in
-    record { stated = nothingStated; holds = first-holds k z; rest = rw e; within = omega arith }
+    record {
+      stated = nothingStated;
+      holds = first-holds k z;
+      named = first-places (length file);
+      rest = rw e;
+      within = omega arith;
+    }
 
 -- the number of the question that the command fails, from its parts
 pub failed-in : (s : Progress) (t : SchemaTables) (c : Command) {n last : ℕ} {given : Bool} (seen : Seen) → n ≡ failed seen c
@@ -74,20 +83,7 @@ pub answer-stopped : (file : List ℕ) (r : StatedSchema) {n p : ℕ} → comman
     → CommandsBy (commands file) r
 answer-stopped file r e s = subst (λ (k : Commands). CommandsBy k r) (sym e) s
 
--- question 7, by the verdict on the places of the steps that name no given type
-module _ (g : Stated) (r : StatedSchema) where
-  unknown-known : {n p : ℕ} → KnownVerdict (unknown g) (RefusedAt n p) → r ≡ stoppedAt n p → CommandsBy (states g) r
-  unknown-known {n} {p} (inl k) e =
-      let number : n ≡ 7 = cc in
-      let place : p ≡ getD (unknown g) 0 0 = cc in
-      inl (k .0, rw (← number, ← place) e)
-  unknown-known (inr k) e = absurd (let z : _≡_ {A = ℕ} 0 1 = cc in omega arith)
-
-  all-known : KnownVerdict (unknown g) Fine → r .verdict ≡ Fine → StatedValue g (r .schema) → CommandsBy (states g) r
-  all-known (inl k) o v = absurd (let z : _≡_ {A = ℕ} 0 1 = cc in omega arith)
-  all-known (inr k) o v = inr (k .0, (o, v))
-
-module _ {file : List ℕ} {i : ℕ} {s : Progress} {t : SchemaTables} (r : Reads file i s t) where
+module _ {file : List ℕ} {i : ℕ} {s : Progress} {t : SchemaTables} {places : List ℕ} (r : Reads file i s t places) where
   -- before DONE
   module _ (more : samePhase (s .phase) AfterDone ≡ false) where
     not-done : samePhase (r .stated .phase) AfterDone ≡ false
@@ -111,15 +107,17 @@ module _ {file : List ℕ} {i : ℕ} {s : Progress} {t : SchemaTables} (r : Read
           let ends = subst (λ (d : Command). T (isCommand d) → i + size d ≤ length file) (sym command) (command-in-file file i) in
           rw bytes (ends k, size-some c k)
 
-      pub reads-next : {s′ : Progress} {t′ : SchemaTables} → s′ ≡ progressAfter s c → t′ ≡ tablesAfter s t i c → Reads file (i + n) s′ t′
-      reads-next state tables =
+      pub reads-next : {s′ : Progress} {t′ : SchemaTables} {places′ : List ℕ} → s′ ≡ progressAfter s c → t′ ≡ tablesAfter s t c
+          → places′ ≡ placesAfter i places c → Reads file (i + n) s′ t′ places′
+      reads-next state tables named =
           let j = i + size c in
           let h : (j ≤ length file) × (0 < size c) = rw bytes at reads-in-file in
           let left : length file - j < length file - i = omega arith in
-          rw (bytes, state, tables)
+          rw (bytes, state, tables, named)
           (record {
             stated = after (r .stated) i c;
             holds = after-holds (r .holds) i c none-failed;
+            named = places-after (r .stated) (r .named) (omega arith) (omega arith) (some-blocks (r .holds)) c (passed-by (r .stated) c none-failed);
             rest =
                 fuel-enough file (suc (length file - j)) (length file - i) j (after (r .stated) i c) (omega arith) left
                 ∙ sym (goes-on (length file - i) file i (r .stated) not-done (sym command) none-failed)
@@ -139,13 +137,17 @@ module _ {file : List ℕ} {i : ℕ} {s : Progress} {t : SchemaTables} (r : Read
       answered : CommandsBy (states (r .stated)) a → CommandsBy (commands file) a
       answered k = subst (λ (c : Commands). CommandsBy c a) (sym (ends (length file - i) file i (r .stated) is-done end) ∙ r .rest) k
 
-      module _ {u : Verdict} (known : KnownVerdict (unknownAt (t .by) (t .places) (s .types) 0 (s .steps)) u) where
-        verdict : {v : Verdict} → u ≡ v → KnownVerdict (unknown (r .stated)) v
-        verdict e = rw (← e, stated-unknown (r .holds)) known
+      -- question 7, by the least place of the types not given
+      module _ {p : ℕ} (least : p ≡ leastFrom places (length file) (s .types) (mostTypes - s .types)) where
+        least-stated : let n = length (r .stated .blocks) in p ≡ leastFrom places (length file) n (mostTypes - n)
+        least-stated = rw (← r .holds .types) least
 
-        pub answer-unknown : {n p : ℕ} → u ≡ RefusedAt n p → a ≡ stoppedAt n p → CommandsBy (commands file) a
-        answer-unknown e k = answered (unknown-known (r .stated) a (verdict e) k)
+        pub answer-unknown : p < length file → a ≡ stoppedAt 7 p → CommandsBy (commands file) a
+        answer-unknown l e =
+            let f = first-named (r .named) (length (r .stated .blocks)) least-stated l in
+            answered (inl (f .0, rw (← f .1) e))
 
-        pub answer-known : u ≡ Fine → a .verdict ≡ Fine → a .schema ≡ valueIn s t → CommandsBy (commands file) a
-        answer-known e o v =
-            answered (all-known (r .stated) a (verdict e) o (subst (StatedValue (r .stated)) (sym v) (stated-value (r .holds))))
+        pub answer-known : length file ≤ p → a .verdict ≡ Fine → a .schema ≡ valueIn s t → CommandsBy (commands file) a
+        answer-known l o v =
+            let none = none-named (r .named) (length (r .stated .blocks)) least-stated (r .within) l in
+            answered (inr (none, (o, subst (StatedValue (r .stated)) (sym v) (stated-value (r .holds)))))

@@ -59,7 +59,7 @@ Passed g (Final q) =
     (rank (g .phase) ≡ rank InBlock) × (q < current (g .blocks) .states) × ¬ T (member q (current (g .blocks) .accepting))
 Passed g (Step p j q) =
     (rank (g .phase) ≡ rank InBlock) × (p < current (g .blocks) .states) × (q < current (g .blocks) .states)
-    × (stepCount (g .blocks) < mostSteps)
+    × (stepCount (g .blocks) < mostSteps) × (j .0 < mostTypes)
 Passed g (Root a) = (rank (g .phase) ≡ rank InBlock) × (a .0 < length (g .blocks))
 Passed g Done = rank (g .phase) ≡ rank AfterRoot
 Passed g NoCommand = ⊥

@@ -2,7 +2,7 @@
 use mathlib.Core.List.{List}
 use Prim.Native.Nat.{ℕ}
 
--- The tables: of each type its tag, state count, accepting states and number of steps; of each step its parts and its place.
+-- The tables: of each type its tag, state count, accepting states and number of steps; of each step its parts.
 pub record SchemaTables : Type 0 where
   pub tag : List ℕ
   pub states : List ℕ
@@ -11,4 +11,3 @@ pub record SchemaTables : Type 0 where
   pub from : List ℕ
   pub by : List ℕ
   pub to : List ℕ
-  pub places : List ℕ

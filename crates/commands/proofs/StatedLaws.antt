@@ -1,18 +1,15 @@
--- What is read back from the tables: the blocks, and the places of the steps that name no given type.
+-- What is read back from the tables: the blocks.
 use mathlib.Core.Path.{_≡_, refl, sym, ap, _∙_}
-use mathlib.Core.Bool.{Bool, true, false, cond}
 use mathlib.Core.List.{List, [], _∷_, _++_, map, reverse, reverse-cons}
 use Prim.Native.Nat.{ℕ, zero, suc, _+_}
-use native.Mathlib.Nat.{suc-add}
 use native.Mathlib.Omega.{arith}
-use lib.Dec.{ltb}
-use lib.ListN.{length, getD}
+use lib.ListN.{length}
 use Rattle.schema.specs.States.{members}
 use Rattle.schema.specs.Value.{upFrom, stepAt, stepsOf, offset, blockAt}
 use Rattle.schema.specs.declared.value.Schema.{Schema}
 use Rattle.schema.proofs.Values.{offset-step}
-use Rattle.commands.specs.File.{Placed, Draft, stepCount, blockBy, unknownIn, unknownBy}
-use Rattle.commands.specs.Progress.{unknownAt, valueOf}
+use Rattle.commands.specs.File.{Placed, Draft, stepCount, blockBy}
+use Rattle.commands.specs.Progress.{valueOf}
 use Rattle.commands.proofs.SchemaTables.{SchemaTables}
 use Rattle.commands.specs.declared.progress.Progress.{Progress}
 use Rattle.commands.proofs.Holding.{StepsHold, DraftHolds, BlocksHold}
@@ -40,7 +37,7 @@ unfolding stepsOf upFrom
 steps-back t [] s h = refl
 steps-back t (x ∷ xs) s h =
     up-last (stepAt (t .from) (t .by) (t .to)) s (length xs)
-    ∙ (λ i. steps-back t xs s (h .2) i ++ (h .0 i ∷ []))
+    ∙ (λ i. steps-back t xs s (h .1) i ++ (h .0 i ∷ []))
     ∙ sym (map-reverse (λ (x : Placed). x .step) x xs)
 
 -- a type's first step stands behind all steps of the types before it
@@ -74,48 +71,3 @@ module _ (p : Progress) (t : SchemaTables) where
       up-last (blockAt (valueIn p t)) 0 (length ds)
       ∙ rw z (λ i. blocks-back ds (h .1) i ++ (block-back d (length ds) (stepCount ds) (offset-back t ds (h .1)) (h .0) i ∷ []))
       ∙ sym (map-reverse blockBy d ds)
-
-module _ (by places : List ℕ) (types : ℕ) where
-  -- the places among n + m steps
-  unknown-add : (i n m : ℕ)
-      → unknownAt by places types i (n + m) ≡ unknownAt by places types i n ++ unknownAt by places types (i + n) m
-  unfolding unknownAt
-  unknown-add i zero m =
-      let e : 0 + m ≡ m = omega arith in
-      let z : i + 0 ≡ i = omega arith in
-      rw (e, z)
-  unknown-add i (suc n) m =
-      let z : i + suc n ≡ suc i + n = omega arith in
-      let found = unknownAt by places types in
-      rw (suc-add, z) (one (ltb (getD by i 0) types) (found (suc i) n) (found (suc i + n) m) (unknown-add (suc i) n m))
-    where
-      one : (b : Bool) {x : List ℕ} (y z : List ℕ) → x ≡ y ++ z → cond b x (getD places i 0 ∷ x) ≡ cond b y (getD places i 0 ∷ y) ++ z
-      one true y z e = e
-      one false y z e = ap (λ (l : List ℕ). getD places i 0 ∷ l) e
-
-  unknown-one : (i : ℕ) → unknownAt by places types i 1 ≡ cond (ltb (getD by i 0) types) [] (getD places i 0 ∷ [])
-  unfolding unknownAt
-  unknown-one i = refl
-
--- the places of a block's steps
-unknown-steps : (t : SchemaTables) (types : ℕ) (xs : List Placed) (s : ℕ) → StepsHold t xs s
-    → unknownIn types xs ≡ unknownAt (t .by) (t .places) types s (length xs)
-unfolding unknownAt
-unknown-steps t types [] s h = refl
-unknown-steps t types (x ∷ xs) s h =
-    let e : suc (length xs) ≡ length xs + 1 = omega arith in
-    let u = unknownAt (t .by) (t .places) types in
-    (λ i. unknown-steps t types xs s (h .2) i ++ cond (ltb (sym (h .0) i .by) types) [] (sym (h .1) i ∷ []))
-    ∙ ap (λ (l : List ℕ). u s (length xs) ++ l) (sym (unknown-one (t .by) (t .places) types (s + length xs)))
-    ∙ sym (unknown-add (t .by) (t .places) types s (length xs) 1)
-    ∙ ap (u s) (sym e)
-
--- the places of all of them
-pub unknown-back : (t : SchemaTables) (types : ℕ) (bs : List Draft) → BlocksHold t bs
-    → unknownBy types bs ≡ unknownAt (t .by) (t .places) types 0 (stepCount bs)
-unfolding unknownAt
-unknown-back t types [] h = refl
-unknown-back t types (d ∷ ds) h =
-    let z : 0 + stepCount ds ≡ stepCount ds = omega arith in
-    (λ i. unknown-back t types ds (h .1) i ++ unknown-steps t types (d .steps) (stepCount ds) (h .0 .steps) i)
-    ∙ sym (rw z at (unknown-add (t .by) (t .places) types 0 (stepCount ds) (length (d .steps))))

@@ -27,7 +27,6 @@ withType t a g k =
       from = t .from;
       by = t .by;
       to = t .to;
-      places = t .places;
     }
 
 -- the tables with one accepting state more
@@ -41,12 +40,11 @@ withAccepting t a q =
       from = t .from;
       by = t .by;
       to = t .to;
-      places = t .places;
     }
 
--- the tables with one step more, from the command at the place i
-abbrev pub withOneStep : SchemaTables → ℕ → ℕ → ℕ → ℕ → ℕ → ℕ → SchemaTables
-withOneStep t a n p j q i =
+-- the tables with one step more
+abbrev pub withOneStep : SchemaTables → ℕ → ℕ → ℕ → ℕ → ℕ → SchemaTables
+withOneStep t a n p j q =
     record {
       tag = t .tag;
       states = t .states;
@@ -55,7 +53,6 @@ withOneStep t a n p j q i =
       from = set (t .from) n p;
       by = set (t .by) n j;
       to = set (t .to) n q;
-      places = set (t .places) n i;
     }
 
 -- the block that the file is in is the last type, and its steps are the last; before the first there is none, and the tables are empty
@@ -122,7 +119,7 @@ unfolding givenIn
 given-holds t p j q [] s h = refl
 given-holds t p j q (x ∷ xs) s h =
     given-last (t .from) (t .by) (t .to) p j q s (length xs)
-    ∙ (λ i. sameStep p j q (h .0 i) || given-holds t p j q xs s (h .2) i)
+    ∙ (λ i. sameStep p j q (h .0 i) || given-holds t p j q xs s (h .1) i)
 
 -- the tables agree on the types below a and on the steps below n
 record Below (t u : SchemaTables) (a n : ℕ) : Type 0 where
@@ -131,16 +128,11 @@ record Below (t u : SchemaTables) (a n : ℕ) : Type 0 where
   accepting : (b : ℕ) → b < a → getD (u .accepting) b 0 ≡ getD (t .accepting) b 0
   counts : (b : ℕ) → b < a → getD (u .counts) b 0 ≡ getD (t .counts) b 0
   step : (k : ℕ) → k < n → stepAt (u .from) (u .by) (u .to) k ≡ stepAt (t .from) (t .by) (t .to) k
-  place : (k : ℕ) → k < n → getD (u .places) k 0 ≡ getD (t .places) k 0
 
 module _ {t u : SchemaTables} {a n : ℕ} (w : Below t u a n) where
   steps-below : (xs : List Placed) (s : ℕ) → s + length xs ≤ n → StepsHold t xs s → StepsHold u xs s
   steps-below [] s l h = tt
-  steps-below (x ∷ xs) s l h = (
-    w .step (s + length xs) (omega arith) ∙ h .0,
-    w .place (s + length xs) (omega arith) ∙ h .1,
-    steps-below xs s (omega arith) (h .2),
-  )
+  steps-below (x ∷ xs) s l h = (w .step (s + length xs) (omega arith) ∙ h .0, steps-below xs s (omega arith) (h .1))
 
   draft-below : (d : Draft) {b s : ℕ} → b < a → s + length (d .steps) ≤ n → DraftHolds t d b s → DraftHolds u d b s
   draft-below d {b} {s} l m h =
@@ -192,8 +184,8 @@ module _ {t : SchemaTables} {a n : ℕ} (e : EmptyPast t a n) where
       }
 
   -- one step more
-  pub step-empty : (b m p j q i : ℕ) → b < a → n ≡ m → EmptyPast (withOneStep t b m p j q i) a (m + 1)
-  step-empty b m p j q i l d =
+  pub step-empty : (b m p j q : ℕ) → b < a → n ≡ m → EmptyPast (withOneStep t b m p j q) a (m + 1)
+  step-empty b m p j q l d =
       record {
         tag = e .tag;
         states = e .states;
@@ -215,7 +207,6 @@ module _ (t : SchemaTables) (k : Sized t) where
         from = k .from;
         by = k .by;
         to = k .to;
-        places = k .places;
       }
 
   pub accepting-sized : (a q : ℕ) → Sized (withAccepting t a q)
@@ -228,11 +219,10 @@ module _ (t : SchemaTables) (k : Sized t) where
         from = k .from;
         by = k .by;
         to = k .to;
-        places = k .places;
       }
 
-  pub step-sized : (a n p j q i : ℕ) → Sized (withOneStep t a n p j q i)
-  step-sized a n p j q i =
+  pub step-sized : (a n p j q : ℕ) → Sized (withOneStep t a n p j q)
+  step-sized a n p j q =
       record {
         tag = k .tag;
         states = k .states;
@@ -241,7 +231,6 @@ module _ (t : SchemaTables) (k : Sized t) where
         from = rw length-set (k .from);
         by = rw length-set (k .by);
         to = rw length-set (k .to);
-        places = rw length-set (k .places);
       }
 
   -- one type more
@@ -267,7 +256,6 @@ module _ (t : SchemaTables) (k : Sized t) where
             accepting = λ b l. refl;
             counts = λ b l. refl;
             step = λ i l. refl;
-            place = λ i l. refl;
           }
 
   -- one accepting state more
@@ -297,19 +285,17 @@ module _ (t : SchemaTables) (k : Sized t) where
             accepting = set-below (t .accepting) a (insert q (getD (t .accepting) a 0));
             counts = λ b l. refl;
             step = λ i l. refl;
-            place = λ i l. refl;
           }
 
   -- a new step leaves what is below its places
-  step-below : (a n p j q i : ℕ) → Below t (withOneStep t a n p j q i) a n
-  step-below a n p j q i =
+  step-below : (a n p j q : ℕ) → Below t (withOneStep t a n p j q) a n
+  step-below a n p j q =
       record {
         tag = λ b l. refl;
         states = λ b l. refl;
         accepting = λ b l. refl;
         counts = set-below (t .counts) a (getD (t .counts) a 0 % mostSteps + 1);
         step = λ b l. rw (set-below (t .from) n p b l, set-below (t .by) n j b l, set-below (t .to) n q b l);
-        place = set-below (t .places) n i;
       }
 
   -- the new step stands at its place
@@ -324,12 +310,12 @@ module _ (t : SchemaTables) (k : Sized t) where
 
   -- one step more
   pub step-blocks : (bs : List Draft) (a n p j q i : ℕ) → suc a ≡ length bs → a < mostTypes → n ≡ stepCount bs → n < mostSteps → BlocksHold t bs
-      → BlocksHold (withOneStep t a n p j q i) (withStep (record { step = step p j q; place = i }) bs)
+      → BlocksHold (withOneStep t a n p j q) (withStep (record { step = step p j q; place = i }) bs)
   step-blocks [] a n p j q i e l f m h = absurd (omega arith)
   step-blocks (d ∷ ds) a n p j q i e l f m h =
       let c : length ds ≡ a = omega arith in
       let x : DraftHolds t d a (stepCount ds) = rw c at (h .0) in
-      let b : Below t (withOneStep t a n p j q i) a n = step-below a n p j q i in
+      let b : Below t (withOneStep t a n p j q) a n = step-below a n p j q in
       let y : getD (t .counts) a 0 % mostSteps + 1 ≡ suc (length (d .steps)) = omega (arith, x .count) in (
         rw c
             (record {
@@ -338,11 +324,7 @@ module _ (t : SchemaTables) (k : Sized t) where
               accepting = x .accepting;
               count = getD-set-same (t .counts) a (getD (t .counts) a 0 % mostSteps + 1) 0 (omega (arith, k .counts)) ∙ y;
               steps =
-                  rw (← f) (
-                    step-stands n p j q m,
-                    getD-set-same (t .places) n i 0 (omega (arith, k .places)),
-                    steps-below b (d .steps) (stepCount ds) (omega arith) (x .steps),
-                  );
+                  rw (← f) (step-stands n p j q m, steps-below b (d .steps) (stepCount ds) (omega arith) (x .steps));
             }),
         blocks-below b ds (omega arith) (omega arith) (h .1),
       )

@@ -1,14 +1,11 @@
 -- What the private steps over the commands compute: the progress and the tables after each command, and what is read from them.
-use mathlib.Core.Path.{_≡_}
 use mathlib.Core.Bool.{Bool, false, cond, _&&_, _||_}
-use mathlib.Core.List.{List, [], _∷_}
-use Prim.Native.Nat.{ℕ, zero, suc, _+_, _-_, _%_}
-use lib.Dec.{leb, ltb}
+use mathlib.Core.List.{List}
+use Prim.Native.Nat.{ℕ, zero, suc, _+_, _-_, _%_, min}
+use lib.Dec.{leb}
 use lib.ListN.{getD, set}
 use Rattle.sdtd.specs.Limits.{mostTypes, mostSteps}
 use Rattle.sdtd.specs.Numbered.{typeNo}
-use Rattle.sdtd.specs.Answer.{Ordered, fine, refused-at, verdictIn}
-use Rattle.sdtd.specs.declared.Verdict.{Verdict}
 use Rattle.schema.specs.States.{insert}
 use Rattle.schema.specs.Value.{stepAt}
 use Rattle.schema.specs.declared.state_set.StateSet.{StateSet}
@@ -16,7 +13,7 @@ use Rattle.schema.specs.declared.value.Schema.{Schema}
 use Rattle.command.specs.Cases.{onType, onFinal, onStep}
 use Rattle.command.specs.declared.Command.{Command}
 use Rattle.command.specs.declared.Command.the-variants.{Tags, TypeBlock, Final, Step, Root, Done, NoCommand}
-use Rattle.commands.specs.File.{sameStep, knownAsked}
+use Rattle.commands.specs.File.{sameStep}
 use Rattle.commands.specs.declared.progress.Phase.the-variants.{BeforeTags, BeforeTypes, InBlock, AfterRoot, AfterDone}
 use Rattle.commands.specs.declared.progress.Progress.{Progress}
 use Rattle.commands.specs.declared.questions.Seen.{Seen}
@@ -89,18 +86,14 @@ byAfter steps l c = onStep (λ p j q. set l (steps % mostSteps) j) l c
 abbrev pub toAfter : ℕ → List ℕ → Command → List ℕ
 toAfter steps l c = onStep (λ p j q. set l (steps % mostSteps) q) l c
 
-abbrev pub placesAfter : ℕ → ℕ → List ℕ → Command → List ℕ
-placesAfter steps i l c = onStep (λ p j q. set l (steps % mostSteps) i) l c
+-- of each type the least place of the STEPs that name it
+abbrev pub placesAfter : ℕ → List ℕ → Command → List ℕ
+placesAfter i l c = onStep (λ p j q. set l (j % mostTypes) (min (getD l (j % mostTypes) 0) i)) l c
 
--- the places of those of the n steps from i on that name no type below the count
-unfoldable pub unknownAt : List ℕ → List ℕ → ℕ → ℕ → ℕ → List ℕ
-unknownAt by places types i zero = []
-unknownAt by places types i (suc n) =
-    cond (ltb (getD by i 0) types) (unknownAt by places types (suc i) n) (getD places i 0 ∷ unknownAt by places types (suc i) n)
-
--- question 7, by the places of the steps that name no given type
-abbrev pub KnownVerdict : List ℕ → Verdict → Type 0
-KnownVerdict places r = Ordered (knownAsked (λ p. verdictIn (refused-at 7 p)) places ∷ []) (λ v. v ≡ verdictIn fine) r
+-- the least of `none` and the places of the n types from k on
+unfoldable pub leastFrom : List ℕ → ℕ → ℕ → ℕ → ℕ
+leastFrom places none k zero = none
+leastFrom places none k (suc n) = min (getD places k 0) (leastFrom places none (suc k) n)
 
 -- the schema value of the tables
 abbrev pub valueOf : Progress → List ℕ → List ℕ → List ℕ → List ℕ → List ℕ → List ℕ → List ℕ → Schema

@@ -9,6 +9,7 @@ use crate::tables::add_final;
 use crate::tables::add_place;
 use crate::tables::add_step;
 use crate::tables::add_type;
+use crate::tables::earlier;
 use crate::tables::given_already;
 use crate::tables::last_type;
 use command::command_at;
@@ -20,12 +21,12 @@ use schema::TYPES;
 use sdtd::TypeNo;
 use sdtd::Verdict;
 ghost use mathlib.Core.Path.{_≡_};
-ghost use Prim.Native.Nat.{_≤_};
-ghost use Rattle.sdtd.specs.Limits.{mostSteps};
+ghost use Prim.Native.Nat.{_-_};
+ghost use Rattle.sdtd.specs.Limits.{mostTypes};
 ghost use Rattle.commands.specs.File.{commands};
 ghost use Rattle.commands.specs.Value.{noSchema};
 ghost use Rattle.commands.specs.Answer.{stoppedAt, CommandsBy};
-ghost use Rattle.commands.specs.Progress.{unknownAt, KnownVerdict, valueOf};
+ghost use Rattle.commands.specs.Progress.{leastFrom, valueOf};
 
 // The verdict, and beside it the schema stated; beside a refusal, the value of no schema.
 pub struct StatedSchema {
@@ -79,25 +80,17 @@ fn schema_of(
     }
 }
 
-// Question 7, at the first of the steps that names no given type.
-fn first_unknown<'a>(
-    by: &'a [u8; STEPS],
-    places: &'a [usize; STEPS],
-    types: u8,
-    count: usize,
-) -> Verdict
-    requires { ⌜ count ≤ mostSteps ⌝ }
-    ensures { λ r. ⌜ KnownVerdict (unknownAt (now (by .entry)) (now (places .entry)) types 0 count) r ⌝ }
+// The first place at which a type from the count on is named, or `none`, which lies behind every place.
+fn first_unknown(places: &[usize; TYPES], types: u8, none: usize) -> usize
+    ensures { λ r. ⌜ r ≡ leastFrom (now (places .entry)) none types (mostTypes - types) ⌝ }
 {
-    let mut i = 0;
-    while i < count {
-        let j = TypeNo(by[i]);
-        if types <= j.0 {
-            return Verdict::RefusedAt(7, places[i]);
-        }
-        i += 1;
+    let mut first = none;
+    let mut k = types as usize;
+    while k < TYPES {
+        first = earlier(first, places[k]);
+        k += 1;
     }
-    Verdict::Fine
+    first
 }
 
 // A refusal, beside it the value of no schema.
@@ -121,7 +114,8 @@ pub fn read_commands(file: &[u8]) -> StatedSchema
     let mut from = [0u8; STEPS];
     let mut by = [0u8; STEPS];
     let mut to = [0u8; STEPS];
-    let mut places = [0usize; STEPS];
+    let none = file.len();
+    let mut places = [none; TYPES];
     let mut progress = nothing_read();
     let mut at = 0;
     while !is_done(progress) {
@@ -136,16 +130,16 @@ pub fn read_commands(file: &[u8]) -> StatedSchema
         add_type(command, progress.types, &mut tag, &mut states);
         add_final(command, progress.types, &mut accepting);
         add_step(command, progress.steps, &mut from, &mut by, &mut to);
-        add_place(command, progress, at, &mut counts, &mut places);
+        add_place(command, progress.types, at, &mut counts, &mut places);
         progress = progress_after(progress, command);
         at += size_of(command);
     }
     if at < file.len() {
         return stopped(3, at);
     }
-    let unknown = first_unknown(&by, &places, progress.types, progress.steps);
-    if let Verdict::RefusedAt(n, p) = unknown {
-        return stopped(n, p);
+    let unknown = first_unknown(&places, progress.types, none);
+    if unknown < none {
+        return stopped(7, unknown);
     }
     StatedSchema {
         verdict: Verdict::Fine,

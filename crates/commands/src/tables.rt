@@ -1,5 +1,4 @@
 // The tables that the commands fill.
-use crate::progress::Progress;
 use crate::progress::TYPE_NUMBERS;
 use command::Command;
 use schema::STEPS;
@@ -7,7 +6,7 @@ use schema::StateSet;
 use schema::TYPES;
 use sdtd::TypeNo;
 ghost use mathlib.Core.Path.{_≡_};
-ghost use Prim.Native.Nat.{_+_, _≤_};
+ghost use Prim.Native.Nat.{_+_, _≤_, min};
 ghost use Rattle.sdtd.specs.Limits.{mostSteps};
 ghost use Rattle.commands.specs.File.{sameStep};
 ghost use Rattle.commands.specs.Progress.{lastType, givenIn, givenLast, givenAlready};
@@ -155,23 +154,34 @@ pub(crate) fn add_step<'a>(
     }
 }
 
-// A STEP's place, and one step more of the last type.
+// The earlier of two places.
+pub(crate) fn earlier(place: usize, other: usize) -> usize
+    ensures { λ r. ⌜ r ≡ min place other ⌝ }
+{
+    if place < other {
+        return place;
+    }
+    other
+}
+
+// One step more of the last type; and the place of the first STEP that names the type that this one names.
 pub(crate) fn add_place<'a>(
     command: Command,
-    progress: Progress,
+    types: u8,
     at: usize,
     counts: &'a mut [u16; TYPES],
-    places: &'a mut [usize; STEPS],
+    places: &'a mut [usize; TYPES],
 )
-    ensures { λ _. ⌜ (now (counts .exit) ≡ countsAfter (progress .types) (now (counts .entry)) command)
-        × (now (places .exit) ≡ placesAfter (progress .steps) at (now (places .entry)) command) ⌝ }
+    ensures { λ _. ⌜ (now (counts .exit) ≡ countsAfter types (now (counts .entry)) command)
+        × (now (places .exit) ≡ placesAfter at (now (places .entry)) command) ⌝ }
 {
-    let last = last_type(progress.types);
-    let next = progress.steps % STEPS;
+    let last = last_type(types);
     match command {
-        Command::Step(_, _, _) => {
+        Command::Step(_, j, _) => {
             counts[last] = counts[last] % MOST_COUNT + 1;
-            places[next] = at;
+            let named = (j.0 % TYPE_NUMBERS) as usize;
+            let first = places[named];
+            places[named] = earlier(first, at);
         }
         _ => {}
     }

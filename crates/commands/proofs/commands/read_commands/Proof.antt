@@ -21,7 +21,7 @@ use Rattle.commands.proofs.commands.read_commands.Statement.{statement}
 use Rattle.commands.proofs.commands.read_commands.Tie as tie
 
 abbrev Inv-loop : tie.InvT-loop
-Inv-loop file tag₀ states₀ accepting₀ counts₀ from₀ by₀ to₀ places₀ progress₀ at₀ tag states accepting counts from by to places progress at =
+Inv-loop file tag₀ states₀ accepting₀ counts₀ from₀ by₀ to₀ none places₀ progress₀ at₀ tag states accepting counts from by to places progress at =
     Reads file at progress
     (record {
       tag = tag;
@@ -31,11 +31,11 @@ Inv-loop file tag₀ states₀ accepting₀ counts₀ from₀ by₀ to₀ places
       from = from;
       by = by;
       to = to;
-      places = places;
     })
+    places
 
 abbrev μ-loop : tie.MeasureT-loop
-μ-loop file tag₀ states₀ accepting₀ counts₀ from₀ by₀ to₀ places₀ progress₀ at₀ tag states accepting counts from by to places progress at =
+μ-loop file tag₀ states₀ accepting₀ counts₀ from₀ by₀ to₀ none places₀ progress₀ at₀ tag states accepting counts from by to places progress at =
     length file - at
 
 -- where the loop's test was made, and where it was reached
@@ -60,7 +60,6 @@ tables c =
       from = l .from;
       by = l .by;
       to = l .to;
-      places = l .places;
     }
 
 -- the command at the place that the loop is at
@@ -113,7 +112,6 @@ loop-holds c =
       from = refl;
       by = refl;
       to = refl;
-      places = refl;
     })
     (record {
       tag = zeros-empty mostTypes;
@@ -146,11 +144,11 @@ given-already-requires c κs = tt
 array-read-seen-of : tie.Need-array-read-seen-of Inv-loop μ-loop
 array-read-seen-of c = omega arith
 
-mul-t26 : tie.Need-mul-t26 Inv-loop μ-loop
-mul-t26 c = omega arith
+mul-t25 : tie.Need-mul-t25 Inv-loop μ-loop
+mul-t25 c = omega arith
 
-array-read-t35 : tie.Need-array-read-t35 Inv-loop μ-loop
-array-read-t35 c = omega arith
+array-read-t34 : tie.Need-array-read-t34 Inv-loop μ-loop
+array-read-t34 c = omega arith
 
 seen-of-requires : tie.Need-seen-of-requires Inv-loop μ-loop
 seen-of-requires c κs = tt
@@ -211,8 +209,8 @@ loop-again c =
       from = step .0 k;
       by = step .1 k;
       to = step .2 k;
-      places = place .1 k;
     })
+    (place .1)
 
 stopped-requires-2 : tie.Need-stopped-requires-2 Inv-loop μ-loop
 stopped-requires-2 c κs = tt
@@ -223,10 +221,7 @@ returns-2 c =
     answer-stopped _ _ (reads-over (e1 .before .before .loop .inv) (done e1) (c .before .if3 .taken)) (c .stopped2 .ensures)
 
 first-unknown-requires : tie.Need-first-unknown-requires Inv-loop μ-loop
-first-unknown-requires c κs = c .before .before .before .before .before .loop .inv .holds .steps-most
-
-enum-known-unknown : tie.Need-enum-known-unknown Inv-loop μ-loop
-enum-known-unknown c = search needs
+first-unknown-requires c κs = tt
 
 stopped-requires-3 : tie.Need-stopped-requires-3 Inv-loop μ-loop
 stopped-requires-3 c κs = tt
@@ -234,23 +229,19 @@ stopped-requires-3 c κs = tt
 returns-3 : tie.Need-returns-3 Inv-loop μ-loop
 returns-3 c =
     let u = c .before .before in
-    let f = u .before .before in
-    let e3 = f .before .before .before in
+    let e3 = u .before .before in
     let e1 = e3 .before in
-    answer-unknown (e1 .before .before .loop .inv) (done e1) (e3 .if3 .left) _ (f .first-unknown .ensures) (u .unknown .given .1) (c .stopped3 .ensures)
-
-enum-told : tie.Need-enum-told Inv-loop μ-loop
-enum-told c = search needs
+    answer-unknown (e1 .before .before .loop .inv) (done e1) (e3 .if3 .left) _ (u .first-unknown .ensures) (c .before .if4 .taken) (c .stopped3 .ensures)
 
 schema-of-requires : tie.Need-schema-of-requires Inv-loop μ-loop
 schema-of-requires c κs = tt
 
 returns-4 : tie.Need-returns-4 Inv-loop μ-loop
 returns-4 c =
-    let f = c .before .before .before in
-    let e3 = f .before .before .before in
+    let u = c .before .before in
+    let e3 = u .before .before in
     let e1 = e3 .before in
-    answer-known (e1 .before .before .loop .inv) (done e1) (e3 .if3 .left) _ (f .first-unknown .ensures) (c .before .enum-told .given .1) refl
+    answer-known (e1 .before .before .loop .inv) (done e1) (e3 .if3 .left) _ (u .first-unknown .ensures) (c .before .if4 .left) refl
     (c .schema-of .ensures)
 
 pub read-commands-spec : {M : Type 1} → statement M
@@ -268,8 +259,8 @@ read-commands-spec =
     array-read-given-already
     given-already-requires
     array-read-seen-of
-    mul-t26
-    array-read-t35
+    mul-t25
+    array-read-t34
     seen-of-requires
     failed-by-requires
     stopped-requires
@@ -286,9 +277,7 @@ read-commands-spec =
     stopped-requires-2
     returns-2
     first-unknown-requires
-    enum-known-unknown
     stopped-requires-3
     returns-3
-    enum-told
     schema-of-requires
     returns-4)
