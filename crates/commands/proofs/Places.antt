@@ -21,7 +21,7 @@ use Rattle.commands.specs.declared.progress.Phase.the-variants.{InBlock}
 use Rattle.commands.specs.Progress.{placesAfter, leastFrom}
 use Rattle.commands.proofs.Passing.{Passed}
 
--- the least is at most `none`
+-- `leastFrom` is at most `none`
 pub least-most : (l : List ℕ) (none k n : ℕ) → leastFrom l none k n ≤ none
 unfolding leastFrom
 least-most l none k zero = omega arith
@@ -40,7 +40,7 @@ module _ (l : List ℕ) (none j v : ℕ) where
   least-below k zero b = refl
   least-below k (suc n) b = rw (getD-set-other l j k v 0 (omega arith), least-below (suc k) n (omega arith))
 
--- the place i of one of the types, where it is earlier
+-- the place i, where it is earlier, of a type among those from k on
 module _ (l : List ℕ) (none j i : ℕ) (in-table : j < length l) where
   least-named : (k n : ℕ) → k ≤ j → j < k + n
       → leastFrom (set l j (min (getD l j 0) i)) none k n ≡ min (leastFrom l none k n) i
@@ -54,7 +54,7 @@ module _ (l : List ℕ) (none j i : ℕ) (in-table : j < length l) where
         rw (e, getD-set-same l j v 0 in-table, least-below l none j v (suc j) n (omega arith)) (omega arith)
   ]
 
--- p is the first of the places, which lies before i; `none` where there is no place
+-- p is the first of the places and lies before i; where there is none, p is `none`
 abbrev FirstIs : ℕ → ℕ → List ℕ → ℕ → Type 0
 FirstIs none i [] p = p ≡ none
 FirstIs none i (u ∷ us) p = (p ≡ u) × (u < i)
@@ -101,7 +101,8 @@ module _ {bs : List Draft} {none i m : ℕ} {places : List ℕ} (h : PlacesHold 
 
   -- a STEP at the place i that names the type j
   step-places : (p j q : ℕ) → 0 < length bs → j < mostTypes → i < none
-      → PlacesHold (withStep (record { step = step p j q; place = i }) bs) none m (set places (j % mostTypes) (min (getD places (j % mostTypes) 0) i))
+      → PlacesHold (withStep (record { step = step p j q; place = i }) bs) none m
+      (set places (j % mostTypes) (min (getD places (j % mostTypes) 0) i))
   step-places p j q some l b =
       let n : j % mostTypes ≡ j = omega arith in
       let v = min (getD places j 0) i in

@@ -104,6 +104,7 @@ fn stopped(number: u8, place: usize) -> StatedSchema
 }
 
 // Questions 2 to 7 of a file: each command in order, up to DONE and the end of the file; then the steps' types.
+// `places` holds for each type the place of the first STEP that names it, or `none`, the file's length.
 pub fn read_commands(file: &[u8]) -> StatedSchema
     ensures { λ r. ⌜ CommandsBy (commands (now (file .entry))) r ⌝ }
 {

@@ -1,6 +1,6 @@
 -- `commands::commands::first_unknown` meets its contract. The loop's invariant: the earlier of the place so far and the least of those left is
 -- the least of all.
-use mathlib.Core.Path.{_≡_, sym, _∙_}
+use mathlib.Core.Path.{_≡_, _∙_}
 use mathlib.Core.List.{List}
 use Prim.Native.Nat.{ℕ, suc, _+_, _-_, _≤_, _<_, min}
 use native.Mathlib.Numerals.{add-one}
@@ -15,7 +15,8 @@ use Rattle.commands.proofs.commands.first_unknown.Tie as tie
 
 module _ (places : List ℕ) (none first k : ℕ) where
   later : k < mostTypes
-      → min (min first (getD places k 0)) (leastFrom places none (k + 1) (mostTypes - (k + 1))) ≡ min first (leastFrom places none k (mostTypes - k))
+      → min (min first (getD places k 0)) (leastFrom places none (k + 1) (mostTypes - (k + 1)))
+      ≡ min first (leastFrom places none k (mostTypes - k))
   unfolding leastFrom
   later l =
       let e : mostTypes - k ≡ suc (mostTypes - (k + 1)) = omega arith in

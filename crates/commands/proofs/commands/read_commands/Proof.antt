@@ -6,7 +6,6 @@ use Prim.Native.Nat.{_+_, _-_, _≤_, _<_}
 use native.Mathlib.Omega.{arith}
 use lib.ListN.{length}
 use borrow.Author.Tests.{not-true, not-false}
-use borrow.Author.Needs.{needs}
 use Rattle.sdtd.specs.Limits.{mostTypes, mostSteps}
 use Rattle.commands.proofs.SchemaTables.{SchemaTables}
 use Rattle.command.specs.Command.{commandAt}
