@@ -18,7 +18,7 @@ use Rattle.commands.specs.Questions.{samePhase, failed}
 use Rattle.commands.specs.File.{Stated, nothingStated, seenOf, after, Commands, stopped, states, commandsFrom, commands}
 use Rattle.commands.specs.Value.{StatedValue}
 use Rattle.commands.specs.Answer.{stoppedAt, CommandsBy}
-use Rattle.commands.specs.Progress.{nothingRead, progressAfter, seenBy, lastType, givenAlready, placesAfter, leastFrom}
+use Rattle.commands.specs.Progress.{nothingRead, progressAfter, seenBy, lastType, givenAlready, placesAfter, boundAfter, leastFrom}
 use Rattle.commands.proofs.SchemaTables.{SchemaTables}
 use Rattle.commands.specs.declared.commands.StatedSchema.{StatedSchema}
 use Rattle.commands.specs.declared.progress.Phase.the-variants.{AfterDone}
@@ -51,15 +51,15 @@ module _ (fuel : ℕ) (file : List ℕ) (i : ℕ) (g : Stated) where
   unfolding commandsFrom
   ends p l = rw (p, le-leb (length file) i l)
 
--- At the place i the progress, the tables and the places hold what the commands before it state, and the commands from there on decide.
-pub record Reads (file : List ℕ) (i : ℕ) (s : Progress) (t : SchemaTables) (places : List ℕ) : Type 0 where
+-- At the place i the progress, the tables, the places and the bound hold what the commands before it state, and the commands from there on decide.
+pub record Reads (file : List ℕ) (i : ℕ) (s : Progress) (t : SchemaTables) (places : List ℕ) (bound : ℕ) : Type 0 where
   pub stated : Stated
   pub holds : Holds stated s t
-  pub named : PlacesHold (stated .blocks) (length file) i places
+  pub named : PlacesHold (stated .blocks) (length file) i places bound
   pub rest : commandsFrom (suc (length file - i)) file i stated ≡ commands file
   pub within : i ≤ length file
 
-pub reads-first : (file : List ℕ) {t : SchemaTables} → Sized t → EmptyPast t 0 0 → Reads file 0 nothingRead t (replicate mostTypes (length file))
+pub reads-first : (file : List ℕ) {t : SchemaTables} → Sized t → EmptyPast t 0 0 → Reads file 0 nothingRead t (replicate mostTypes (length file)) 0
 unfolding commands
 reads-first file k z =
     let e : length file - 0 ≡ length file = omega arith in
@@ -83,7 +83,7 @@ pub answer-stopped : (file : List ℕ) (r : StatedSchema) {n p : ℕ} → comman
     → CommandsBy (commands file) r
 answer-stopped file r e s = subst (λ (k : Commands). CommandsBy k r) (sym e) s
 
-module _ {file : List ℕ} {i : ℕ} {s : Progress} {t : SchemaTables} {places : List ℕ} (r : Reads file i s t places) where
+module _ {file : List ℕ} {i : ℕ} {s : Progress} {t : SchemaTables} {places : List ℕ} {bound : ℕ} (r : Reads file i s t places bound) where
   -- before DONE
   module _ (more : samePhase (s .phase) AfterDone ≡ false) where
     not-done : samePhase (r .stated .phase) AfterDone ≡ false
@@ -107,13 +107,13 @@ module _ {file : List ℕ} {i : ℕ} {s : Progress} {t : SchemaTables} {places :
           let ends = subst (λ (d : Command). T (isCommand d) → i + size d ≤ length file) (sym command) (command-in-file file i) in
           rw bytes (ends k, size-some c k)
 
-      pub reads-next : {s′ : Progress} {t′ : SchemaTables} {places′ : List ℕ} → s′ ≡ progressAfter s c → t′ ≡ tablesAfter s t c
-          → places′ ≡ placesAfter i places c → Reads file (i + n) s′ t′ places′
-      reads-next state tables named =
+      pub reads-next : {s′ : Progress} {t′ : SchemaTables} {places′ : List ℕ} {bound′ : ℕ} → s′ ≡ progressAfter s c → t′ ≡ tablesAfter s t c
+          → places′ ≡ placesAfter i places c → bound′ ≡ boundAfter bound c → Reads file (i + n) s′ t′ places′ bound′
+      reads-next state tables named above =
           let j = i + size c in
           let h : (j ≤ length file) × (0 < size c) = rw bytes at reads-in-file in
           let left : length file - j < length file - i = omega arith in
-          rw (bytes, state, tables, named)
+          rw (bytes, state, tables, named, above)
           (record {
             stated = after (r .stated) i c;
             holds = after-holds (r .holds) i c none-failed;
@@ -138,8 +138,8 @@ module _ {file : List ℕ} {i : ℕ} {s : Progress} {t : SchemaTables} {places :
       answered k = subst (λ (c : Commands). CommandsBy c a) (sym (ends (length file - i) file i (r .stated) is-done end) ∙ r .rest) k
 
       -- question 7, by the least place of the types not given
-      module _ {p : ℕ} (least : p ≡ leastFrom places (length file) (s .types) (mostTypes - s .types)) where
-        least-stated : let n = length (r .stated .blocks) in p ≡ leastFrom places (length file) n (mostTypes - n)
+      module _ {p : ℕ} (least : p ≡ leastFrom places (length file) (s .types) (bound - s .types)) where
+        least-stated : let n = length (r .stated .blocks) in p ≡ leastFrom places (length file) n (bound - n)
         least-stated = rw (← r .holds .types) least
 
         pub answer-unknown : p < length file → a ≡ stoppedAt 7 p → CommandsBy (commands file) a

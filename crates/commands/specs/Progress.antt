@@ -1,7 +1,7 @@
 -- What the private steps over the commands compute: the progress and the tables after each command, and what is read from them.
 use mathlib.Core.Bool.{Bool, false, cond, _&&_, _||_}
 use mathlib.Core.List.{List}
-use Prim.Native.Nat.{ℕ, zero, suc, _+_, _-_, _%_, min}
+use Prim.Native.Nat.{ℕ, zero, suc, _+_, _-_, _%_, min, max}
 use lib.Dec.{leb}
 use lib.ListN.{getD, set}
 use Rattle.sdtd.specs.Limits.{mostTypes, mostSteps}
@@ -89,6 +89,10 @@ toAfter steps l c = onStep (λ p j q. set l (steps % mostSteps) q) l c
 -- of each type the least place of the STEPs that name it
 abbrev pub placesAfter : ℕ → List ℕ → Command → List ℕ
 placesAfter i l c = onStep (λ p j q. set l (j % mostTypes) (min (getD l (j % mostTypes) 0) i)) l c
+
+-- the bound above each type that a STEP names
+abbrev pub boundAfter : ℕ → Command → ℕ
+boundAfter bound c = onStep (λ p j q. max bound (j % mostTypes + 1)) bound c
 
 -- the least of `none` and the places of the n types from k on
 unfoldable pub leastFrom : List ℕ → ℕ → ℕ → ℕ → ℕ

@@ -9,6 +9,7 @@ use crate::tables::add_final;
 use crate::tables::add_place;
 use crate::tables::add_step;
 use crate::tables::add_type;
+use crate::tables::bound_after;
 use crate::tables::earlier;
 use crate::tables::given_already;
 use crate::tables::last_type;
@@ -21,7 +22,7 @@ use schema::TYPES;
 use sdtd::TypeNo;
 use sdtd::Verdict;
 ghost use mathlib.Core.Path.{_≡_};
-ghost use Prim.Native.Nat.{_-_};
+ghost use Prim.Native.Nat.{_-_, _≤_};
 ghost use Rattle.sdtd.specs.Limits.{mostTypes};
 ghost use Rattle.commands.specs.File.{commands};
 ghost use Rattle.commands.specs.Value.{noSchema};
@@ -80,13 +81,14 @@ fn schema_of(
     }
 }
 
-// The first place at which a type from the count on is named, or `none`, which lies behind every place.
-fn first_unknown(places: &[usize; TYPES], types: u8, none: usize) -> usize
-    ensures { λ r. ⌜ r ≡ leastFrom (now (places .entry)) none types (mostTypes - types) ⌝ }
+// The first place at which one of the types from the count on and below the bound is named, or `none`, which lies behind every place.
+fn first_unknown(places: &[usize; TYPES], types: u8, bound: usize, none: usize) -> usize
+    requires { ⌜ bound ≤ mostTypes ⌝ }
+    ensures { λ r. ⌜ r ≡ leastFrom (now (places .entry)) none types (bound - types) ⌝ }
 {
     let mut first = none;
     let mut k = types as usize;
-    while k < TYPES {
+    while k < bound {
         first = earlier(first, places[k]);
         k += 1;
     }
@@ -104,7 +106,8 @@ fn stopped(number: u8, place: usize) -> StatedSchema
 }
 
 // Questions 2 to 7 of a file: each command in order, up to DONE and the end of the file; then the steps' types.
-// `places` holds for each type the place of the first STEP that names it, or `none`, the file's length.
+// `places` holds for each type the place of the first STEP that names it, or `none`, the file's length; `bound` lies above
+// each type that a STEP names.
 pub fn read_commands(file: &[u8]) -> StatedSchema
     ensures { λ r. ⌜ CommandsBy (commands (now (file .entry))) r ⌝ }
 {
@@ -117,6 +120,7 @@ pub fn read_commands(file: &[u8]) -> StatedSchema
     let mut to = [0u8; STEPS];
     let none = file.len();
     let mut places = [none; TYPES];
+    let mut bound = 0;
     let mut progress = nothing_read();
     let mut at = 0;
     while !is_done(progress) {
@@ -132,13 +136,14 @@ pub fn read_commands(file: &[u8]) -> StatedSchema
         add_final(command, progress.types, &mut accepting);
         add_step(command, progress.steps, &mut from, &mut by, &mut to);
         add_place(command, progress.types, at, &mut counts, &mut places);
+        bound = bound_after(command, bound);
         progress = progress_after(progress, command);
         at += size_of(command);
     }
     if at < file.len() {
         return stopped(3, at);
     }
-    let unknown = first_unknown(&places, progress.types, none);
+    let unknown = first_unknown(&places, progress.types, bound, none);
     if unknown < none {
         return stopped(7, unknown);
     }

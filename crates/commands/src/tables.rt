@@ -11,7 +11,7 @@ ghost use Rattle.sdtd.specs.Limits.{mostSteps};
 ghost use Rattle.commands.specs.File.{sameStep};
 ghost use Rattle.commands.specs.Progress.{lastType, givenIn, givenLast, givenAlready};
 ghost use Rattle.commands.specs.Progress.{tagAfter, statesAfter, acceptingAfter, countsAfter};
-ghost use Rattle.commands.specs.Progress.{fromAfter, byAfter, toAfter, placesAfter};
+ghost use Rattle.commands.specs.Progress.{fromAfter, byAfter, toAfter, placesAfter, boundAfter};
 
 // the most steps, as a type's count of them
 const MOST_COUNT: u16 = STEPS as u16;
@@ -184,5 +184,21 @@ pub(crate) fn add_place<'a>(
             places[named] = earlier(first, at);
         }
         _ => {}
+    }
+}
+
+// The least number that is above each type that a STEP names.
+pub(crate) fn bound_after(command: Command, bound: usize) -> usize
+    ensures { λ r. ⌜ r ≡ boundAfter bound command ⌝ }
+{
+    match command {
+        Command::Step(_, j, _) => {
+            let above = (j.0 % TYPE_NUMBERS) as usize + 1;
+            if above < bound {
+                return bound;
+            }
+            above
+        }
+        _ => bound,
     }
 }

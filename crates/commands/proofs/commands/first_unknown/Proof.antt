@@ -7,38 +7,37 @@ use native.Mathlib.Numerals.{add-one}
 use native.Mathlib.Omega.{arith}
 use borrow.Author.Needs.{needs}
 use lib.ListN.{getD}
-use Rattle.sdtd.specs.Limits.{mostTypes}
 use Rattle.commands.specs.Progress.{leastFrom}
 use Rattle.commands.proofs.Places.{least-most}
 use Rattle.commands.proofs.commands.first_unknown.Statement.{statement}
 use Rattle.commands.proofs.commands.first_unknown.Tie as tie
 
-module _ (places : List ℕ) (none first k : ℕ) where
-  later : k < mostTypes
-      → min (min first (getD places k 0)) (leastFrom places none (k + 1) (mostTypes - (k + 1)))
-      ≡ min first (leastFrom places none k (mostTypes - k))
+module _ (places : List ℕ) (bound none first k : ℕ) where
+  later : k < bound
+      → min (min first (getD places k 0)) (leastFrom places none (k + 1) (bound - (k + 1)))
+      ≡ min first (leastFrom places none k (bound - k))
   unfolding leastFrom
   later l =
-      let e : mostTypes - k ≡ suc (mostTypes - (k + 1)) = omega arith in
+      let e : bound - k ≡ suc (bound - (k + 1)) = omega arith in
       rw (e, add-one k) (omega arith)
 
-  none-left : mostTypes ≤ k → first ≤ none → first ≡ min first (leastFrom places none k (mostTypes - k))
+  none-left : bound ≤ k → first ≤ none → first ≡ min first (leastFrom places none k (bound - k))
   unfolding leastFrom
   none-left l b =
-      let e : mostTypes - k ≡ 0 = omega arith in
+      let e : bound - k ≡ 0 = omega arith in
       rw e (omega arith)
 
 abbrev Inv-loop : tie.InvT-loop
-Inv-loop places types none first₀ k₀ first k =
-    (first ≤ none) × (min first (leastFrom places none k (mostTypes - k)) ≡ leastFrom places none types (mostTypes - types))
+Inv-loop places types bound none first₀ k₀ first k =
+    (first ≤ none) × (min first (leastFrom places none k (bound - k)) ≡ leastFrom places none types (bound - types))
 
 abbrev μ-loop : tie.MeasureT-loop
-μ-loop places types none first₀ k₀ first k = mostTypes - k
+μ-loop places types bound none first₀ k₀ first k = bound - k
 
 loop-holds : tie.Need-loop-holds Inv-loop μ-loop
 loop-holds c =
     let a = c .args in
-    (omega arith, omega (arith, least-most (a .places .now) (a .none) (a .types) (mostTypes - a .types)))
+    (omega arith, omega (arith, least-most (a .places .now) (a .none) (a .types) (a .bound - a .types)))
 
 mul-earlier : tie.Need-mul-earlier Inv-loop μ-loop
 mul-earlier c = omega arith
@@ -58,12 +57,12 @@ loop-less c = omega arith
 loop-again : tie.Need-loop-again Inv-loop μ-loop
 loop-again c =
     let l = c .before .before .before .loop in
-    rw (c .earlier .ensures) (omega arith, later _ _ (l .first) (l .k) (omega arith) ∙ l .inv .1)
+    rw (c .earlier .ensures) (omega arith, later _ _ _ (l .first) (l .k) (omega arith) ∙ l .inv .1)
 
 returns : tie.Need-returns Inv-loop μ-loop
 returns c =
     let l = c .before .loop in
-    none-left _ _ (l .first) (l .k) (omega arith) (l .inv .0) ∙ l .inv .1
+    none-left _ _ _ (l .first) (l .k) (omega arith) (l .inv .0) ∙ l .inv .1
 
 pub first-unknown-spec : {M : Type 1} → statement M
 first-unknown-spec =

@@ -20,7 +20,7 @@ use Rattle.commands.proofs.commands.read_commands.Statement.{statement}
 use Rattle.commands.proofs.commands.read_commands.Tie as tie
 
 abbrev Inv-loop : tie.InvT-loop
-Inv-loop file tag₀ states₀ accepting₀ counts₀ from₀ by₀ to₀ none places₀ progress₀ at₀ tag states accepting counts from by to places progress at =
+Inv-loop file tag₀ states₀ accepting₀ counts₀ from₀ by₀ to₀ none places₀ bound₀ progress₀ at₀ tag states accepting counts from by to places bound progress at =
     Reads file at progress
     (record {
       tag = tag;
@@ -31,10 +31,10 @@ Inv-loop file tag₀ states₀ accepting₀ counts₀ from₀ by₀ to₀ none p
       by = by;
       to = to;
     })
-    places
+    places bound
 
 abbrev μ-loop : tie.MeasureT-loop
-μ-loop file tag₀ states₀ accepting₀ counts₀ from₀ by₀ to₀ none places₀ progress₀ at₀ tag states accepting counts from by to places progress at =
+μ-loop file tag₀ states₀ accepting₀ counts₀ from₀ by₀ to₀ none places₀ bound₀ progress₀ at₀ tag states accepting counts from by to places bound progress at =
     length file - at
 
 -- where the loop's test was made, and where it was reached
@@ -46,7 +46,7 @@ at-loop c = turn c .before .before
 
 -- where the command had passed
 abbrev passing : tie.After-size-of Inv-loop μ-loop → tie.Else2 Inv-loop μ-loop
-passing c = c .before .before .before .before .before .before .before .before .before .before .before .before .before .before
+passing c = c .before .before .before .before .before .before .before .before .before .before .before .before .before .before .before
 
 abbrev tables : tie.At-loop Inv-loop μ-loop → SchemaTables
 tables c =
@@ -143,11 +143,11 @@ given-already-requires c κs = tt
 array-read-seen-of : tie.Need-array-read-seen-of Inv-loop μ-loop
 array-read-seen-of c = omega arith
 
-mul-t25 : tie.Need-mul-t25 Inv-loop μ-loop
-mul-t25 c = omega arith
+mul-t26 : tie.Need-mul-t26 Inv-loop μ-loop
+mul-t26 c = omega arith
 
-array-read-t34 : tie.Need-array-read-t34 Inv-loop μ-loop
-array-read-t34 c = omega arith
+array-read-t35 : tie.Need-array-read-t35 Inv-loop μ-loop
+array-read-t35 c = omega arith
 
 seen-of-requires : tie.Need-seen-of-requires Inv-loop μ-loop
 seen-of-requires c κs = tt
@@ -175,6 +175,9 @@ add-step-requires c κs = tt
 add-place-requires : tie.Need-add-place-requires Inv-loop μ-loop
 add-place-requires c κs = tt
 
+bound-after-requires : tie.Need-bound-after-requires Inv-loop μ-loop
+bound-after-requires c κs = tt
+
 progress-after-requires : tie.Need-progress-after-requires Inv-loop μ-loop
 progress-after-requires c κs = tt
 
@@ -193,10 +196,10 @@ loop-less c = omega (arith, in-file c)
 loop-again : tie.Need-loop-again Inv-loop μ-loop
 loop-again c =
     let a = passing c .before in
-    let place = c .before .before .add-place .ensures in
-    let step = c .before .before .before .before .before .add-step .ensures in
-    let final = c .before .before .before .before .before .before .before .before .before .add-final .ensures in
-    let type = c .before .before .before .before .before .before .before .before .before .before .before .add-type .ensures in
+    let place = c .before .before .before .add-place .ensures in
+    let step = c .before .before .before .before .before .before .add-step .ensures in
+    let final = c .before .before .before .before .before .before .before .before .before .before .add-final .ensures in
+    let type = c .before .before .before .before .before .before .before .before .before .before .before .before .add-type .ensures in
     reads-next (at-loop a .loop .inv) (more (turn a)) (command a) (passed (passing c)) (c .size-of .ensures)
     (c .before .progress-after .ensures)
     (λ k.
@@ -209,7 +212,7 @@ loop-again c =
       by = step .1 k;
       to = step .2 k;
     })
-    (place .1)
+    (place .1) (c .before .before .bound-after .ensures)
 
 stopped-requires-2 : tie.Need-stopped-requires-2 Inv-loop μ-loop
 stopped-requires-2 c κs = tt
@@ -220,7 +223,7 @@ returns-2 c =
     answer-stopped _ _ (reads-over (e1 .before .before .loop .inv) (done e1) (c .before .if3 .taken)) (c .stopped2 .ensures)
 
 first-unknown-requires : tie.Need-first-unknown-requires Inv-loop μ-loop
-first-unknown-requires c κs = tt
+first-unknown-requires c κs = c .before .before .before .before .loop .inv .named .bound-most
 
 stopped-requires-3 : tie.Need-stopped-requires-3 Inv-loop μ-loop
 stopped-requires-3 c κs = tt
@@ -258,8 +261,8 @@ read-commands-spec =
     array-read-given-already
     given-already-requires
     array-read-seen-of
-    mul-t25
-    array-read-t34
+    mul-t26
+    array-read-t35
     seen-of-requires
     failed-by-requires
     stopped-requires
@@ -268,6 +271,7 @@ read-commands-spec =
     add-final-requires
     add-step-requires
     add-place-requires
+    bound-after-requires
     progress-after-requires
     size-of-requires
     add-at
