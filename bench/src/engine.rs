@@ -1,23 +1,24 @@
 //! The proved engine's calls: those on values in libengine_bench.a, and the schema file's in
 //! libtypestock_c.a. The values lie in memory as the plain implementation has them.
-use plain::limits::{Tag, Type, WITNESS};
-use plain::{Answer, Answered, EventAnswer, Reading, Schema, SchemaAnswer, Trimming};
+use plain::limits::{MOST_TYPES, Tag, Type, WITNESS};
+use plain::{Answer, Answered, EventAnswer, Reading, Schema, SchemaAnswer, States};
 use std::mem::{offset_of, size_of};
 
-/// A trimming, and whether the schema is inside the limits; if not, the trimming is empty.
-#[derive(PartialEq)]
+/// Whether a schema is inside the limits, and its trimming's tables; if it is not, they are empty.
 #[repr(C)]
 pub struct Trimmed {
     pub inside: bool,
-    pub trimming: Trimming,
+    pub live: [States; MOST_TYPES],
+    pub bears: [bool; MOST_TYPES],
+    pub reached: [bool; MOST_TYPES],
 }
 
 // The layouts that the exports have: C's, of the fields in the engine's order.
 const _: () = {
     assert!(size_of::<Schema>() == 3588 && offset_of!(Schema, accepting) == 132);
     assert!(offset_of!(Schema, steps) == 388 && offset_of!(Schema, from) == 516);
-    assert!(size_of::<Trimmed>() == 388 && offset_of!(Trimmed, trimming) == 4);
-    assert!(offset_of!(Trimming, bears) == 256 && offset_of!(Trimming, reached) == 320);
+    assert!(size_of::<Trimmed>() == 388 && offset_of!(Trimmed, live) == 4);
+    assert!(offset_of!(Trimmed, bears) == 260 && offset_of!(Trimmed, reached) == 324);
     assert!(size_of::<Reading>() == 324 && offset_of!(Reading, sets) == 68);
     assert!(size_of::<Answer>() == 2 && size_of::<Answered>() == 328);
     assert!(offset_of!(Answered, reading) == 4);

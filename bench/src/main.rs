@@ -9,6 +9,7 @@ mod relaxng;
 mod schema;
 mod schema_file;
 mod schemas;
+mod witness;
 
 use std::process::ExitCode;
 

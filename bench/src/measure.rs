@@ -32,15 +32,48 @@ const MOST: usize = 200;
 const LEAST: usize = 20;
 const ROW: Duration = Duration::from_millis(900);
 
-/// The highest ratio that is asked of an event file.
-pub const RATIO: f64 = 1.3;
+/// What is asked of a row: the most microseconds of the proved call, and its highest ratio to the first contender beside it.
+#[derive(Clone, Copy, Default)]
+pub struct Asked {
+    pub microseconds: Option<f64>,
+    pub ratio: Option<f64>,
+}
 
-/// What is asked of a row.
-#[derive(Clone, Copy)]
-pub enum Asked {
-    Nothing,
-    Microseconds(f64),
-    Ratio(f64),
+impl Asked {
+    pub const NOTHING: Asked = Asked {
+        microseconds: None,
+        ratio: None,
+    };
+
+    pub const fn microseconds(most: f64) -> Asked {
+        Asked {
+            microseconds: Some(most),
+            ratio: None,
+        }
+    }
+
+    pub const fn ratio(most: f64) -> Asked {
+        Asked {
+            microseconds: None,
+            ratio: Some(most),
+        }
+    }
+
+    fn met(self, microseconds: f64, ratio: f64) -> bool {
+        self.microseconds.is_none_or(|most| microseconds <= most)
+            && self.ratio.is_none_or(|most| ratio <= most)
+    }
+
+    /// What a row says of it.
+    fn text(self) -> String {
+        let microseconds = self.microseconds.map(figure);
+        let ratio = self.ratio.map(|most| format!("ratio {most}"));
+        let all: Vec<String> = microseconds.into_iter().chain(ratio).collect();
+        if all.is_empty() {
+            return String::new();
+        }
+        format!("  asked {}", all.join(", "))
+    }
 }
 
 pub type Call<'a> = &'a mut dyn FnMut();
@@ -119,29 +152,25 @@ pub fn heading(section: &str, size: &str, others: &[&str]) {
 }
 
 /// A row: the medians in microseconds, of the proved call the tenth and the ninetieth hundredth beside it, and the medians of the ratios of two
-/// runs that were made in turn. Whether what is asked was met.
+/// runs that were made in turn. A contender with no times was not run. Whether what is asked was met.
 pub fn row(what: &str, size: &str, times: &[Vec<f64>], asked: Asked) -> bool {
-    let proved = &times[0];
-    let ratios: Vec<f64> = times[1..]
-        .iter()
-        .map(|other| ratio(proved, other))
-        .collect();
+    let (proved, others) = times.split_first().expect("the proved call's times");
     let spread = [10, 90].map(|percent| figure(percentile(proved, percent)));
     print!(
         "{what:<58} {size:>8} {:>8} {:>15}",
         figure(median(proved)),
         spread.join(" to ")
     );
-    for (other, ratio) in times[1..].iter().zip(&ratios) {
-        print!(" {:>9} {ratio:>6.2}", figure(median(other)));
+    for other in others {
+        if other.is_empty() {
+            print!(" {:>9} {:>6}", "", "");
+        } else {
+            let ratio = ratio(proved, other);
+            print!(" {:>9} {ratio:>6.2}", figure(median(other)));
+        }
     }
-    let (met, limit) = match asked {
-        Asked::Nothing => (true, String::new()),
-        Asked::Microseconds(most) => (median(proved) <= most, format!("  asked {}", figure(most))),
-        Asked::Ratio(most) if ratios[0] <= most => (true, String::new()),
-        Asked::Ratio(most) => (false, format!("  asked {most}")),
-    };
-    println!("{}{limit}", if met { "" } else { "  OVER" });
+    let met = asked.met(median(proved), ratio(proved, &others[0]));
+    println!("{}{}", if met { "" } else { "  OVER" }, asked.text());
     met
 }
 

@@ -3,26 +3,30 @@
 use crate::engine::{self, Trimmed};
 use crate::measure::{Asked, agree, heading, in_turn, row};
 use crate::random::Random;
-use crate::schemas::{chain, dense, small, wide};
+use crate::schemas::{chain, chain_back, dense, small, wide};
+use crate::witness::is_left_right;
 use plain::limits::WITNESS;
 use plain::questions::{COMPETITION, NONE, OUTSIDE_LIMITS};
 use plain::{Schema, Trimming, competition};
 use std::hint::black_box;
 
-fn plain_trim(schema: &Schema) -> Trimmed {
-    if !schema.within_limits() {
-        return Trimmed {
-            inside: false,
-            trimming: Trimming::NONE,
-        };
-    }
-    Trimmed {
-        inside: true,
-        trimming: Trimming::of(schema),
-    }
+fn plain_trim(schema: &Schema) -> Option<Trimming> {
+    schema.within_limits().then(|| Trimming::of(schema))
 }
 
-fn plain_competition(schema: &Schema) -> (u8, [u8; WITNESS]) {
+/// Whether both are inside the limits with the same tables, or both outside.
+fn same_tables(proved: &Trimmed, plain: &Option<Trimming>) -> bool {
+    let tables = plain.as_ref().unwrap_or(&Trimming::NONE);
+    proved.inside == plain.is_some()
+        && proved.live == tables.live
+        && proved.bears == tables.bears
+        && proved.reached == tables.reached
+}
+
+/// The number and the witness buffer of a search.
+type Found = (u8, [u8; WITNESS]);
+
+fn plain_competition(schema: &Schema) -> Found {
     let mut witness = [0; WITNESS];
     if !schema.within_limits() {
         return (OUTSIDE_LIMITS, witness);
@@ -36,13 +40,24 @@ fn plain_competition(schema: &Schema) -> (u8, [u8; WITNESS]) {
     }
 }
 
+/// Whether the numbers agree, and each buffer has a witness if there is competition.
+fn same_search(schema: &Schema, proved: &Found, plain: &Found) -> bool {
+    let right = |(number, buffer): &Found| {
+        is_left_right(*number, buffer, 0, |witness| {
+            competition::confirm(schema, &Trimming::of(schema), witness)
+        })
+    };
+    proved.0 == plain.0 && right(proved) && right(plain)
+}
+
 /// A row for the two calls. Whether their answers agree.
-fn report<T: PartialEq>(
+fn report<P, Q>(
     name: &str,
     schema: &Schema,
     asked: Asked,
-    proved: impl Fn(&Schema) -> T,
-    plain: impl Fn(&Schema) -> T,
+    proved: impl Fn(&Schema) -> P,
+    plain: impl Fn(&Schema) -> Q,
+    same: impl Fn(&P, &Q) -> bool,
 ) -> bool {
     let times = in_turn(&mut [
         &mut || _ = black_box(proved(black_box(schema))),
@@ -50,13 +65,13 @@ fn report<T: PartialEq>(
     ]);
     let steps: u32 = schema.steps.iter().map(|&n| u32::from(n)).sum();
     row(name, &steps.to_string(), &times, asked);
-    agree(proved(schema) == plain(schema))
+    agree(same(&proved(schema), &plain(schema)))
 }
 
 /// How many random schemas are compared.
 const SCHEMAS: usize = 4_000;
 
-/// Limits, tables, numbers and witnesses of random schemas, which both find alike. How many compete, and how many are outside the limits.
+/// Limits, tables and numbers of random schemas, which both find alike, and the witnesses. How many compete, and how many are outside the limits.
 fn compare() -> Option<[usize; 2]> {
     let mut random = Random(0x2545_F491_4F6C_DD1D);
     let mut counts = [0; 2];
@@ -64,8 +79,8 @@ fn compare() -> Option<[usize; 2]> {
         let schema = random.schema();
         let found = engine::competition(&schema);
         let same = engine::within(schema) == schema.within_limits()
-            && engine::trim(schema) == plain_trim(&schema)
-            && found == plain_competition(&schema);
+            && same_tables(&engine::trim(schema), &plain_trim(&schema))
+            && same_search(&schema, &found, &plain_competition(&schema));
         if !same {
             return None;
         }
@@ -80,6 +95,7 @@ pub fn run() -> bool {
     let cases = [
         ("R", 5.0, small()),
         ("64 types in a chain", 20e3, chain()),
+        ("the chain backwards", 20e3, chain_back()),
         ("1 type of 32 states, 63 leaves", 20e3, dense()),
         ("32 types of 32 states", 20e3, wide(0)),
         ("the same, 32 leaves", 20e3, wide(32)),
@@ -91,28 +107,31 @@ pub fn run() -> bool {
         same &= report(
             &what("limits"),
             schema,
-            Asked::Nothing,
+            Asked::NOTHING,
             |schema| engine::within(*schema),
             Schema::within_limits,
+            |proved, plain| proved == plain,
         );
         same &= report(
             &what("trimming"),
             schema,
-            Asked::Nothing,
+            Asked::NOTHING,
             |schema| engine::trim(*schema),
             plain_trim,
+            same_tables,
         );
         same &= report(
             &what("search"),
             schema,
-            Asked::Microseconds(*most),
+            Asked::microseconds(*most),
             engine::competition,
             plain_competition,
+            |proved, plain| same_search(schema, proved, plain),
         );
     }
     match compare() {
         Some([compete, outside]) => println!(
-            "{SCHEMAS} random schemas: the same limits, tables and witnesses. {compete} compete, {outside} are outside the limits"
+            "{SCHEMAS} random schemas: the same limits, tables and numbers, and witnesses that are. {compete} compete, {outside} are outside the limits"
         ),
         None => return agree(false),
     }

@@ -3,26 +3,52 @@ use crate::engine;
 use crate::measure::{Asked, agree, heading, in_turn, row};
 use crate::random::Random;
 use crate::schemas::{
-    STEPS_GROW, full, layered, longest, mixed, samples, schema_file, shuffled, single, small, wide,
+    STEPS_GROW, chain, chain_back, full, layered, longest, mixed, samples, schema_file, shuffled,
+    single, small, wide,
 };
+use crate::witness::is_left_right;
 use plain::codes::{STEP, TYPE};
 use plain::limits::WITNESS;
-use plain::{Schema, SchemaAnswer, check_schema};
+use plain::{Schema, SchemaAnswer, check_schema, competes};
 use std::hint::black_box;
 
 type Read = fn(&[u8], &mut [u8]) -> SchemaAnswer;
 
-/// Whether the answers agree, with the whole of a buffer of `room` bytes. On 9 both search alike, so the witnesses agree too.
-fn same(file: &[u8], room: usize) -> bool {
-    let [proved, plain] = [engine::check_schema, check_schema].map(|read: Read| {
-        let mut witness = vec![0xA5; room];
-        (read(file, &mut witness), witness)
-    });
-    proved == plain
+/// The highest ratio that is asked of a file whose own bytes lead.
+const RATIO: f64 = 1.3;
+
+/// Shorter files are read in less time than tables of full size are cleared: no ratio is asked of them.
+const SHORT: usize = 100;
+
+/// What takes most of a file's time.
+#[derive(Clone, Copy, PartialEq)]
+enum Leads {
+    Bytes,
+    /// The search for competition; no ratio is asked.
+    Search,
 }
 
-/// A row for the files, read one after another. Whether all answers agree.
-fn report(what: &str, files: &[Vec<u8>], asked: Asked) -> bool {
+/// Whether the answers agree, and each has left a buffer of `room` bytes as it must.
+fn same(file: &[u8], room: usize) -> bool {
+    const BLANK: u8 = 0xA5;
+    let [proved, plain] = [engine::check_schema, check_schema].map(|read: Read| {
+        let mut buffer = vec![BLANK; room];
+        let answer = read(file, &mut buffer);
+        let right = is_left_right(answer.number, &buffer, BLANK, |witness| {
+            competes(file, witness)
+        });
+        (answer, right)
+    });
+    proved == plain && proved.1
+}
+
+/// A row for the files, read one after another, of which so many microseconds are asked. Whether all answers agree.
+fn report(what: &str, files: &[Vec<u8>], leads: Leads, microseconds: Option<f64>) -> bool {
+    let by_bytes = leads == Leads::Bytes && files.iter().all(|file| SHORT <= file.len());
+    let asked = Asked {
+        microseconds,
+        ratio: by_bytes.then_some(RATIO),
+    };
     let all = |read: Read, witness: &mut [u8]| {
         for file in files {
             black_box(read(black_box(file), witness));
@@ -40,7 +66,11 @@ fn report(what: &str, files: &[Vec<u8>], asked: Asked) -> bool {
 }
 
 fn one(what: &str, schema: &Schema) -> bool {
-    report(what, &[schema_file(schema)], Asked::Nothing)
+    report(what, &[schema_file(schema)], Leads::Bytes, None)
+}
+
+fn one_within(what: &str, schema: &Schema, leads: Leads, microseconds: f64) -> bool {
+    report(what, &[schema_file(schema)], leads, Some(microseconds))
 }
 
 /// The longest files, in two orders of their steps. Questions 1 to 7 cannot be called alone: the root type with no step leaves 8 and 9 little to
@@ -48,15 +78,14 @@ fn one(what: &str, schema: &Schema) -> bool {
 fn longest_files() -> bool {
     let mut same = true;
     for (order, steps) in [("in order", full(32, 32, 1)), ("shuffled", shuffled())] {
-        let file = schema_file(&longest(64, steps.clone(), 63));
-        assert_eq!(file.len(), 8389);
+        let schema = longest(64, steps.clone(), 63);
+        assert_eq!(schema_file(&schema).len(), 8389);
         let what = format!("64 types, 1,024 steps {order}, a root with none");
-        same &= report(&what, &[file], Asked::Microseconds(1e3));
+        same &= one_within(&what, &schema, Leads::Bytes, 1e3);
         let mut unknown = steps;
         unknown[1023][1] = 63;
         let what = format!("63 types, the last of 1,024 steps {order} gets 7");
-        let file = schema_file(&longest(63, unknown, 0));
-        same &= report(&what, &[file], Asked::Microseconds(1e3));
+        same &= one_within(&what, &longest(63, unknown, 0), Leads::Bytes, 1e3);
     }
     same & one(
         "64 types, 1,024 steps in order, all the root's",
@@ -103,14 +132,21 @@ pub fn run() -> bool {
     same &= report(
         "document 01's other 8 samples, together",
         &files,
-        Asked::Nothing,
+        Leads::Bytes,
+        None,
     );
     same &= longest_files();
-    same &= one(
+    for (needed, schema) in [("before", chain()), ("after", chain_back())] {
+        let what = format!("a chain of 64 types, each needing the one {needed} it");
+        same &= one_within(&what, &schema, Leads::Bytes, 500.0);
+    }
+    same &= report(
         "32 types of 32 states and 32 steps: the largest search",
-        &wide(0),
+        &[schema_file(&wide(0))],
+        Leads::Search,
+        None,
     );
-    same &= one("the same, 32 leaves", &wide(32));
+    same &= one_within("the same, 32 leaves", &wide(32), Leads::Search, 1.5e3);
     for types in [1, 2, 4, 8, 16, 32, 64] {
         same &= one(
             &format!("types grow: {types}, 16 steps each"),
@@ -124,7 +160,7 @@ pub fn run() -> bool {
     }
     match spoiled() {
         Some(numbers) => println!(
-            "{} spoiled files: the same answers and witnesses. Numbers 0 to 9: {numbers:?}",
+            "{} spoiled files: the same answers, and witnesses that are. Numbers 0 to 9: {numbers:?}",
             numbers.iter().sum::<u32>()
         ),
         None => {

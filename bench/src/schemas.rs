@@ -113,24 +113,33 @@ pub fn optional() -> Schema {
     schema(4, 0, &[root, leaf(1), leaf(2), leaf(3), leaf(1)])
 }
 
-/// Steps 0 to 1, 1 to 2 and so on, all by one type. In this order a round over the steps makes one more state live, the last but one first.
+/// Steps 0 to 1, 1 to 2 and so on, all by one type. In this order going over the steps makes one more state live, the last but one first.
 pub fn line(n: u8, by: u8) -> Vec<[u8; 3]> {
     (0..n).map(|s| [s, by, s + 1]).collect()
 }
 
-/// 63 types with 16 steps each, and a leaf. Each type needs the one before it, the root is the last, so a round adds one state, and a round
-/// of reaching adds one type.
+/// A type of a chain: a line of 16 steps by the type that it needs.
+fn link(a: u8, needed: u8) -> Type {
+    Type {
+        tag: a % 32,
+        states: 17,
+        accepting: 1 << 16,
+        steps: line(16, needed),
+    }
+}
+
+/// A leaf, and 63 types with 16 steps each, of which each needs the one before it; the root is the last. A round over the types settles all.
 pub fn chain() -> Schema {
     let mut types = vec![leaf(0)];
-    for a in 1..64 {
-        types.push(Type {
-            tag: a % 32,
-            states: 17,
-            accepting: 1 << 16,
-            steps: line(16, a - 1),
-        });
-    }
+    types.extend((1..64).map(|a| link(a, a - 1)));
     schema(32, 63, &types)
+}
+
+/// The same with each needing the one after it, the leaf last: a round over the types settles one.
+pub fn chain_back() -> Schema {
+    let mut types: Vec<Type> = (0..63).map(|a| link(a, a + 1)).collect();
+    types.push(leaf(31));
+    schema(32, 0, &types)
 }
 
 /// Steps from each of the states to each of the first `targets`, by one type.

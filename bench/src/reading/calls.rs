@@ -2,7 +2,7 @@
 //! reading by value hand the reading back.
 use crate::engine;
 use plain::limits::{Tag, Type};
-use plain::{Answer, Answered, EventAnswer, Reading, Schema, event_file};
+use plain::{Answer, Answered, EventAnswer, Reading, Schema, event_file, event_file_by_steps};
 
 #[derive(Clone, Copy)]
 pub enum Call {
@@ -84,4 +84,14 @@ pub fn plain_events(schema: &Schema, file: &[u8], out: &mut [Type]) -> EventAnsw
 #[inline(never)]
 fn events(schema: Schema, file: &[u8], out: &mut [Type]) -> EventAnswer {
     event_file::read(&schema, file, out)
+}
+
+/// As `plain_events`, over the layout without rows.
+pub fn plain_by_steps(schema: &Schema, file: &[u8], out: &mut [Type]) -> EventAnswer {
+    events_by_steps(*schema, file, out)
+}
+
+#[inline(never)]
+fn events_by_steps(schema: Schema, file: &[u8], out: &mut [Type]) -> EventAnswer {
+    event_file_by_steps::read(&schema, file, out)
 }

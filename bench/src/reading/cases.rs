@@ -1,6 +1,6 @@
 //! The calls on a reading that are timed: schemas, and the readings that the calls are made on.
 use super::calls::Call;
-use crate::schemas::{Type, chain, leaf, line, schema, small, wide};
+use crate::schemas::{Type, chain, chain_back, leaf, line, schema, small, wide};
 use plain::limits::MOST_OPEN;
 use plain::{Reading, Schema, States};
 
@@ -45,8 +45,8 @@ fn mixed_line(n: u8, a: u8) -> Vec<[u8; 3]> {
     steps
 }
 
-/// A leaf, and 63 types with 1,024 steps in all, each of which needs the one before it. A round adds one state, so there are 1,025 rounds: no
-/// schema has more, since each round but the last adds a state by a step that added none before.
+/// A leaf, and 63 types with 1,024 steps in all, each of which needs the one before it and some others. Going over a type's steps once adds one
+/// state.
 fn longest() -> Schema {
     let mut types = vec![leaf(0)];
     for a in 1..64 {
@@ -67,7 +67,7 @@ fn fill(steps: &mut Vec<[u8; 3]>, by: u8, n: usize) {
     steps.extend(back.take(n - steps.len()));
 }
 
-/// Type 0 has 32 states in a line and steps back, by two leaves of one tag. A round adds one state.
+/// Type 0 has 32 states in a line and steps back, by two leaves of one tag. Going over its steps once adds one state.
 fn one_type() -> Schema {
     let mut steps = line(31, 1);
     fill(&mut steps, 1, 31 + 528);
@@ -143,6 +143,7 @@ pub fn cases() -> Vec<Case> {
     let largest = [
         ("chain of 64 types, 16 steps each: open", chain(), 63, 30),
         ("the same, by mixed types: open", longest(), 63, 30),
+        ("the chain backwards: open", chain_back(), 0, 1),
         ("1 type, 1,024 steps, 63 leaves: open", one_type(), 0, 1),
         ("32 types of 32 states, 32 steps: open", wide(0), 31, 30),
         ("the same, 32 leaves: open", wide(32), 31, 30),
@@ -151,7 +152,7 @@ pub fn cases() -> Vec<Case> {
     for (name, schema, a, tag) in largest {
         all.push(Case {
             name,
-            most: Some(2e3),
+            most: Some(500.0),
             reading: nested(&schema, a),
             schema,
             call: Call::Open(tag),

@@ -13,6 +13,8 @@ pub struct FileCase {
     pub name: String,
     pub schema: Schema,
     pub file: Vec<u8>,
+    /// Is it of the longest files, which the layout without rows is measured on too?
+    pub longest: bool,
 }
 
 const LONGEST: usize = 32 * 1024;
@@ -22,6 +24,7 @@ fn case(name: impl Into<String>, schema: Schema, bytes: usize, depths: [u8; 2]) 
         name: name.into(),
         schema,
         file: document(&schema, bytes, depths, 0),
+        longest: bytes == LONGEST,
     }
 }
 
@@ -65,12 +68,17 @@ pub fn file_cases() -> Vec<FileCase> {
         let name = format!("types grow: {types}, 16 steps each");
         all.push(case(name, layered(types), LONGEST, [1, 12]));
     }
-    for (states, targets) in STEPS_GROW {
+    all.extend(steps_grow());
+    all
+}
+
+/// One type whose steps grow, from 16 to 1,024.
+pub fn steps_grow() -> impl Iterator<Item = FileCase> {
+    STEPS_GROW.into_iter().map(|(states, targets)| {
         let steps = u32::from(states) * u32::from(targets);
         let name = format!("steps grow: {steps} by 31 types, in one of {states} states");
-        all.push(case(name, mixed(states, targets), LONGEST, [1, 2]));
-    }
-    all
+        case(name, mixed(states, targets), LONGEST, [1, 2])
+    })
 }
 
 const SCHEMAS: u32 = 4_000;
@@ -119,8 +127,8 @@ fn random_file(random: &mut Random, schema: &Schema) -> Vec<u8> {
     file
 }
 
-/// The same files to both; the answer and the whole buffer compared. Of each number, how many files got it.
-pub fn compare_files(one: Events, other: Events) -> Option<[u32; 21]> {
+/// The same files to all; the answer and the whole buffer compared. Of each number, how many files got it.
+pub fn compare_files(all: &[Events]) -> Option<[u32; 21]> {
     let mut random = Random(0xD1B5_4A32_D192_ED03);
     let mut numbers = [0; 21];
     for _ in 0..SCHEMAS {
@@ -131,13 +139,15 @@ pub fn compare_files(one: Events, other: Events) -> Option<[u32; 21]> {
                 0 => random.below(40) as usize,
                 _ => file.len(),
             };
-            let mut buffers = [vec![0xA5; room], vec![0xA5; room]];
-            let [ours, theirs] = &mut buffers;
-            let answer = one(&schema, &file, ours);
-            if answer != other(&schema, &file, theirs) || ours != theirs {
+            let answered = |read: &Events| {
+                let mut types = vec![0xA5; room];
+                (read(&schema, &file, &mut types), types)
+            };
+            let first = answered(&all[0]);
+            if all.iter().any(|read| answered(read) != first) {
                 return None;
             }
-            numbers[usize::from(answer.number)] += 1;
+            numbers[usize::from(first.0.number)] += 1;
         }
     }
     Some(numbers)

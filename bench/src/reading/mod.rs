@@ -7,17 +7,25 @@ mod files;
 mod made_up;
 
 use crate::engine;
-use crate::measure::{Asked, RATIO, agree, heading, in_turn, row};
+use crate::measure::{self, Asked, agree, heading, in_turn, row};
 use calls::{
-    Call, Calls, Events, open_lent, plain_call, plain_events, plain_lent, proved_call, proved_lent,
+    Call, Calls, Events, open_lent, plain_by_steps, plain_call, plain_events, plain_lent,
+    proved_call, proved_lent,
 };
 use cases::{Case, cases};
-use files::{FileCase, compare_files, file_cases};
+pub use files::{FileCase, steps_grow};
+use files::{compare_files, file_cases};
 use made_up::compare;
-use plain::Reading;
 use plain::limits::Type;
 use plain::questions::NONE;
+use plain::{EventAnswer, Reading, Schema};
 use std::hint::black_box;
+
+/// The highest ratio that is asked of an event file.
+const RATIO: f64 = 1.1;
+
+/// What reads an event file: the engine, plain Rust over the same rows, and plain Rust over the layout without rows.
+pub const READERS: [Events; 3] = [engine::events, plain_events, plain_by_steps];
 
 /// A row for the two calls. Whether their answers agree.
 fn report(case: &Case) -> bool {
@@ -26,7 +34,7 @@ fn report(case: &Case) -> bool {
     let times = in_turn(&mut [&mut || _ = black_box(once(proved_call)), &mut || {
         _ = black_box(once(plain_call))
     }]);
-    let asked = case.most.map_or(Asked::Nothing, Asked::Microseconds);
+    let asked = case.most.map_or(Asked::NOTHING, Asked::microseconds);
     row(case.name, "value", &times, asked);
     agree(once(proved_call) == once(plain_call))
 }
@@ -56,7 +64,7 @@ fn report_lent(case: &Case) -> bool {
             black_box(open_lent(theirs, *black_box(schema), tag));
         },
     ]);
-    let asked = case.most.map_or(Asked::Nothing, Asked::Microseconds);
+    let asked = case.most.map_or(Asked::NOTHING, Asked::microseconds);
     row(case.name, "lent", &times, asked);
     back(&mut ours);
     back(&mut theirs);
@@ -67,21 +75,38 @@ fn report_lent(case: &Case) -> bool {
     agree(answers[0] == answers[1] && ours == theirs)
 }
 
+/// The times of each reader on a file, and whether the answers and the types agree.
+pub fn time_file(case: &FileCase, readers: &[Events]) -> (Vec<Vec<f64>>, bool) {
+    let (schema, file) = (&case.schema, &case.file);
+    let mut buffers = vec![vec![0; file.len()]; readers.len()];
+    let mut runs: Vec<_> = readers
+        .iter()
+        .zip(&mut buffers)
+        .map(|(read, types)| move || _ = black_box(once(read, schema, file, types.as_mut_slice())))
+        .collect();
+    let mut calls: Vec<measure::Call> = runs.iter_mut().map(|run| run as _).collect();
+    let times = in_turn(&mut calls);
+    let answers: Vec<_> = readers
+        .iter()
+        .zip(&mut buffers)
+        .map(|(read, types)| (once(read, schema, file, types), &*types))
+        .collect();
+    assert_eq!(answers[0].0.number, NONE);
+    let same = answers.iter().all(|answer| *answer == answers[0]);
+    (times, same)
+}
+
+fn once(read: &Events, schema: &Schema, file: &[u8], types: &mut [Type]) -> EventAnswer {
+    read(black_box(schema), black_box(file), types)
+}
+
 /// A row for an event file. Whether the answers and the types agree, and whether the ratio is as asked.
 fn report_file(case: &FileCase) -> [bool; 2] {
-    let (schema, file) = (&case.schema, &case.file);
-    let (mut ours, mut theirs) = (vec![0; file.len()], vec![0; file.len()]);
-    let once = |read: Events, types: &mut [Type]| {
-        black_box(read(black_box(schema), black_box(file), types));
-    };
-    let times = in_turn(&mut [&mut || once(engine::events, &mut ours), &mut || {
-        once(plain_events, &mut theirs)
-    }]);
-    let size = file.len().to_string();
-    let met = row(&case.name, &size, &times, Asked::Ratio(RATIO));
-    let answer = engine::events(schema, file, &mut ours);
-    assert_eq!(answer.number, NONE);
-    let same = answer == plain_events(schema, file, &mut theirs) && ours == theirs;
+    let readers = if case.longest { READERS.len() } else { 2 };
+    let (mut times, same) = time_file(case, &READERS[..readers]);
+    times.resize(READERS.len(), Vec::new());
+    let size = case.file.len().to_string();
+    let met = row(&case.name, &size, &times, Asked::ratio(RATIO));
     [agree(same), met]
 }
 
@@ -103,12 +128,16 @@ fn report_calls() -> bool {
 }
 
 fn report_files() -> bool {
-    heading("Event files, the whole call", "bytes", &["plain"]);
+    heading(
+        "Event files, the whole call",
+        "bytes",
+        &["plain", "by steps"],
+    );
     let rows: Vec<[bool; 2]> = file_cases().iter().map(report_file).collect();
     let met = rows.iter().filter(|[_, met]| *met).count();
     let all = rows.len();
     println!("{met} of {all} files at a ratio of {RATIO} or less");
-    match compare_files(engine::events, plain_events) {
+    match compare_files(&READERS) {
         Some(numbers) => println!(
             "{} random files: the same answers and types. Numbers 0 and 10 to 20: {} {:?}",
             numbers.iter().sum::<u32>(),

@@ -1,9 +1,8 @@
 //! Competition: two types of one tag that may both come next in an element.
 
-use std::ops::Range;
-
-use crate::limits::{LONGEST_WORD, MOST_STATES, MOST_TYPES, PAIRS, State, Type};
-use crate::schema::{Schema, Step};
+use crate::limits::{LONGEST_WORD, PAIRS, State, Type};
+use crate::rows::{Entry, Rows};
+use crate::schema::Schema;
 use crate::states::States;
 use crate::trimming::Trimming;
 use crate::witness::Witness;
@@ -31,17 +30,16 @@ impl Competition {
 /// A competition in the smallest type that has one, after a shortest word.
 pub fn find(schema: &Schema, trimming: &Trimming) -> Option<Competition> {
     let mut queue = Queue::EMPTY;
-    schema
-        .blocks()
-        .filter(|&(within, _)| trimming.reached[within] && trimming.bears[within])
-        .find_map(|(within, own)| find_in(schema, trimming, within, own, &mut queue))
+    let counts = |&of: &Type| trimming.reached[usize::from(of)] && trimming.bears[usize::from(of)];
+    let mut types = (0..schema.types).filter(counts);
+    types.find_map(|within| queue.search(&trimming.rows, within))
 }
 
 /// Do the witness's types compete after its word, in the smallest type that has a competition?
 pub fn confirm(schema: &Schema, trimming: &Trimming, witness: &Witness) -> bool {
     let is_smallest = |found: Competition| found.within == witness.within;
     has_form(schema, witness)
-        && both_come(schema, trimming, witness)
+        && both_come(trimming, witness)
         && find(schema, trimming).is_some_and(is_smallest)
 }
 
@@ -62,12 +60,11 @@ fn has_form(schema: &Schema, witness: &Witness) -> bool {
 }
 
 /// May J come after the word, and K too?
-fn both_come(schema: &Schema, trimming: &Trimming, witness: &Witness) -> bool {
-    let own = schema.block(witness.within);
-    let next = steps_that_count(schema, trimming, usize::from(witness.within), own);
+fn both_come(trimming: &Trimming, witness: &Witness) -> bool {
     let follow = |states: States, &by: &Type| {
-        let to = states.iter().map(|state| next.by(state, by));
-        to.fold(States::NONE, States::union)
+        let entries = trimming.rows.from_any(witness.within, states);
+        let to = entries.filter(|entry| entry.by() == by).map(Entry::to);
+        to.map(States::only).fold(States::NONE, States::union)
     };
     let after = witness.word.iter().fold(States::START, follow);
     [witness.one, witness.other]
@@ -79,35 +76,6 @@ fn both_come(schema: &Schema, trimming: &Trimming, witness: &Witness) -> bool {
 pub const fn pair_number(p: State, q: State) -> usize {
     let (p, q) = if p >= q { (p, q) } else { (q, p) };
     p as usize * (p as usize + 1) / 2 + q as usize
-}
-
-/// For each state and type of an automaton the states that steps lead to.
-struct Next([[States; MOST_TYPES]; MOST_STATES]);
-
-impl Next {
-    fn by(&self, state: State, by: Type) -> States {
-        self.0[usize::from(state)][usize::from(by)]
-    }
-
-    fn all_from(&self, state: State) -> &[States; MOST_TYPES] {
-        &self.0[usize::from(state)]
-    }
-}
-
-/// The steps of a type that are by tree-bearing types and lead to live states.
-fn steps_that_count(
-    schema: &Schema,
-    trimming: &Trimming,
-    within: usize,
-    own: Range<usize>,
-) -> Next {
-    let mut next = Next([[States::NONE; MOST_TYPES]; MOST_STATES]);
-    for Step { from, by, to } in schema.steps_at(own) {
-        if trimming.bears[usize::from(by)] && trimming.live[within].has(to) {
-            next.0[usize::from(from)][usize::from(by)].add(to);
-        }
-    }
-    next
 }
 
 /// A pair of states, and how the search came to it: from which place of the queue, by which type.
@@ -161,17 +129,43 @@ impl Queue {
         }
     }
 
-    /// Adds the pairs that steps by one type lead to from the pair at a place.
-    fn add_following(&mut self, place: usize, next: &Next, types: u8) {
+    /// Breadth first over the pairs of states that one word leads to in a type.
+    fn search(&mut self, rows: &Rows, within: Type) -> Option<Competition> {
+        self.restart();
+        let mut place = 0;
+        while place < self.count {
+            if let Some((one, other)) = self.go_on(rows, within, place) {
+                return Some(Competition {
+                    within,
+                    one: one.min(other),
+                    other: one.max(other),
+                    word: self.word_to(place),
+                });
+            }
+            place += 1;
+        }
+        None
+    }
+
+    /// Goes over the entries from the two states at a place. Two of one type lead to a further pair;
+    /// two of one tag and different types are rivals, whose types it answers.
+    fn go_on(&mut self, rows: &Rows, within: Type, place: usize) -> Option<(Type, Type)> {
         let Arrival { p, q, .. } = self.arrivals[place];
-        for by in 0..types {
-            for p in next.by(p, by).iter() {
-                for q in next.by(q, by).iter() {
-                    let before = place as u16;
-                    self.add(Arrival { p, q, before, by });
+        for one in rows.row(within, p) {
+            for other in rows.row(within, q) {
+                if one.by() == other.by() {
+                    self.add(Arrival {
+                        p: one.to(),
+                        q: other.to(),
+                        before: place as u16,
+                        by: one.by(),
+                    });
+                } else if one.tag() == other.tag() {
+                    return Some((one.by(), other.by()));
                 }
             }
         }
+        None
     }
 
     /// The word that leads to the pair at a place.
@@ -185,48 +179,4 @@ impl Queue {
         word.reverse();
         word
     }
-}
-
-/// Breadth first over the pairs of states that one word leads to.
-fn find_in(
-    schema: &Schema,
-    trimming: &Trimming,
-    within: usize,
-    own: Range<usize>,
-    queue: &mut Queue,
-) -> Option<Competition> {
-    let next = steps_that_count(schema, trimming, within, own);
-    queue.restart();
-    let mut place = 0;
-    while place < queue.count {
-        let Arrival { p, q, .. } = queue.arrivals[place];
-        if let Some((one, other)) = competing(schema, next.all_from(p), next.all_from(q)) {
-            return Some(Competition {
-                within: within as Type,
-                one: one.min(other),
-                other: one.max(other),
-                word: queue.word_to(place),
-            });
-        }
-        queue.add_following(place, &next, schema.types);
-        place += 1;
-    }
-    None
-}
-
-/// Two types of one tag of which one leads on from one state and the other from the other.
-fn competing(
-    schema: &Schema,
-    from_p: &[States; MOST_TYPES],
-    from_q: &[States; MOST_TYPES],
-) -> Option<(Type, Type)> {
-    let types = usize::from(schema.types);
-    for one in (0..types).filter(|&one| !from_p[one].is_empty()) {
-        for other in (0..types).filter(|&other| !from_q[other].is_empty()) {
-            if one != other && schema.tag[one] == schema.tag[other] {
-                return Some((one as Type, other as Type));
-            }
-        }
-    }
-    None
 }

@@ -1,12 +1,13 @@
 //! The event file: its events and the questions 19 and 20.
 
 use crate::codes::{CLOSE, FINISH, OPEN};
-use crate::limits::{MOST_STEPS, MOST_TYPES, Tag, Type};
+use crate::limits::{Tag, Type};
 use crate::questions::{NO_EVENT, NO_ROOM, Number, OUTSIDE_LIMITS};
 use crate::reading::{Ahead, Reading, smallest};
-use crate::schema::{Schema, Step};
+use crate::rows::Rows;
+use crate::schema::Schema;
 use crate::states::States;
-use crate::trimming::live_states;
+use crate::trimming::live_rows;
 
 /// What an event file is answered: 0 if it is taken, the place of the refused event or the file's
 /// length, and the count of openings taken.
@@ -39,16 +40,28 @@ pub fn event(bytes: &[u8]) -> Option<(Event, usize)> {
 /// Gives a file's events to a fresh reading until the first refusal, and the types of the openings to
 /// the buffer, of which the rest is unchanged.
 pub fn read(schema: &Schema, file: &[u8], types: &mut [Type]) -> EventAnswer {
-    let mut answer = EventAnswer::default();
     if !schema.within_limits() {
-        answer.number = event(file).map_or(NO_EVENT, |_| OUTSIDE_LIMITS);
-        return answer;
+        return outside_limits(file);
     }
-    let labels = Labels::of(schema);
+    walk(&Ways::of(schema), file, types)
+}
+
+/// The answer under a schema that is outside the limits.
+pub(crate) fn outside_limits(file: &[u8]) -> EventAnswer {
+    EventAnswer {
+        number: event(file).map_or(NO_EVENT, |_| OUTSIDE_LIMITS),
+        ..EventAnswer::default()
+    }
+}
+
+/// The walk over a file's events, under a schema inside the limits.
+#[inline]
+pub(crate) fn walk(ahead: &impl Ahead, file: &[u8], types: &mut [Type]) -> EventAnswer {
+    let mut answer = EventAnswer::default();
     let mut reading = Reading::FRESH;
     while answer.place < file.len() || !reading.finished {
         let rest = &file[answer.place..];
-        match take(&labels, &mut reading, rest, types, &mut answer.count) {
+        match take(ahead, &mut reading, rest, types, &mut answer.count) {
             Ok(length) => answer.place += length,
             Err(number) => {
                 answer.number = number;
@@ -62,7 +75,7 @@ pub fn read(schema: &Schema, file: &[u8], types: &mut [Type]) -> EventAnswer {
 /// Takes the event that these bytes begin with and answers its length, or the number of its refusal.
 #[inline]
 fn take(
-    labels: &Labels,
+    ahead: &impl Ahead,
     reading: &mut Reading,
     bytes: &[u8],
     types: &mut [Type],
@@ -71,54 +84,36 @@ fn take(
     let (event, length) = event(bytes).ok_or(NO_EVENT)?;
     match event {
         Event::Open { tag } => {
-            let (of, after) = reading.ask_opening(labels, tag)?;
+            let (of, after) = reading.ask_opening(ahead, tag)?;
             *types.get_mut(*count).ok_or(NO_ROOM)? = of;
             *count += 1;
             reading.enter(of, after);
         }
-        Event::Close { tag } => reading.take_closing(labels.schema, tag)?,
+        Event::Close { tag } => reading.take_closing(ahead.schema(), tag)?,
         Event::Finish => reading.take_finish()?,
     }
     Ok(length)
 }
 
-/// A schema with its steps labelled by tags, made once for a file.
-struct Labels<'s> {
+/// A schema with its rows, made once for a file.
+struct Ways<'s> {
     schema: &'s Schema,
     root_bears: bool,
-    /// For each type the place of its first step.
-    first: [u16; MOST_TYPES],
-    /// For each step the tag of its type if it counts: that type bears a tree, and it leads to a live state.
-    label: [Tag; MOST_STEPS],
+    rows: Rows,
 }
 
-/// The label of a step that does not count: no tag of a schema.
-const NO_TAG: Tag = Tag::MAX;
-
-impl<'s> Labels<'s> {
+impl<'s> Ways<'s> {
     fn of(schema: &'s Schema) -> Self {
-        let live = live_states(schema);
-        let mut first = [0; MOST_TYPES];
-        let mut label = [NO_TAG; MOST_STEPS];
-        for (of, own) in schema.blocks() {
-            first[of] = own.start as u16;
-            for (label, step) in label[own.clone()].iter_mut().zip(schema.steps_at(own)) {
-                let by = usize::from(step.by);
-                if live[by].has_start() && live[of].has(step.to) {
-                    *label = schema.tag[by];
-                }
-            }
-        }
-        Labels {
+        let (live, rows) = live_rows(schema);
+        Ways {
             schema,
             root_bears: live[usize::from(schema.root)].has_start(),
-            first,
-            label,
+            rows,
         }
     }
 }
 
-impl Ahead for Labels<'_> {
+impl Ahead for Ways<'_> {
     #[inline]
     fn schema(&self) -> &Schema {
         self.schema
@@ -131,13 +126,9 @@ impl Ahead for Labels<'_> {
 
     #[inline]
     fn child(&self, within: Type, set: States, tag: Tag) -> Option<(Type, States)> {
-        let within = usize::from(within);
-        let first = usize::from(self.first[within]);
-        let own = first..first + usize::from(self.schema.steps[within]);
-        let labels = self.label[own.clone()].iter();
-        let steps = labels.zip(self.schema.steps_at(own));
-        let of_tag = steps.filter(|&(&label, _)| label == tag);
-        smallest(of_tag.map(|(_, step): (_, Step)| step), set)
+        let entries = self.rows.from_any(within, set);
+        let of_tag = entries.filter(|entry| entry.tag() == tag);
+        smallest(of_tag.map(|entry| (entry.by(), entry.to())))
     }
 }
 

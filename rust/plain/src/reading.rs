@@ -1,13 +1,13 @@
 //! A reading: the elements that are open, and the questions 10 to 18.
 
-use crate::limits::{MOST_OPEN, MOST_TYPES, Tag, Type};
+use crate::limits::{MOST_OPEN, MOST_TYPES, State, Tag, Type};
 use crate::questions::{
     FINISHED, INCOMPLETE, NO_SUCH_OPENING, NOTHING_OPEN, Number, OTHER_TAG, OUTSIDE_LIMITS,
     ROOT_NOT_CLOSED, TOO_DEEP, UNKNOWN_TAG, ask,
 };
-use crate::schema::{Schema, Step};
-use crate::states::States;
-use crate::trimming::{StatesOf, live_states};
+use crate::schema::Schema;
+use crate::states::{States, StatesOf};
+use crate::trimming::live_states;
 
 /// A reading: for each open level, the root's first, the element's type and the live states that its
 /// children's types lead to; entries past `depth` are not used. It lies in memory as the engine has it.
@@ -227,26 +227,24 @@ impl Ahead for Live<'_> {
     fn child(&self, within: Type, set: States, tag: Tag) -> Option<(Type, States)> {
         let live = self.live[usize::from(within)];
         let steps = self.schema.steps_at(self.schema.block(within));
-        let count = steps.filter(|step| {
+        let coming = steps.filter(|step| {
             let fits = self.schema.tag[usize::from(step.by)] == tag;
-            fits && self.bears(step.by) && live.has(step.to)
+            fits && set.has(step.from) && self.bears(step.by) && live.has(step.to)
         });
-        smallest(count, set)
+        smallest(coming.map(|step| (step.by, step.to)))
     }
 }
 
-/// The smallest type of the steps from states of the set, and the states that it leads to.
+/// The smallest of these types, and the states that it leads to.
 #[inline]
-pub(crate) fn smallest(steps: impl Iterator<Item = Step>, set: States) -> Option<(Type, States)> {
+pub(crate) fn smallest(coming: impl Iterator<Item = (Type, State)>) -> Option<(Type, States)> {
     const NO_TYPE: Type = MOST_TYPES as Type;
     let (mut smallest, mut after) = (NO_TYPE, States::NONE);
-    steps.for_each(|Step { from, by, to }| {
-        if set.has(from) {
-            if by < smallest {
-                (smallest, after) = (by, States::only(to));
-            } else if by == smallest {
-                after.add(to);
-            }
+    coming.for_each(|(by, to)| {
+        if by < smallest {
+            (smallest, after) = (by, States::only(to));
+        } else if by == smallest {
+            after.add(to);
         }
     });
     (smallest != NO_TYPE).then_some((smallest, after))

@@ -44,12 +44,13 @@ pub fn read(file: &[u8], schema: &mut Schema) -> Result<(), Refusal> {
         phase: Phase::Start,
         schema,
         steps: 0,
+        named: [NOWHERE; MOST_TYPES],
     };
     let mut place = 0;
     while draft.phase != Phase::Done {
         let refused = |number| Refusal { number, place };
         let (command, length) = command(&file[place..]).ok_or(refused(NO_COMMAND))?;
-        draft.take(command).map_err(refused)?;
+        draft.take(command, place).map_err(refused)?;
         place += length;
     }
     if place < file.len() {
@@ -57,27 +58,12 @@ pub fn read(file: &[u8], schema: &mut Schema) -> Result<(), Refusal> {
         return Err(Refusal { number, place });
     }
     match draft.first_unknown() {
-        None => Ok(()),
-        Some(step) => Err(Refusal {
+        NOWHERE => Ok(()),
+        place => Err(Refusal {
             number: UNKNOWN_TYPE,
-            place: place_of_step(file, step),
+            place,
         }),
     }
-}
-
-/// The place of a STEP, counted from 0, in a file that was read to its end.
-fn place_of_step(file: &[u8], mut left: usize) -> usize {
-    let mut place = 0;
-    while let Some((command, length)) = command(&file[place..]) {
-        if matches!(command, Command::Step(_)) {
-            if left == 0 {
-                break;
-            }
-            left -= 1;
-        }
-        place += length;
-    }
-    place
 }
 
 /// Which commands may come: TAGS, a TYPE, what stands in a block or after it, DONE, none.
@@ -96,17 +82,22 @@ struct Draft<'s> {
     schema: &'s mut Schema,
     /// The steps of all blocks so far.
     steps: usize,
+    /// For each type the place of the first STEP that names it.
+    named: [usize; MOST_TYPES],
 }
 
+/// The place of a STEP that no file has.
+const NOWHERE: usize = usize::MAX;
+
 impl Draft<'_> {
-    /// Takes a command, or answers the number of its refusal.
+    /// Takes the command at a place, or answers the number of its refusal.
     #[inline]
-    fn take(&mut self, command: Command) -> Result<(), Number> {
+    fn take(&mut self, command: Command, place: usize) -> Result<(), Number> {
         ask(OUT_OF_ORDER, self.in_order(command))?;
         ask(OUT_OF_RANGE, self.in_range(command))?;
         ask(TOO_MANY, self.within_limits(command))?;
         ask(REPEATED, self.is_new(command))?;
-        self.put(command);
+        self.put(command, place);
         Ok(())
     }
 
@@ -162,7 +153,7 @@ impl Draft<'_> {
 
     /// Adds what the command states.
     #[inline]
-    fn put(&mut self, command: Command) {
+    fn put(&mut self, command: Command, place: usize) {
         match command {
             Command::Tags { count } => {
                 self.schema.tags = count;
@@ -170,7 +161,7 @@ impl Draft<'_> {
             }
             Command::Type { tag, states } => self.put_type(tag, states),
             Command::Final { state } => self.schema.accepting[self.block()].add(state),
-            Command::Step(step) => self.put_step(step),
+            Command::Step(step) => self.put_step(step, place),
             Command::Root { of } => {
                 self.schema.root = of;
                 self.phase = Phase::Root;
@@ -189,12 +180,14 @@ impl Draft<'_> {
     }
 
     #[inline]
-    fn put_step(&mut self, Step { from, by, to }: Step) {
+    fn put_step(&mut self, Step { from, by, to }: Step, place: usize) {
         self.schema.from[self.steps] = from;
         self.schema.by[self.steps] = by;
         self.schema.to[self.steps] = to;
         self.schema.steps[self.block()] += 1;
         self.steps += 1;
+        let named = &mut self.named[usize::from(by)];
+        *named = place.min(*named);
     }
 
     /// The type whose block is being read.
@@ -209,9 +202,9 @@ impl Draft<'_> {
         self.schema.states[self.block()]
     }
 
-    /// The first STEP that names a type that was not given, counted from 0.
-    fn first_unknown(&self) -> Option<usize> {
-        let given = &self.schema.by[..self.steps];
-        given.iter().position(|&by| by >= self.schema.types)
+    /// The place of the first STEP that names a type that was not given.
+    fn first_unknown(&self) -> usize {
+        let unknown = &self.named[usize::from(self.schema.types)..];
+        unknown.iter().copied().min().unwrap_or(NOWHERE)
     }
 }

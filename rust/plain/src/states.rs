@@ -1,11 +1,14 @@
 //! Sets of states of one content automaton.
 
-use crate::limits::State;
+use crate::limits::{MOST_TYPES, State};
 
 /// A set of states, a bit for each.
 #[derive(Debug, Clone, Copy, PartialEq, Eq, Default)]
 #[repr(transparent)]
 pub struct States(pub u32);
+
+/// For each type a set of its states.
+pub type StatesOf = [States; MOST_TYPES];
 
 impl States {
     /// The set of no states.

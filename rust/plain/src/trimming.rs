@@ -1,11 +1,9 @@
 //! Trimming: the live states, the types that bear a tree, the types that are reached.
 
-use crate::limits::{MOST_TYPES, State};
+use crate::limits::{MOST_TYPES, State, Type};
+use crate::rows::Rows;
 use crate::schema::{Schema, Step};
-use crate::states::States;
-
-/// For each type a set of its states.
-pub type StatesOf = [States; MOST_TYPES];
+use crate::states::{States, StatesOf};
 
 /// What trimming finds of each type of a schema inside the limits; entries past the types are empty.
 #[derive(Debug, Clone, Copy, PartialEq, Eq)]
@@ -17,6 +15,8 @@ pub struct Trimming {
     pub bears: [bool; MOST_TYPES],
     /// Is it the root type, or in a word of a reached type?
     pub reached: [bool; MOST_TYPES],
+    /// The steps that count.
+    pub rows: Rows,
 }
 
 impl Trimming {
@@ -24,77 +24,95 @@ impl Trimming {
         live: [States::NONE; MOST_TYPES],
         bears: [false; MOST_TYPES],
         reached: [false; MOST_TYPES],
+        rows: Rows::NONE,
     };
 
     pub fn of(schema: &Schema) -> Trimming {
-        let live = live_states(schema);
+        let (live, rows) = live_rows(schema);
         Trimming {
             bears: live.map(States::has_start),
-            reached: reached_types(schema, &live, &states_ahead(schema, &live)),
+            reached: reached_types(schema, &rows, &states_ahead(schema, &live)),
             live,
+            rows,
         }
     }
 }
 
-/// The live states, round by round: a type bears a tree once its start state is live.
+/// The live states, and the rows of the steps that count.
+pub fn live_rows(schema: &Schema) -> (StatesOf, Rows) {
+    let live = live_states(schema);
+    (live, Rows::of(schema, &live))
+}
+
+/// The live states: a type bears a tree once its start state is live.
 pub fn live_states(schema: &Schema) -> StatesOf {
     let types = usize::from(schema.types);
     let mut live = [States::NONE; MOST_TYPES];
     live[..types].copy_from_slice(&schema.accepting[..types]);
-    loop {
-        let before = live;
-        if !spread(schema, &before, &mut live, |step| (step.to, step.from)) {
-            return live;
-        }
-    }
+    let bears = |live: &StatesOf, of: Type| live[usize::from(of)].has_start();
+    settle(schema, &mut live, bears, |step| (step.to, step.from));
+    live
 }
 
-/// The states that words over tree-bearing types lead to from the start, round by round.
+/// The states that words over tree-bearing types lead to from the start.
 fn states_ahead(schema: &Schema, live: &StatesOf) -> StatesOf {
     let mut ahead = [States::START; MOST_TYPES];
-    while spread(schema, live, &mut ahead, |step| (step.from, step.to)) {}
+    let bears = |_: &StatesOf, of: Type| live[usize::from(of)].has_start();
+    settle(schema, &mut ahead, bears, |step| (step.from, step.to));
     ahead
 }
 
-/// One round: a step by a tree-bearing type adds its second state to a set that has its first. Was one added?
+/// A step by a tree-bearing type adds its second state to its type's set if that has the first. Goes
+/// over one type's steps until its set is unchanged, then over the next type's, and over all types
+/// again until no set grows. Which types bear a tree may hang on the sets.
 #[inline(always)]
-fn spread(
+fn settle(
     schema: &Schema,
-    live: &StatesOf,
     sets: &mut StatesOf,
+    bears: impl Fn(&StatesOf, Type) -> bool,
     ends: impl Fn(Step) -> (State, State),
-) -> bool {
-    let mut added = false;
-    for (of, own) in schema.blocks() {
-        let mut set = sets[of];
-        for step in schema.steps_at(own) {
-            let (first, second) = ends(step);
-            if live[usize::from(step.by)].has_start() && set.has(first) {
-                set.add(second);
+) {
+    let mut grown = true;
+    while grown {
+        grown = false;
+        for (of, own) in schema.blocks() {
+            loop {
+                let mut set = sets[of];
+                for step in schema.steps_at(own.clone()) {
+                    let (first, second) = ends(step);
+                    if bears(sets, step.by) && set.has(first) {
+                        set.add(second);
+                    }
+                }
+                if set == sets[of] {
+                    break;
+                }
+                sets[of] = set;
+                grown = true;
             }
         }
-        added |= set != sets[of];
-        sets[of] = set;
     }
-    added
 }
 
-/// The reached types, round by round.
-fn reached_types(schema: &Schema, live: &StatesOf, ahead: &StatesOf) -> [bool; MOST_TYPES] {
+/// The reached types, by a queue: the entries from the states ahead in a reached type are by reached
+/// types.
+fn reached_types(schema: &Schema, rows: &Rows, ahead: &StatesOf) -> [bool; MOST_TYPES] {
     let mut reached = [false; MOST_TYPES];
     reached[usize::from(schema.root)] = true;
-    loop {
-        let before = reached;
-        for (of, own) in schema.blocks() {
-            if reached[of] {
-                for Step { from, by, to } in schema.steps_at(own) {
-                    let by = usize::from(by);
-                    reached[by] |= ahead[of].has(from) && live[by].has_start() && live[of].has(to);
-                }
+    let mut queue = [schema.root; MOST_TYPES];
+    let mut count = 1;
+    let mut place = 0;
+    while place < count {
+        let of = queue[place];
+        for entry in rows.from_any(of, ahead[usize::from(of)]) {
+            let reached = &mut reached[usize::from(entry.by())];
+            if !*reached {
+                *reached = true;
+                queue[count] = entry.by();
+                count += 1;
             }
         }
-        if reached == before {
-            return reached;
-        }
+        place += 1;
     }
+    reached
 }

@@ -1,0 +1,125 @@
+//! The steps that count, grouped by the state that they are from.
+
+use crate::limits::{MOST_STATES, MOST_STEPS, MOST_TYPES, State, Tag, Type};
+use crate::schema::{Schema, Step};
+use crate::states::{States, StatesOf};
+
+/// A step that counts: by a tree-bearing type, into a live state. From the lowest bit on it has the
+/// state that it is from, the one that it leads to, its type and its type's tag in 5, 5, 9 and 5 bits.
+#[derive(Debug, Clone, Copy, PartialEq, Eq, PartialOrd, Ord)]
+#[repr(transparent)]
+pub struct Entry(pub u32);
+
+impl Entry {
+    const NONE: Entry = Entry(0);
+
+    const STATE: u32 = 0x1F;
+    const TYPE: u32 = 0x1FF;
+    const TAG: u32 = 0x1F;
+
+    const TO: u32 = 5;
+    const BY: u32 = 10;
+    const TAGGED: u32 = 19;
+
+    const fn new(Step { from, by, to }: Step, tag: Tag) -> Self {
+        Entry(
+            from as u32
+                | (to as u32) << Self::TO
+                | (by as u32) << Self::BY
+                | (tag as u32) << Self::TAGGED,
+        )
+    }
+
+    #[inline]
+    pub const fn from(self) -> State {
+        (self.0 & Self::STATE) as State
+    }
+
+    #[inline]
+    pub const fn to(self) -> State {
+        (self.0 >> Self::TO & Self::STATE) as State
+    }
+
+    #[inline]
+    pub const fn by(self) -> Type {
+        (self.0 >> Self::BY & Self::TYPE) as Type
+    }
+
+    #[inline]
+    pub const fn tag(self) -> Tag {
+        (self.0 >> Self::TAGGED & Self::TAG) as Tag
+    }
+}
+
+/// A row for each state of each type, `MOST_STATES` rows a type.
+const ROWS: usize = MOST_TYPES * MOST_STATES;
+
+/// The entries of all rows, row after row, in each the order of the steps; past them all is 0.
+#[derive(Debug, Clone, Copy, PartialEq, Eq)]
+#[repr(C)]
+pub struct Rows {
+    pub entries: [Entry; MOST_STEPS],
+    /// Where each row begins; it ends where the next begins. What follows the used types' rows is the
+    /// number of entries, and 0 after it.
+    pub begins: [u16; ROWS + 1],
+}
+
+impl Rows {
+    pub const NONE: Rows = Rows {
+        entries: [Entry::NONE; MOST_STEPS],
+        begins: [0; ROWS + 1],
+    };
+
+    /// The rows of a schema inside the limits, of which these states are live.
+    pub fn of(schema: &Schema, live: &StatesOf) -> Rows {
+        let mut rows = Rows::NONE;
+        let mut count = 0;
+        let mut own_entries = Vec::new();
+        for (of, own) in schema.blocks() {
+            own_entries.clear();
+            own_entries.extend(entries_that_count(schema, live, of, own));
+            let begins = &mut rows.begins[of * MOST_STATES..][..MOST_STATES];
+            let (used, unused) = begins.split_at_mut(usize::from(schema.states[of]));
+            for (state, begin) in used.iter_mut().enumerate() {
+                *begin = count as u16;
+                for entry in own_entries
+                    .iter()
+                    .filter(|entry| usize::from(entry.from()) == state)
+                {
+                    rows.entries[count] = *entry;
+                    count += 1;
+                }
+            }
+            unused.fill(count as u16);
+        }
+        rows.begins[usize::from(schema.types) * MOST_STATES] = count as u16;
+        rows
+    }
+
+    /// The entries from a state of a type.
+    #[inline]
+    pub fn row(&self, within: Type, state: State) -> &[Entry] {
+        let row = usize::from(within) * MOST_STATES + usize::from(state);
+        let [begin, end] = [self.begins[row], self.begins[row + 1]].map(usize::from);
+        &self.entries[begin..end]
+    }
+
+    /// The entries from these states of a type.
+    #[inline]
+    pub fn from_any(&self, within: Type, states: States) -> impl Iterator<Item = Entry> {
+        let rows = states.iter().map(move |state| self.row(within, state));
+        rows.flatten().copied()
+    }
+}
+
+/// The entries of a type's steps that count, in the steps' order.
+fn entries_that_count(
+    schema: &Schema,
+    live: &StatesOf,
+    of: usize,
+    own: std::ops::Range<usize>,
+) -> impl Iterator<Item = Entry> {
+    let counts = move |step: &Step| live[usize::from(step.by)].has_start() && live[of].has(step.to);
+    let steps = schema.steps_at(own).filter(counts);
+    steps.map(|step| Entry::new(step, schema.tag[usize::from(step.by)]))
+}
