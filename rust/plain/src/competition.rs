@@ -1,6 +1,6 @@
 //! Competition: two types of one tag that may both come next in an element.
 
-use crate::limits::{LONGEST_WORD, PAIRS, State, Type};
+use crate::limits::{LONGEST_WORD, MOST_STATES, PAIRS, State, Type};
 use crate::rows::{Entry, Rows};
 use crate::schema::Schema;
 use crate::states::States;
@@ -78,6 +78,18 @@ pub const fn pair_number(p: State, q: State) -> usize {
     p as usize * (p as usize + 1) / 2 + q as usize
 }
 
+/// The pair's number for each two states, in either order.
+const PAIR_NUMBERS: [[u16; MOST_STATES]; MOST_STATES] = {
+    let mut numbers = [[0; MOST_STATES]; MOST_STATES];
+    let mut entry = 0;
+    while entry < MOST_STATES * MOST_STATES {
+        let (p, q) = (entry / MOST_STATES, entry % MOST_STATES);
+        numbers[p][q] = pair_number(p as State, q as State) as u16;
+        entry += 1;
+    }
+    numbers
+};
+
 /// A pair of states, and how the search came to it: from which place of the queue, by which type.
 #[derive(Debug, Clone, Copy)]
 struct Arrival {
@@ -121,7 +133,8 @@ impl Queue {
     /// Adds a pair that was not reached before.
     #[inline(always)]
     fn add(&mut self, arrival: Arrival) {
-        let reached = &mut self.reached[pair_number(arrival.p, arrival.q)];
+        let number = PAIR_NUMBERS[usize::from(arrival.p)][usize::from(arrival.q)];
+        let reached = &mut self.reached[usize::from(number)];
         if !*reached {
             *reached = true;
             self.arrivals[self.count] = arrival;

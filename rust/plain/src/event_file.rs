@@ -3,11 +3,11 @@
 use crate::codes::{CLOSE, FINISH, OPEN};
 use crate::limits::{Tag, Type};
 use crate::questions::{NO_EVENT, NO_ROOM, Number, OUTSIDE_LIMITS};
-use crate::reading::{Ahead, Reading, smallest};
+use crate::reading::{Ahead, Reading};
 use crate::rows::Rows;
 use crate::schema::Schema;
 use crate::states::States;
-use crate::trimming::live_rows;
+use crate::trimming::live_and_rows;
 
 /// What an event file is answered: 0 if it is taken, the place of the refused event or the file's
 /// length, and the count of openings taken.
@@ -104,12 +104,14 @@ struct Ways<'s> {
 
 impl<'s> Ways<'s> {
     fn of(schema: &'s Schema) -> Self {
-        let (live, rows) = live_rows(schema);
-        Ways {
+        let mut ways = Ways {
             schema,
-            root_bears: live[usize::from(schema.root)].has_start(),
-            rows,
-        }
+            root_bears: false,
+            rows: Rows::NONE,
+        };
+        let live = live_and_rows(schema, &mut ways.rows);
+        ways.root_bears = live[usize::from(schema.root)].has_start();
+        ways
     }
 }
 
@@ -126,9 +128,7 @@ impl Ahead for Ways<'_> {
 
     #[inline]
     fn child(&self, within: Type, set: States, tag: Tag) -> Option<(Type, States)> {
-        let entries = self.rows.from_any(within, set);
-        let of_tag = entries.filter(|entry| entry.tag() == tag);
-        smallest(of_tag.map(|entry| (entry.by(), entry.to())))
+        self.rows.smallest(within, set, tag)
     }
 }
 

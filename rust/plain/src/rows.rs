@@ -1,11 +1,14 @@
 //! The steps that count, grouped by the state that they are from.
 
+use std::ops::Range;
+
 use crate::limits::{MOST_STATES, MOST_STEPS, MOST_TYPES, State, Tag, Type};
 use crate::schema::{Schema, Step};
 use crate::states::{States, StatesOf};
 
 /// A step that counts: by a tree-bearing type, into a live state. From the lowest bit on it has the
-/// state that it is from, the one that it leads to, its type and its type's tag in 5, 5, 9 and 5 bits.
+/// state that it is from, the one that it leads to, its type and its type's tag in 5, 5, 9 and 5 bits;
+/// the bits above are 0.
 #[derive(Debug, Clone, Copy, PartialEq, Eq, PartialOrd, Ord)]
 #[repr(transparent)]
 pub struct Entry(pub u32);
@@ -16,6 +19,9 @@ impl Entry {
     const STATE: u32 = 0x1F;
     const TYPE: u32 = 0x1FF;
     const TAG: u32 = 0x1F;
+
+    /// Greater than any type's number, and not greater than a type's bits can be.
+    const NO_TYPE: u32 = Self::TYPE;
 
     const TO: u32 = 5;
     const BY: u32 = 10;
@@ -49,6 +55,12 @@ impl Entry {
     pub const fn tag(self) -> Tag {
         (self.0 >> Self::TAGGED & Self::TAG) as Tag
     }
+
+    /// Its type if it is of the tag, else a greater number than any type's: tag and type less the tag.
+    #[inline]
+    const fn type_of(self, tag: Tag) -> u32 {
+        (self.0 >> Self::BY).wrapping_sub((tag as u32) << (Self::TAGGED - Self::BY))
+    }
 }
 
 /// A row for each state of each type, `MOST_STATES` rows a type.
@@ -70,30 +82,26 @@ impl Rows {
         begins: [0; ROWS + 1],
     };
 
-    /// The rows of a schema inside the limits, of which these states are live.
-    pub fn of(schema: &Schema, live: &StatesOf) -> Rows {
-        let mut rows = Rows::NONE;
+    /// Fills empty rows with the steps of a schema inside the limits, of which these states are live.
+    pub fn fill(&mut self, schema: &Schema, live: &StatesOf) {
         let mut count = 0;
         let mut own_entries = Vec::new();
         for (of, own) in schema.blocks() {
             own_entries.clear();
             own_entries.extend(entries_that_count(schema, live, of, own));
-            let begins = &mut rows.begins[of * MOST_STATES..][..MOST_STATES];
+            let begins = &mut self.begins[of * MOST_STATES..][..MOST_STATES];
             let (used, unused) = begins.split_at_mut(usize::from(schema.states[of]));
             for (state, begin) in used.iter_mut().enumerate() {
                 *begin = count as u16;
-                for entry in own_entries
-                    .iter()
-                    .filter(|entry| usize::from(entry.from()) == state)
-                {
-                    rows.entries[count] = *entry;
+                let is_from = |entry: &&Entry| usize::from(entry.from()) == state;
+                for &entry in own_entries.iter().filter(is_from) {
+                    self.entries[count] = entry;
                     count += 1;
                 }
             }
             unused.fill(count as u16);
         }
-        rows.begins[usize::from(schema.types) * MOST_STATES] = count as u16;
-        rows
+        self.begins[usize::from(schema.types) * MOST_STATES] = count as u16;
     }
 
     /// The entries from a state of a type.
@@ -102,6 +110,24 @@ impl Rows {
         let row = usize::from(within) * MOST_STATES + usize::from(state);
         let [begin, end] = [self.begins[row], self.begins[row + 1]].map(usize::from);
         &self.entries[begin..end]
+    }
+
+    /// The smallest type of the tag that leads on from these states of a type, and where it leads to.
+    #[inline]
+    pub fn smallest(&self, within: Type, states: States, tag: Tag) -> Option<(Type, States)> {
+        let (mut smallest, mut after) = (Entry::NO_TYPE, States::NONE);
+        for state in states.iter() {
+            for entry in self.row(within, state) {
+                let by = entry.type_of(tag);
+                if by <= smallest {
+                    if by < smallest {
+                        (smallest, after) = (by, States::NONE);
+                    }
+                    after.add(entry.to());
+                }
+            }
+        }
+        (smallest < Entry::NO_TYPE).then_some((smallest as Type, after))
     }
 
     /// The entries from these states of a type.
@@ -117,7 +143,7 @@ fn entries_that_count(
     schema: &Schema,
     live: &StatesOf,
     of: usize,
-    own: std::ops::Range<usize>,
+    own: Range<usize>,
 ) -> impl Iterator<Item = Entry> {
     let counts = move |step: &Step| live[usize::from(step.by)].has_start() && live[of].has(step.to);
     let steps = schema.steps_at(own).filter(counts);

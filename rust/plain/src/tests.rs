@@ -1,12 +1,14 @@
 //! The samples of the boot wall, and the points that the questions' order settles.
 
 mod made_up;
+mod rows;
 
 use crate::codes::{CLOSE, FINISH, OPEN};
 use crate::competition::pair_number;
 use crate::limits::WITNESS;
 use crate::{
-    Job, Opening, SchemaAnswer, Witness, check_schema, competes, openings, print, type_document,
+    Job, Opening, Schema, SchemaAnswer, Witness, check_schema, competes, openings, print,
+    schema_file, type_document,
 };
 
 /// A byte that no answer writes.
@@ -38,6 +40,13 @@ fn hex(text: &str) -> Vec<u8> {
     text.split_whitespace()
         .map(|byte| u8::from_str_radix(byte, 16).unwrap())
         .collect()
+}
+
+/// The schema that a file states.
+fn stated(file: &[u8]) -> Schema {
+    let mut schema = Schema::BLANK;
+    schema_file::read(file, &mut schema).unwrap();
+    schema
 }
 
 /// The number and place of a schema file, and the bytes of the witness that were written.

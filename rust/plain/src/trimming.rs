@@ -28,20 +28,21 @@ impl Trimming {
     };
 
     pub fn of(schema: &Schema) -> Trimming {
-        let (live, rows) = live_rows(schema);
-        Trimming {
-            bears: live.map(States::has_start),
-            reached: reached_types(schema, &rows, &states_ahead(schema, &live)),
-            live,
-            rows,
-        }
+        // Filled in place: a copy of the rows takes longer than a small schema's trimming.
+        let mut trimming = Trimming::NONE;
+        trimming.live = live_and_rows(schema, &mut trimming.rows);
+        trimming.bears = trimming.live.map(States::has_start);
+        let ahead = states_ahead(schema, &trimming.live);
+        trimming.reached = reached_types(schema, &trimming.rows, &ahead);
+        trimming
     }
 }
 
-/// The live states, and the rows of the steps that count.
-pub fn live_rows(schema: &Schema) -> (StatesOf, Rows) {
+/// The live states; and fills empty rows with the steps that count.
+pub fn live_and_rows(schema: &Schema, rows: &mut Rows) -> StatesOf {
     let live = live_states(schema);
-    (live, Rows::of(schema, &live))
+    rows.fill(schema, &live);
+    live
 }
 
 /// The live states: a type bears a tree once its start state is live.

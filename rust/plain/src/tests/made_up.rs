@@ -1,17 +1,11 @@
 //! Calls on schemas and readings that no file stated and no events led to.
 
-use super::{OPEN, boots};
+use super::{OPEN, boots, stated};
 use crate::limits::{MOST_OPEN, MOST_STEPS, MOST_TYPES};
 use crate::questions::{
     INCOMPLETE, NO_EVENT, NO_SUCH_OPENING, OUTSIDE_LIMITS, TOO_DEEP, UNKNOWN_TAG,
 };
-use crate::{Answer, Answered, Reading, Schema, States, event_file, schema_file};
-
-fn stated(file: &[u8]) -> Schema {
-    let mut schema = Schema::BLANK;
-    schema_file::read(file, &mut schema).unwrap();
-    schema
-}
+use crate::{Answer, Answered, Reading, Schema, States, event_file};
 
 /// An element of this type is open, in these states.
 fn inside(of: u8, set: u32) -> Reading {

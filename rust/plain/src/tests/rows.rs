@@ -1,0 +1,80 @@
+//! The rows of the steps that count, and event files over both layouts.
+
+use super::{Block, OPEN, boots, file, leaf, nesting, row, stated, two_readings};
+use crate::rows::Entry;
+use crate::{Rows, Trimming, event_file, event_file_by_steps};
+
+fn rows(file: &[u8]) -> Rows {
+    Trimming::of(&stated(file)).rows
+}
+
+/// From, type, to and tag of each entry of a row.
+fn entries(rows: &Rows, within: u8, state: u8) -> Vec<[u8; 4]> {
+    let parts = |&entry: &Entry| [entry.from(), entry.by(), entry.to(), entry.tag()];
+    rows.row(within, state).iter().map(parts).collect()
+}
+
+#[test]
+fn rows_of_the_boots() {
+    let rows = rows(&boots());
+    assert_eq!(entries(&rows, 0, 0), [[0, 1, 0, 1], [0, 2, 1, 2]]);
+    assert_eq!(entries(&rows, 0, 1), [[1, 3, 1, 1]]);
+    let words = [
+        1 << 10 | 1 << 19,
+        1 << 5 | 2 << 10 | 2 << 19,
+        1 | 1 << 5 | 3 << 10 | 1 << 19,
+    ];
+    assert_eq!(rows.entries[..3], words.map(Entry));
+    assert!(rows.entries[3..].iter().all(|&entry| entry == Entry(0)));
+    assert_eq!(rows.begins[..2], [0, 2]);
+    assert!(rows.begins[2..=4 * 32].iter().all(|&begin| begin == 3));
+    assert!(rows.begins[4 * 32 + 1..].iter().all(|&begin| begin == 0));
+}
+
+#[test]
+fn steps_that_do_not_count() {
+    // Type 1 bears no tree, and state 2 is not live.
+    let steps = &[(0, 1, 1), (1, 2, 0), (0, 2, 2), (0, 2, 1), (1, 2, 1)];
+    let barren: Block = (1, 1, &[], &[]);
+    let rows = rows(&file(3, &[(0, 3, &[1], steps), barren, leaf(2)], 0));
+    assert_eq!(entries(&rows, 0, 0), [[0, 2, 1, 2]]);
+    assert_eq!(entries(&rows, 0, 1), [[1, 2, 0, 2], [1, 2, 1, 2]]);
+    assert!(entries(&rows, 0, 2).is_empty());
+    assert_eq!(rows.begins[3 * 32], 3);
+}
+
+#[test]
+fn as_many_rows_as_there_are() {
+    let steps: Vec<_> = (0..32)
+        .flat_map(|from| (0..32).map(move |to| (from, 63, to)))
+        .collect();
+    let mut blocks = vec![leaf(1); 64];
+    blocks[0] = (0, 32, &[31], &steps);
+    let rows = rows(&file(2, &blocks, 0));
+    assert_eq!(rows.begins[64 * 32], 1024);
+    assert_eq!(entries(&rows, 0, 31)[31], [31, 63, 31, 1]);
+    assert!(entries(&rows, 63, 31).is_empty());
+}
+
+#[test]
+fn both_layouts_answer_alike() {
+    let schemas = [boots(), nesting(), two_readings(leaf(3))];
+    let files = [
+        row(0, &[1, 1, 2, 1]),
+        row(0, &[2, 2]),
+        row(0, &[]),
+        [OPEN, 0].repeat(65),
+    ];
+    for schema in schemas.iter().map(|file| stated(file)) {
+        for (file, room) in files
+            .iter()
+            .flat_map(|file| [(file, 0), (file, 2), (file, 80)])
+        {
+            let mut types = [vec![9; room], vec![9; room]];
+            let [ours, theirs] = &mut types;
+            let answer = event_file::read(&schema, file, ours);
+            assert_eq!(answer, event_file_by_steps::read(&schema, file, theirs));
+            assert_eq!(ours, theirs);
+        }
+    }
+}
