@@ -119,6 +119,7 @@ fn svg(points: &[Point]) -> String {
         "middle",
         "steps of the type",
     ));
+    parts.push(frame());
     parts.extend(LINES.iter().map(|line| line.through(points, &x, &y)));
     parts.extend(LINES.iter().zip(0..).map(|(line, n)| line.legend(n)));
     format!(
@@ -183,6 +184,24 @@ impl Line {
         let name = text(x + 40.0, y + 4.0, "start", self.name);
         [stroke, self.mark(x + 15.0, y), name].join("\n")
     }
+}
+
+/// The edges of the plot's area, and a ground for the legend.
+fn frame() -> String {
+    let (width, height) = (ACROSS.end - ACROSS.start, DOWN.end - DOWN.start);
+    let at = |inset: f64| {
+        format!(
+            "x=\"{}\" y=\"{}\"",
+            ACROSS.start + inset,
+            DOWN.start + inset
+        )
+    };
+    format!(
+        "<rect {} width=\"{width}\" height=\"{height}\" fill=\"none\" stroke=\"#444444\"/>\n\
+         <rect {} width=\"280\" height=\"70\" fill=\"white\"/>",
+        at(0.0),
+        at(8.0)
+    )
 }
 
 const GRID: &str = "#dddddd";
