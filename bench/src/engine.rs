@@ -1,7 +1,7 @@
 //! The proved engine's calls: those on values in libengine_bench.a, and the schema file's in
 //! libtypestock_c.a. The values lie in memory as the plain implementation has them.
 use plain::limits::{MOST_TYPES, Tag, Type, WITNESS};
-use plain::{Answer, Answered, EventAnswer, Reading, Schema, SchemaAnswer, States};
+use plain::{Answer, Answered, EventAnswer, Reading, Rows, Schema, SchemaAnswer, States};
 use std::mem::{offset_of, size_of};
 
 /// Whether a schema is inside the limits, and its trimming's tables; if it is not, they are empty.
@@ -11,14 +11,17 @@ pub struct Trimmed {
     pub live: [States; MOST_TYPES],
     pub bears: [bool; MOST_TYPES],
     pub reached: [bool; MOST_TYPES],
+    /// Its entries and where each row begins.
+    pub rows: Rows,
 }
 
 // The layouts that the exports have: C's, of the fields in the engine's order.
 const _: () = {
     assert!(size_of::<Schema>() == 3588 && offset_of!(Schema, accepting) == 132);
     assert!(offset_of!(Schema, steps) == 388 && offset_of!(Schema, from) == 516);
-    assert!(size_of::<Trimmed>() == 388 && offset_of!(Trimmed, live) == 4);
+    assert!(size_of::<Trimmed>() == 8584 && offset_of!(Trimmed, live) == 4);
     assert!(offset_of!(Trimmed, bears) == 260 && offset_of!(Trimmed, reached) == 324);
+    assert!(offset_of!(Trimmed, rows) == 388 && offset_of!(Rows, begins) == 4096);
     assert!(size_of::<Reading>() == 324 && offset_of!(Reading, sets) == 68);
     assert!(size_of::<Answer>() == 2 && size_of::<Answered>() == 328);
     assert!(offset_of!(Answered, reading) == 4);
