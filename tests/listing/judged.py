@@ -4,7 +4,7 @@ from functools import lru_cache
 
 from . import schema_file
 from .meaning import Meaning, Wrong
-from .tables import (COMPETITION, LEAST_WITNESS_ROOM, MOST_TYPES, MOST_WORD, OUTSIDE_LIMITS,
+from .tables import (COMPETITION, LEAST_WITNESS_ROOM, MOST_STATES, MOST_TYPES, MOST_WORD, OUTSIDE_LIMITS,
                      SHORT_WITNESS_ROOM, TAKEN)
 from .value import SchemaValue, as_set
 
@@ -68,13 +68,28 @@ def value_line(value, room):
     live = [as_set(meaning.live(a)) if meaning else 0 for a in types]
     bears = sorted(meaning.borne) if meaning else []
     reached = sorted(meaning.reached()) if meaning else []
+    rows = rows_text(meaning) if meaning else "rows"
     search, judgement = value_answers(meaning, room)
     line = "; ".join([
         "inside" if meaning else "outside", listed("live", live, ""),
-        listed("bears", bears, " none"), listed("reached", reached, " none"),
+        listed("bears", bears, " none"), listed("reached", reached, " none"), rows,
+        listed("live", live, ""), rows,
         f"search {search} | {buffer_text(search, meaning)}",
         f"judge {answer_text(judgement, 0)} | {buffer_text(judgement, meaning)}"])
     return line, (f"search {search}", f"judge {judgement}")
+
+
+def rows_text(meaning):
+    """The rows that have an entry: the number of each, and of each step that counts, in the order
+    of the steps, its states, its type and the type's tag."""
+    text = "rows"
+    for a, block in enumerate(meaning.schema.blocks):
+        live = meaning.live(a)
+        counting = [(p, q, j) for p, j, q in block.steps if j in meaning.borne and q in live]
+        for p in sorted({p for p, _, _ in counting}):
+            row = [(p, q, j, meaning.tag(j)) for from_, q, j in counting if from_ == p]
+            text += listed(f" row {a * MOST_STATES + p}", sum(row, ()), "")
+    return text
 
 
 def listed(name, numbers, none):

@@ -1,6 +1,7 @@
 // Kind V: the first string is a schema file, the second items that put entries of the schema value (see `made_up`), and the buffer takes the
-// witness. The line has whether the value is inside the limits; of its trimming the live states of each type, which types bear a tree and which
-// are reached; and what the search for competition and the verdict on the schema answer, each with the buffer.
+// witness. The line has whether the value is inside the limits; of its trimming the live states of each type, which types bear a tree, which
+// are reached, and the rows; of the call that hands back live states with rows the same two; and what the search for competition and the
+// verdict on the schema answer, each with the buffer.
 use crate::buffer::COMPETES;
 use crate::buffer::fill;
 use crate::buffer::show_witness;
@@ -17,8 +18,13 @@ use competition::Searched;
 use competition::competition;
 use competition::judge;
 use reading::Reading;
+use schema::BEGINS;
+use schema::Entry;
+use schema::ROWS;
+use schema::STEPS;
 use schema::Schema;
 use schema::TYPES;
+use schema::live_rows;
 use schema::trim;
 use schema::within;
 
@@ -62,17 +68,61 @@ fn show_marked(marked: [bool; TYPES]) {
     }
 }
 
+// The entries of a row: of each the two states, the type and its tag.
+fn show_row(entries: [u32; STEPS], start: usize, end: usize) {
+    let mut k = start;
+    while k < STEPS && k < end {
+        let entry = Entry(entries[k]);
+        let by = entry.by();
+        let tag = entry.tag();
+        next_number(wide(entry.from()));
+        next_number(wide(entry.to()));
+        next_number(wide(by.0));
+        next_number(wide(tag.0));
+        k += 1;
+    }
+}
+
+// The rows that have an entry.
+fn show_rows(entries: [u32; STEPS], begins: [u16; BEGINS]) {
+    text(b"; rows");
+    let mut i = 0;
+    while i < ROWS {
+        let start = begins[i] as usize;
+        let end = begins[i + 1] as usize;
+        if start < end {
+            text(b" row");
+            next_number(long(i));
+            show_row(entries, start, end);
+        }
+        i += 1;
+    }
+}
+
 fn show_trimming(schema: Schema) {
     let trimming = trim(schema);
     let live = trimming.live;
     let bears = trimming.bears;
     let reached = trimming.reached;
+    let entries = trimming.entries;
+    let begins = trimming.begins;
     text(b"; live");
     show_live(live, schema.types as usize);
     text(b"; bears");
     show_marked(bears);
     text(b"; reached");
     show_marked(reached);
+    show_rows(entries, begins);
+}
+
+fn show_live_rows(schema: Schema) {
+    let found = live_rows(schema);
+    let live = found.live;
+    let entries = found.entries;
+    let begins = found.begins;
+    text(b"; live");
+    show_live(live, schema.types as usize);
+    show_rows(entries, begins);
 }
 
 // The number of a search's answer, 0 where nothing competes.
@@ -107,6 +157,7 @@ pub(crate) fn run(file: &[u8], puts: &[u8], out: &mut [u8]) {
         text(b"outside");
     }
     show_trimming(schema);
+    show_live_rows(schema);
     show_search(schema, out);
     fill(out);
     show_judged(schema, out);
