@@ -195,6 +195,10 @@ states-below k x l b = (λ h q m. below k q x h m, λ h. bounded k x b h)
 unfoldable pub absent : ℕ → ℕ
 absent x = mostStates - length (members x)
 
+pub absent-all : (x : ℕ) → absent x ≤ mostStates
+unfolding absent
+absent-all x = omega arith
+
 -- the length of the list is the sum of the digits
 count-last : (n x : ℕ) (b : Bool) → member n x ≡ b → length (cond b (n ∷ []) []) ≡ digit n x
 count-last n x true e = sym (is-one n x (subst T (sym e) tt))

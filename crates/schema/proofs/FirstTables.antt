@@ -1,5 +1,5 @@
 -- What a value says of its steps, and the tables that the rounds of trimming begin with.
-use mathlib.Core.Path.{_≡_, refl, _∙_, ap}
+use mathlib.Core.Path.{_≡_, refl, sym, _∙_, ap}
 use mathlib.Core.Logic.{_↔_}
 use mathlib.Core.Bool.{Bool, true, false}
 use mathlib.Core.List.{List, [], _∷_, _++_, List·Memᴰ, List·Memᴰ·not-nil}
@@ -7,6 +7,7 @@ use Prim.Native.Nat.{ℕ, zero, suc, _-_, _%_, _^_, _≤_, _<_}
 use native.Mathlib.Decide.{ℕ-discrete, decLt}
 use native.Mathlib.Omega.{arith}
 use native.Mathlib.Nat.{mod-eq-of-lt}
+use borrow.Author.Tests.{lt-ltb, le-ltb}
 use lib.Dec.{T, lit<}
 use lib.ListN.{length, getD, set, take, replicate, length-append, length-take, length-replicate}
 use lib.ListN.{getD-replicate, List·getD-append}
@@ -14,8 +15,8 @@ use lib.Seq.{getD-take, getD-set-same, getD-set-other}
 use Rattle.sdtd.specs.Limits.{mostTypes, mostStates}
 use Rattle.sdtd.specs.Schema.{Step, blockOf, WithinLimits}
 use Rattle.schema.specs.States.{member}
-use Rattle.schema.specs.Value.{stepsOf, offset, blockAt, meaning}
-use Rattle.schema.specs.Spread.{firstSets}
+use Rattle.schema.specs.Value.{upFrom, stepsOf, offset, blockAt, meaning}
+use Rattle.schema.specs.Spread.{firstSets, spanAt, stepsIn}
 use Rattle.schema.specs.declared.value.Schema.{Schema}
 use Rattle.schema.proofs.Bits.{member-none, member-start, mem-members}
 use Rattle.schema.proofs.Values.{steps-mem, types-count, block-of, no-block-of}
@@ -76,12 +77,9 @@ forth v = stepsOf (v .from) (v .by) (v .to)
 abbrev pub turned : Schema → ℕ → ℕ → List Step
 turned v = stepsOf (v .to) (v .by) (v .from)
 
--- the first tables of the live states and of the reached types
+-- the first table of the live states
 abbrev pub firstLive : Schema → List ℕ
 firstLive v = firstSets (v .types) (v .accepting)
-
-abbrev pub firstReached : Schema → List Bool
-firstReached v = set (replicate mostTypes false) (v .root .0) true
 
 pub root-is : (v : Schema) → meaning v .root ≡ v .root .0
 unfolding meaning
@@ -103,6 +101,15 @@ module _ {v : Schema} (fits : Fits v) (within : WithinLimits (meaning v)) where
   pub own-steps : (a : ℕ) → a < v .types → blockOf (meaning v) a .steps ≡ own (v .steps) (forth v) a
   unfolding blockAt
   own-steps a l = rw (block-of v a l)
+
+  -- those of any type's, past the types too
+  pub steps-in : (a : ℕ) → stepsIn (v .steps) (forth v) (v .types) a ≡ blockOf (meaning v) a .steps
+  unfolding spanAt stepsOf upFrom
+  steps-in a =
+      elim (decLt a (v .types)) [
+        | yes l ↦ rw (lt-ltb a (v .types) l) (sym (own-steps a l))
+        | no l ↦ rw (le-ltb a (v .types) (omega arith), no-block-of v a (omega arith))
+      ]
 
   -- a type with a step is one of the schema's
   own-type : (a : ℕ) (s : Step) → List·Memᴰ s (blockOf (meaning v) a .steps) → a < v .types

@@ -7,8 +7,8 @@ pub mod PuttingLaws
 pub mod RowTurns
 pub mod Rounds
 pub mod SpreadLaws
-pub mod ReachLaws
 pub mod FirstTables
+pub mod ReachLaws
 pub mod RowsLaid
 pub mod RowsExact
 pub mod TablesExact

@@ -1,170 +1,289 @@
--- Laws of a round over the table of reached types: what it keeps, and what it takes in.
-use mathlib.Core.Path.{_≡_, refl, _∙_}
+-- Laws of the queue of reached types: what a type's steps keep and add, and what holds when each type of the queue is gone over.
+use mathlib.Core.Path.{_≡_, refl, sym, _∙_}
 use mathlib.Core.Bool.{Bool, true, false, cond, _&&_}
 use mathlib.Core.List.{List, [], _∷_, List·Memᴰ, List·Memᴰ·head, List·Memᴰ·tail}
-use Prim.Native.Nat.{ℕ, zero, suc, _+_, _%_, _≤_, _<_}
-use native.Mathlib.Decide.{ℕ-discrete}
+use Prim.Native.Nat.{ℕ, zero, suc, _+_, _-_, _%_, _≤_, _<_}
+use native.Mathlib.Decide.{ℕ-discrete, decLt}
 use native.Mathlib.Omega.{arith}
-use lib.Dec.{T}
-use lib.ListN.{length, getD, set, length-set}
+use borrow.Author.Tests.{lt-ltb}
+use lib.Dec.{T, ltb}
+use lib.ListN.{length, getD, set, replicate, length-set, length-replicate, List·getD-eq-default}
 use lib.Seq.{getD-set-same, getD-set-other}
 use Rattle.sdtd.specs.Limits.{mostTypes}
 use Rattle.sdtd.specs.Schema.{Step}
 use Rattle.sdtd.proofs.Basics.{cond-either, and-parts, and-both}
+use Rattle.sdtd.proofs.Rounds.{count, count-set, count-le}
 use Rattle.schema.specs.States.{member}
-use Rattle.schema.specs.Value.{offset}
-use Rattle.schema.specs.Spread.{reachStep, reachSteps, reachAll}
-use Rattle.schema.proofs.Values.{offset-step}
-use Rattle.schema.proofs.SpreadLaws.{byBearing, own}
+use Rattle.schema.specs.Spread.{reaches, Reaching, first, next, ReachedFrom, Queued, queued, joinType, reachSteps}
+use Rattle.schema.proofs.SpreadLaws.{byBearing}
+use Rattle.schema.proofs.FirstTables.{same-everywhere, one-only, one-in}
 
--- What each table on the way has: the types of the first table, and only such as have P.
-pub record Marks (first : List Bool) (P : ℕ → Type 0) (t : List Bool) : Type 0 where
-  pub long : length t ≡ mostTypes
-  pub grown : (a : ℕ) → T (getD first a false) → T (getD t a false)
-  pub sound : (a : ℕ) → T (getD t a false) → P a
-
--- a step of a word from a state that is reached: its type bears a tree and its state `to` is live
+-- what the test of a step says
 pub record Reaches (bears : List ℕ) (forward live : ℕ) (s : Step) : Type 0 where
   pub from : T (member (s .from) forward)
   pub by : T (byBearing bears s)
   pub to : T (member (s .to) live)
 
-set-true : (t : List Bool) (i : ℕ) → i < length t → T (getD (set t i true) i false)
-set-true t i l = rw (getD-set-same t i true false l) tt
-
-mark : {first : List Bool} {P : ℕ → Type 0} {t : List Bool} (i : ℕ) → i < mostTypes → P i → Marks first P t → Marks first P (set t i true)
-mark {first} {P} {t} i l p k =
-    record {
-      long = length-set t i true ∙ k .long;
-      grown =
-          λ a m.
-          elim (ℕ-discrete a i) [
-            | yes e ↦ rw e (set-true t i (rw (k .long) l))
-            | no d ↦ rw (getD-set-other t i a true false d) (k .grown a m)
-          ];
-      sound =
-          λ a m. elim (ℕ-discrete a i) [ yes e ↦ rw e p | no d ↦ k .sound a (rw (getD-set-other t i a true false d) at m) ];
-    }
-
--- a table has its own types
-as-is : {t : List Bool} → length t ≡ mostTypes → Marks t (λ a. Unit {0}) t
-as-is l = record { long = l; grown = λ a m. m; sound = λ a m. tt }
-
-module _ (bears : List ℕ) (forward live : ℕ) where
-  abbrev reaches : Step → Bool
-  reaches s = member (s .from) forward && byBearing bears s && member (s .to) live
-
-  test-says : {s : Step} → T (reaches s) → Reaches bears forward live s
-  test-says {s} h =
+module _ (bears : List ℕ) (forward live : ℕ) {s : Step} where
+  pub test-says : T (reaches bears forward live s) → Reaches bears forward live s
+  test-says h =
       let c = and-parts (member (s .from) forward && byBearing bears s) (member (s .to) live) h in
       let d = and-parts (member (s .from) forward) (byBearing bears s) (c .0) in
       record { from = d .0; by = d .1; to = c .1 }
 
-  test-passes : {s : Step} → Reaches bears forward live s → T (reaches s)
-  test-passes {s} c =
+  pub test-passes : Reaches bears forward live s → T (reaches bears forward live s)
+  test-passes c =
       and-both (member (s .from) forward && byBearing bears s) (member (s .to) live)
       (and-both (member (s .from) forward) (byBearing bears s) (c .from) (c .by)) (c .to)
 
-  step-keeps :
-      {first : List Bool} {P : ℕ → Type 0} {t : List Bool} (s : Step) → (Reaches bears forward live s → P (s .by % mostTypes))
-      → Marks first P t → Marks first P (reachStep bears forward live s t)
-  unfolding reachStep
-  step-keeps {first} {P} {t} s rule k =
-      cond-either (Marks first P) (reaches s) (λ h. mark (s .by % mostTypes) (omega arith) (rule (test-says h)) k) (λ n. k)
+-- the type a is marked
+abbrev pub IsMarked : Queued → ℕ → Type 0
+IsMarked m a = T (getD (m .reached) a false)
 
-  steps-keep :
-      {first : List Bool} {P : ℕ → Type 0} {t : List Bool} (ss : List Step)
-      → ((s : Step) → List·Memᴰ s ss → Reaches bears forward live s → P (s .by % mostTypes))
-      → Marks first P t → Marks first P (reachSteps bears forward live ss t)
-  unfolding reachSteps
-  steps-keep [] rule k = k
-  steps-keep (s ∷ ss) rule k =
-      steps-keep ss (λ r i. rule r (List·Memᴰ·tail i)) (step-keeps s (rule s (List·Memᴰ·head refl)) k)
+-- the type at the place i of the queue
+abbrev pub typeAt : Queued → ℕ → ℕ
+typeAt m i = getD (m .queue) i 0
 
-  step-takes :
-      (s : Step) (t : List Bool) → length t ≡ mostTypes → Reaches bears forward live s
-      → T (getD (reachStep bears forward live s t) (s .by % mostTypes) false)
-  unfolding reachStep
-  step-takes s t l c =
-      cond-either (λ (u : List Bool). T (getD u (s .by % mostTypes) false)) (reaches s) (λ h. set-true t (s .by % mostTypes) (omega arith))
-      (λ n. absurd (n (test-passes c)))
+-- the type a stands in the queue
+pub record Placed (m : Queued) (a : ℕ) : Type 0 where
+  pub place : ℕ
+  pub below : place < m .count
+  pub is : typeAt m place ≡ a
 
-  -- the steps that reach their types mark them
-  steps-take :
-      {ss : List Step} {s : Step} (t : List Bool) → length t ≡ mostTypes → List·Memᴰ s ss → Reaches bears forward live s
-      → T (getD (reachSteps bears forward live ss t) (s .by % mostTypes) false)
-  unfolding reachSteps
-  steps-take {s = s} t l (List·Memᴰ·head {x = r} {xs = ss} e) c =
-      let m : T (getD (reachStep bears forward live r t) (s .by % mostTypes) false) = rw (← e) (step-takes s t l c) in
-      steps-keep ss (λ x i d. tt) (as-is (step-keeps r (λ d. tt) (as-is l) .long)) .grown (s .by % mostTypes) m
-  steps-take {s = s} t l (List·Memᴰ·tail {x = r} {xs = ss} i) c =
-      steps-take (reachStep bears forward live r t) (step-keeps r (λ d. tt) (as-is l) .long) i c
+-- The marked types are those in the queue, each once, and have P.
+pub record Kept (P : ℕ → Type 0) (m : Queued) : Type 0 where
+  pub long : length (m .reached) ≡ mostTypes
+  pub room : length (m .queue) ≡ mostTypes
+  pub counted : count (m .reached) ≡ m .count
+  pub marked : (i : ℕ) → i < m .count → IsMarked m (typeAt m i)
+  pub placed : (a : ℕ) → IsMarked m a → Placed m a
+  pub sound : (a : ℕ) → IsMarked m a → P a
 
--- the step r of the type b reaches its type
-abbrev pub ReachesIn : List ℕ → List ℕ → List ℕ → ℕ → Step → Type 0
-ReachesIn bears forward live b r = Reaches bears (getD forward b 0) (getD live b 0) r
+-- from m to m′ marks and entries are only added
+pub record Grows (P : ℕ → Type 0) (m m′ : Queued) : Type 0 where
+  pub kept : Kept P m′
+  pub more : m .count ≤ m′ .count
+  pub marks : (a : ℕ) → IsMarked m a → IsMarked m′ a
+  pub entries : (i : ℕ) → i < m .count → typeAt m′ i ≡ typeAt m i
 
--- the round at the type a, whose steps are ss
-abbrev atType : List ℕ → List ℕ → List ℕ → ℕ → List Step → List Bool → List Bool
-atType bears forward live a ss t = cond (getD t a false) (reachSteps bears (getD forward a 0) (getD live a 0) ss t) t
+-- with one more type
+abbrev joined : ℕ → Queued → Queued
+joined b m = queued (set (m .reached) b true) (set (m .queue) (m .count) b) (m .count + 1)
 
-module _ (bears forward live : List ℕ) where
-  type-keeps :
-      {first : List Bool} {P : ℕ → Type 0} {t : List Bool} (a : ℕ) (ss : List Step)
-      → ((r : Step) → P a → List·Memᴰ r ss → ReachesIn bears forward live a r → P (r .by % mostTypes)) → Marks first P t
-      → Marks first P (atType bears forward live a ss t)
-  type-keeps {first} {P} {t} a ss rule k =
-      cond-either (Marks first P) (getD t a false)
-      (λ h. steps-keep bears (getD forward a 0) (getD live a 0) ss (λ r. rule r (k .sound a h)) k) (λ h. k)
+-- the marks and the queue after one step
+abbrev afterStep : List ℕ → ℕ → ℕ → Step → Queued → Queued
+afterStep bears forward live s m = cond (reaches bears forward live s) (joinType (s .by % mostTypes) m) m
 
-  type-takes :
-      (t : List Bool) (a : ℕ) {ss : List Step} (r : Step) → length t ≡ mostTypes → T (getD t a false) → List·Memᴰ r ss → ReachesIn bears forward live a r
-      → T (getD (atType bears forward live a ss t) (r .by % mostTypes) false)
-  type-takes t a {ss} r l h i c =
-      cond-either (λ (u : List Bool). T (getD u (r .by % mostTypes) false)) (getD t a false)
-      (λ g. steps-take bears (getD forward a 0) (getD live a 0) t l i c) (λ n. absurd (n h))
+module _ {P : ℕ → Type 0} where
+  stays : {m : Queued} → Kept P m → Grows P m m
+  stays k = record { kept = k; more = omega arith; marks = λ a t. t; entries = λ i l. refl }
 
-module _ (steps : List ℕ) (part : ℕ → ℕ → List Step) (bears forward live : List ℕ) where
-  all-keep :
-      {first : List Bool} {P : ℕ → Type 0} {t : List Bool} (n a s : ℕ) → s ≡ offset steps a → a + n ≤ length steps
-      → ((b : ℕ) (r : Step) → b < a + n → P b → List·Memᴰ r (own steps part b) → ReachesIn bears forward live b r → P (r .by % mostTypes))
-      → Marks first P t → Marks first P (reachAll steps part bears forward live a s n t)
-  unfolding reachAll
-  all-keep zero a s e l rule k = k
-  all-keep (suc n) a s e l rule k =
-      all-keep n (suc a) (s + getD steps a 0) (omega (arith, offset-step steps a)) (omega arith)
-      (λ b r i. rule b r (omega arith))
-      (type-keeps bears forward live a (part s (getD steps a 0)) (λ r p i. rule a r (omega arith) p (rw e at i)) k)
+  grows-then : {m m′ m″ : Queued} → Grows P m m′ → Grows P m′ m″ → Grows P m m″
+  grows-then g h =
+      record {
+        kept = h .kept;
+        more = omega (arith, g .more, h .more);
+        marks = λ a t. h .marks a (g .marks a t);
+        entries = λ i l. h .entries i (omega (arith, g .more)) ∙ g .entries i l;
+      }
 
-  all-take :
-      (n a s : ℕ) (t : List Bool) (b : ℕ) (r : Step) → s ≡ offset steps a → a + n ≤ length steps → length t ≡ mostTypes → a ≤ b → b < a + n
-      → T (getD t b false) → List·Memᴰ r (own steps part b) → ReachesIn bears forward live b r
-      → T (getD (reachAll steps part bears forward live a s n t) (r .by % mostTypes) false)
-  unfolding reachAll
-  all-take zero a s t b r e l k least most h i c = absurd (omega arith)
-  all-take (suc n) a s t b r e l k least most h i c =
-      let u : List Bool = atType bears forward live a (part s (getD steps a 0)) t in
-      let f : s + getD steps a 0 ≡ offset steps (suc a) = omega (arith, offset-step steps a) in
-      let m : Marks t (λ x. Unit {0}) u = type-keeps bears forward live a (part s (getD steps a 0)) (λ x p j d. tt) (as-is k) in
-      elim (ℕ-discrete a b) [
-        | yes d ↦
-            all-keep n (suc a) (s + getD steps a 0) f (omega arith) (λ x y j p q g. tt) (as-is (m .long)) .grown (r .by % mostTypes)
-            (type-takes bears forward live t a r k (rw d h) (rw (e, d) i) (rw d c))
-        | no d ↦ all-take n (suc a) (s + getD steps a 0) u b r f (omega arith) (m .long) (omega arith) (omega arith) (m .grown b h) i c
+  module _ {m : Queued} (k : Kept P m) (b : ℕ) (below : b < mostTypes) where
+    -- a type that is not marked finds room in the queue
+    free : getD (m .reached) b false ≡ false → m .count < mostTypes
+    free new =
+        omega (
+          arith,
+          count-le (set (m .reached) b true),
+          length-set (m .reached) b true,
+          count-set (m .reached) b (omega (arith, k .long)) new,
+          k .long,
+          k .counted,
+        )
+
+    old-type : (i : ℕ) → i < m .count → typeAt (joined b m) i ≡ typeAt m i
+    old-type i l = getD-set-other (m .queue) (m .count) i b 0 (omega arith)
+
+    new-type : m .count < mostTypes → typeAt (joined b m) (m .count) ≡ b
+    new-type l = getD-set-same (m .queue) (m .count) b 0 (omega (arith, k .room))
+
+    new-mark : IsMarked (joined b m) b
+    new-mark = rw (getD-set-same (m .reached) b true false (omega (arith, k .long))) tt
+
+    old-mark : (a : ℕ) → IsMarked m a → IsMarked (joined b m) a
+    old-mark a t =
+        elim (ℕ-discrete a b) [ yes e ↦ rw e new-mark | no d ↦ rw (getD-set-other (m .reached) b a true false d) t ]
+
+    -- a marked type is the new one, or was marked before
+    each-marked : (Q : ℕ → Type 0) → Q b → ((a : ℕ) → IsMarked m a → Q a) → (a : ℕ) → IsMarked (joined b m) a → Q a
+    each-marked Q new olds a t =
+        elim (ℕ-discrete a b) [ yes e ↦ rw e new | no d ↦ olds a (rw (getD-set-other (m .reached) b a true false d) at t) ]
+
+    join-marked : m .count < mostTypes → (i : ℕ) → i < m .count + 1 → IsMarked (joined b m) (typeAt (joined b m) i)
+    join-marked free i l =
+        elim (decLt i (m .count)) [
+          | yes h ↦ rw (old-type i h) (old-mark (typeAt m i) (k .marked i h))
+          | no h ↦ let e : i ≡ m .count = omega arith in rw (e, new-type free) new-mark
+        ]
+
+    joined-kept : P b → getD (m .reached) b false ≡ false → Kept P (joined b m)
+    joined-kept p new =
+        record {
+          long = length-set (m .reached) b true ∙ k .long;
+          room = length-set (m .queue) (m .count) b ∙ k .room;
+          counted = omega (arith, count-set (m .reached) b (omega (arith, k .long)) new, k .counted);
+          marked = join-marked (free new);
+          placed =
+              each-marked (Placed (joined b m)) (record { place = m .count; below = omega arith; is = new-type (free new) })
+              (λ a t.
+              let r = k .placed a t in
+              record { place = r .place; below = omega (arith, r .below); is = old-type (r .place) (r .below) ∙ r .is });
+          sound = each-marked P p (k .sound);
+        }
+
+    -- the type is marked already, or it joins
+    join-either : (Q : Queued → Type 0) → (IsMarked m b → Q m) → (getD (m .reached) b false ≡ false → Q (joined b m)) → Q (joinType b m)
+    unfolding joinType
+    join-either Q old new = go (getD (m .reached) b false) refl
+      where
+        go : (t : Bool) → getD (m .reached) b false ≡ t → Q (cond t m (cond (ltb (m .count) mostTypes) (joined b m) m))
+        go true e = old (rw e tt)
+        go false e = rw (lt-ltb (m .count) mostTypes (free e)) (new e)
+
+    join-grows : P b → Grows P m (joinType b m)
+    join-grows p =
+        join-either (Grows P m) (λ t. stays k)
+        (λ new. record { kept = joined-kept p new; more = omega arith; marks = old-mark; entries = old-type })
+
+    join-takes : IsMarked (joinType b m) b
+    join-takes = join-either (λ m′. IsMarked m′ b) (λ t. t) (λ new. new-mark)
+
+  module _ (bears : List ℕ) (forward live : ℕ) where
+    step-grows : {m : Queued} (s : Step) → (T (reaches bears forward live s) → P (s .by % mostTypes)) → Kept P m → Grows P m (afterStep bears forward live s m)
+    step-grows {m} s rule k =
+        cond-either (Grows P m) (reaches bears forward live s) (λ h. join-grows k (s .by % mostTypes) (omega arith) (rule h)) (λ n. stays k)
+
+    step-takes : {m : Queued} (s : Step) → Kept P m → T (reaches bears forward live s) → IsMarked (afterStep bears forward live s m) (s .by % mostTypes)
+    step-takes {m} s k c =
+        cond-either (λ (u : Queued). IsMarked u (s .by % mostTypes)) (reaches bears forward live s)
+        (λ h. join-takes k (s .by % mostTypes) (omega arith)) (λ n. absurd (n c))
+
+    steps-grow :
+        {m : Queued} (ss : List Step) → ((s : Step) → List·Memᴰ s ss → T (reaches bears forward live s) → P (s .by % mostTypes))
+        → Kept P m → Grows P m (reachSteps bears forward live ss m)
+    unfolding reachSteps
+    steps-grow [] rule k = stays k
+    steps-grow (s ∷ ss) rule k =
+        let g = step-grows s (rule s (List·Memᴰ·head refl)) k in
+        grows-then g (steps-grow ss (λ r i. rule r (List·Memᴰ·tail i)) (g .kept))
+
+    -- the steps that reach their types mark them
+    steps-take :
+        {m : Queued} {ss : List Step} {s : Step} → ((r : Step) → List·Memᴰ r ss → T (reaches bears forward live r) → P (r .by % mostTypes))
+        → Kept P m → List·Memᴰ s ss → T (reaches bears forward live s) → IsMarked (reachSteps bears forward live ss m) (s .by % mostTypes)
+    unfolding reachSteps
+    steps-take {m} {s = s} rule k (List·Memᴰ·head {x = r} {xs = ss} e) c =
+        let g = step-grows r (rule r (List·Memᴰ·head refl)) k in
+        let t : IsMarked (afterStep bears forward live r m) (s .by % mostTypes) = rw (← e) (step-takes s k c) in
+        steps-grow ss (λ x i. rule x (List·Memᴰ·tail i)) (g .kept) .marks (s .by % mostTypes) t
+    steps-take rule k (List·Memᴰ·tail {x = r} {xs = ss} i) c =
+        steps-take (λ x j. rule x (List·Memᴰ·tail j)) (step-grows r (rule r (List·Memᴰ·head refl)) k .kept) i c
+
+none-counted : (n : ℕ) → count (replicate n false) ≡ 0
+none-counted zero = refl
+none-counted (suc n) = none-counted n
+
+module _ (own : ℕ → List Step) (bears forward live : List ℕ) (root : ℕ) where
+  -- all that the steps of the type a reach is marked
+  abbrev Done : Queued → ℕ → Type 0
+  Done m a = (s : Step) → List·Memᴰ s (own a) → T (reaches bears (getD forward a 0) (getD live a 0) s) → IsMarked m (s .by % mostTypes)
+
+  -- the types before the place `at` of the queue are done
+  pub record Visited (at : ℕ) (m : Queued) : Type 0 where
+    pub kept : Kept (Reaching own bears forward live root) m
+    pub before : at ≤ m .count
+    pub first-marked : IsMarked m root
+    pub done : (i : ℕ) → i < at → Done m (typeAt m i)
+
+  pub visited-most : {at : ℕ} {m : Queued} → Visited at m → m .count ≤ mostTypes
+  visited-most {m = m} v = omega (arith, count-le (m .reached), v .kept .counted, v .kept .long)
+
+  -- the next type is one below the limit
+  pub visited-below : {at : ℕ} {m : Queued} → Visited at m → at < m .count → typeAt m at < mostTypes
+  visited-below {at} {m} v l =
+      elim (decLt (typeAt m at) mostTypes) [
+        | yes h ↦ h
+        | no h ↦
+            let past : length (m .reached) ≤ typeAt m at = rw (v .kept .long) (omega arith) in
+            absurd (rw (List·getD-eq-default (m .reached) false past) at (v .kept .marked at l))
       ]
 
-  module _ (n : ℕ) (long : length steps ≡ mostTypes) (most : n ≤ mostTypes) where
-    -- a round keeps that
-    pub reach-keeps :
-        {first : List Bool} {P : ℕ → Type 0} {t : List Bool} → Marks first P t
-        → ((a : ℕ) (s : Step) → a < n → P a → List·Memᴰ s (own steps part a) → ReachesIn bears forward live a s → P (s .by % mostTypes))
-        → Marks first P (reachAll steps part bears forward live 0 0 n t)
-    reach-keeps k rule = all-keep n 0 0 refl (omega arith) (λ b r l. rule b r (omega arith)) k
+  -- at the start only the root type is marked
+  module _ (queue : List ℕ) (sized : length queue ≡ mostTypes) (n : ℕ) (full : n ≡ mostTypes) (below : root < mostTypes) where
+    abbrev firstQueued : Queued
+    firstQueued = queued (set (replicate n false) root true) (set queue 0 root) 1
 
-    -- a table that a round does not change has the type that each step of a type that it has reaches
-    pub settled-reaches :
-        {first : List Bool} {P : ℕ → Type 0} {t : List Bool} → Marks first P t → reachAll steps part bears forward live 0 0 n t ≡ t
-        → (a : ℕ) (s : Step) → a < n → T (getD t a false) → List·Memᴰ s (own steps part a) → ReachesIn bears forward live a s
-        → T (getD t (s .by % mostTypes) false)
-    settled-reaches {t = t} k e a s l h i c =
-        rw e at (all-take n 0 0 t a s refl (omega arith) (k .long) (omega arith) (omega arith) h i c)
+    first-type : typeAt firstQueued 0 ≡ root
+    first-type = getD-set-same queue 0 root 0 (omega arith)
+
+    first-in : IsMarked firstQueued root
+    first-in = one-in n root (omega arith)
+
+    first-counted : count (set (replicate n false) root true) ≡ 1
+    first-counted =
+        omega (
+          arith,
+          count-set (replicate n false) root (omega (arith, length-replicate n false)) (same-everywhere false n root),
+          none-counted n,
+        )
+
+    first-kept : Kept (Reaching own bears forward live root) firstQueued
+    first-kept =
+        record {
+          long = simp (length-set, length-replicate) full;
+          room = length-set queue 0 root ∙ sized;
+          counted = first-counted;
+          marked = λ i l. let e : i ≡ 0 = omega arith in rw (e, first-type) first-in;
+          placed = λ a t. record { place = 0; below = omega arith; is = first-type ∙ sym (one-only n root a t) };
+          sound = λ a t. rw (one-only n root a t) first;
+        }
+
+    first-visited : Visited 0 firstQueued
+    first-visited = record { kept = first-kept; before = omega arith; first-marked = first-in; done = λ i l. absurd (omega arith) }
+
+  pub visited-first : (queue : List ℕ) → length queue ≡ mostTypes → root < mostTypes
+      → Visited 0 (queued (set (replicate mostTypes false) root true) (set queue 0 root) 1)
+  visited-first queue e l = first-visited queue e mostTypes refl l
+
+  -- the type at the place `at` is gone over
+  pub visited-next : {at : ℕ} {m : Queued} → Visited at m → at < m .count
+      → Visited (suc at) (reachSteps bears (getD forward (typeAt m at) 0) (getD live (typeAt m at) 0) (own (typeAt m at)) m)
+  visited-next {at} {m} v l =
+      let a = typeAt m at in
+      let rule : (s : Step) → List·Memᴰ s (own a) → T (reaches bears (getD forward a 0) (getD live a 0) s)
+      → Reaching own bears forward live root (s .by % mostTypes) =
+      λ s i c. next s (v .kept .sound a (v .kept .marked at l)) i c in
+      let g = steps-grow bears (getD forward a 0) (getD live a 0) (own a) rule (v .kept) in
+      record {
+        kept = g .kept;
+        before = omega (arith, g .more);
+        first-marked = g .marks root (v .first-marked);
+        done =
+            λ i h s.
+            elim (decLt i at) [
+              | yes p ↦ rw (g .entries i (omega arith)) (λ j c. g .marks (s .by % mostTypes) (v .done i p s j c))
+              | no p ↦
+                  let e : i ≡ at = omega arith in
+                  rw (e, g .entries at l) (λ j c. steps-take bears (getD forward a 0) (getD live a 0) rule (v .kept) j c)
+            ];
+      }
+
+  -- at the end of the queue the marked types are those that are reached
+  pub visited-last : {at : ℕ} {m : Queued} → Visited at m → m .count ≤ at → ReachedFrom own bears forward live root (m .reached)
+  visited-last {at} {m} v l a = (v .kept .sound a, has)
+    where
+      done : (b : ℕ) → IsMarked m b → Done m b
+      done b t = let p = v .kept .placed b t in rw (p .is) at (v .done (p .place) (omega (arith, p .below)))
+
+      has : {b : ℕ} → Reaching own bears forward live root b → IsMarked m b
+      has first = v .first-marked
+      has (next {a = b} s r i c) = done b (has r) s i c

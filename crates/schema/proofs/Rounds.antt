@@ -6,20 +6,20 @@ use mathlib.Core.List.{List, [], _∷_, _++_, append-assoc}
 use Prim.Native.Nat.{ℕ, zero, suc, _+_, _-_, _%_, _^_, _≤_, _<_}
 use native.Mathlib.Numerals.{add-one}
 use native.Mathlib.Nat.{zero-add}
-use native.Mathlib.Decide.{decLt}
+use native.Mathlib.Decide.{ℕ-discrete, decLt}
 use native.Mathlib.Omega.{arith}
+use borrow.Author.Tests.{lt-ltb, le-ltb}
 use lib.Dec.{T}
 use lib.ListN.{length, getD, set, take, replicate, length-set, length-map, List·getD-eq-default}
 use lib.Seq.{take-suc, set-at, length-take-le}
-use Rattle.sdtd.specs.Limits.{mostTypes, mostStates}
+use Rattle.sdtd.specs.Limits.{mostTypes, mostStates, mostSteps}
 use Rattle.sdtd.specs.Schema.{Step}
-use Rattle.sdtd.proofs.Rounds.{count, count-set, count-le, set-same}
 use Rattle.schema.specs.States.{member, bearsIn}
 use Rattle.schema.specs.Value.{upFrom, stepsOf, stepAt, offset}
-use Rattle.schema.specs.Spread.{spreadSet, spreadAll, reachStep, reachSteps, reachAll, iterate, Settled, startStates, bearing}
-use Rattle.schema.proofs.Bits.{absentIn, absent-in-falls}
+use Rattle.schema.specs.Spread.{spreadSet, settleSet, spreadAll, iterate, Settled, spanAt, startStates, bearing}
+use Rattle.schema.proofs.Bits.{absent, absent-all, absent-falls, absentIn, absent-in-falls}
 use Rattle.schema.proofs.Values.{steps-cons, offset-step, offset-up, up-count, map-up}
-use Rattle.schema.proofs.SpreadLaws.{Grown, stays, set-grown}
+use Rattle.schema.proofs.SpreadLaws.{Grown, stays, set-grown, settle-grown}
 
 -- the steps left are the one at i and those after it
 pub steps-left : (from by to : List ℕ) (i end : ℕ) → i < end
@@ -35,6 +35,15 @@ offset-more steps a s e = rw (add-one, offset-step, e)
 -- the steps of a type lie before the end of all
 pub steps-fit : (steps : List ℕ) (a types : ℕ) → a < types → offset steps a + getD steps a 0 ≤ offset steps types
 steps-fit steps a types l = omega (arith, offset-step steps a, offset-up steps (suc a) types l)
+
+pub span-fits : (steps : List ℕ) (types a : ℕ) → offset steps types ≤ mostSteps
+    → spanAt steps types a .start + spanAt steps types a .n ≤ mostSteps
+unfolding spanAt
+span-fits steps types a l =
+    elim (decLt a types) [
+      | yes h ↦ rw (lt-ltb a types h) (omega (arith, steps-fit steps a types h))
+      | no h ↦ rw (le-ltb a types (omega arith)) (omega arith)
+    ]
 
 -- one more entry of xs in front of the filler
 pub fill-next : {A : Type 0} (xs : List A) (i n : ℕ) (d e : A) → i < length xs → i < n
@@ -95,8 +104,8 @@ pub all-growth : (steps : List ℕ) (part : ℕ → ℕ → List Step) (bears : 
 unfolding spreadAll
 all-growth steps part bears a s zero t h = record { sets = h; more = λ a q m. m }
 all-growth steps part bears a s (suc n) t h =
-    let y = spreadSet bears (part s (getD steps a 0)) (getD t a 0) in
-    let g = one-growth t a y h (set-grown bears (part s (getD steps a 0)) (getD t a 0) (h .below a)) in
+    let y = settleSet bears (part s (getD steps a 0)) (getD t a 0) in
+    let g = one-growth t a y h (settle-grown bears (part s (getD steps a 0)) (getD t a 0) (h .below a)) in
     let r = all-growth steps part bears (suc a) (s + getD steps a 0) n (set t a y) (g .sets) in
     record { sets = r .sets; more = λ k q m. r .more k q (g .more k q m) }
 
@@ -105,6 +114,50 @@ pub growth-falls : (t u : List ℕ) → Sets t → Growth t u → u ≢ t → ab
 growth-falls t u h g d =
     absent-in-falls t u (h .long ∙ sym (g .sets .long)) (h .below) (g .sets .below) (g .more) (λ e. d (sym e))
 
+iterate-more : {A : Type 0} (round : A → A) (n : ℕ) (t : A) → round (iterate round n t) ≡ iterate round (suc n) t
+unfolding iterate
+iterate-more round zero t = refl
+iterate-more round (suc n) t = iterate-more round n (round t)
+
+iterate-still : {A : Type 0} (round : A → A) (n : ℕ) (t : A) → round t ≡ t → iterate round n t ≡ t
+unfolding iterate
+iterate-still round zero t e = refl
+iterate-still round (suc n) t e = ap (iterate round n) e ∙ iterate-still round n t e
+
+-- one set: the steps of its type gone over until they add nothing
+module _ (bears : List ℕ) (ss : List Step) where
+  -- where they add a state, one less is absent
+  set-falls : (x : ℕ) → x < 2 ^ mostStates → spreadSet bears ss x ≢ x → absent (spreadSet bears ss x) < absent x
+  set-falls x b d =
+      let g = set-grown bears ss x b in
+      absent-falls x (spreadSet bears ss x) b (g .below) (g .grown) (λ e. d (sym e))
+
+  -- gone over n times they add nothing, where no more than n states are absent
+  again-settles : (n x : ℕ) → x < 2 ^ mostStates → absent x ≤ n
+      → spreadSet bears ss (iterate (spreadSet bears ss) n x) ≡ iterate (spreadSet bears ss) n x
+  unfolding iterate
+  again-settles zero x b l =
+      elim (ℕ-discrete (spreadSet bears ss x) x) [ yes e ↦ e | no d ↦ absurd (omega (arith, set-falls x b d)) ]
+  again-settles (suc n) x b l =
+      elim (ℕ-discrete (spreadSet bears ss x) x) [
+        | yes e ↦ rw (e, iterate-still (spreadSet bears ss) n x e) e
+        | no d ↦ again-settles n (spreadSet bears ss x) (set-grown bears ss x b .below) (omega (arith, set-falls x b d))
+      ]
+
+  -- a turn of the loop, that it ends, and where it is left
+  pub settle-first : (x y : ℕ) → x < 2 ^ mostStates → y ≡ spreadSet bears ss x → settleSet bears ss y ≡ settleSet bears ss x
+  unfolding settleSet iterate
+  settle-first x y b e =
+      ap (iterate (spreadSet bears ss) mostStates) e ∙ sym (iterate-more (spreadSet bears ss) mostStates x)
+      ∙ again-settles mostStates x b (absent-all x)
+
+  pub settle-less : (x y : ℕ) → x < 2 ^ mostStates → y ≡ spreadSet bears ss x → y ≢ x → absent y < absent x
+  settle-less x y b e d = rw e (set-falls x b (λ q. d (e ∙ q)))
+
+  pub settle-last : (x y : ℕ) → y ≡ spreadSet bears ss x → y ≡ x → settleSet bears ss x ≡ x
+  unfolding settleSet
+  settle-last x y e q = iterate-still (spreadSet bears ss) mostStates x (sym e ∙ q)
+
 -- A loop over rounds: a good table, after some rounds.
 pub record Turn {A : Type 0} (Good : List A → Type 0) (round : List A → List A) (first last : List A) : Type 0 where
   pub good : Good last
@@ -112,11 +165,6 @@ pub record Turn {A : Type 0} (Good : List A → Type 0) (round : List A → List
   pub after : last ≡ iterate round rounds first
 
 module _ {A : Type 0} (Good : List A → Type 0) (round : List A → List A) where
-  iterate-more : (n : ℕ) (t : List A) → round (iterate round n t) ≡ iterate round (suc n) t
-  unfolding iterate
-  iterate-more zero t = refl
-  iterate-more (suc n) t = iterate-more n (round t)
-
   -- where the loop begins, where a turn ends, and where the loop is left
   pub turn-first : (t : List A) → Good t → Turn Good round t t
   unfolding iterate
@@ -128,7 +176,7 @@ module _ {A : Type 0} (Good : List A → Type 0) (round : List A → List A) whe
       record {
         good = rw e (keeps t (h .good));
         rounds = suc (h .rounds);
-        after = e ∙ ap round (h .after) ∙ iterate-more (h .rounds) first;
+        after = e ∙ ap round (h .after) ∙ iterate-more round (h .rounds) first;
       }
 
   -- where a round that changes a good table brings its measure down, the loop ends
@@ -136,64 +184,5 @@ module _ {A : Type 0} (Good : List A → Type 0) (round : List A → List A) whe
       → Turn Good round first t → u ≢ t → μ u < μ t
   turn-less μ falls first t u e h d = rw e (falls t (h .good) (λ q. d (e ∙ q)))
 
-  pub turn-last : (first t u : List A) → u ≡ round t → Turn Good round first t → u ≡ t → Settled round first t
-  turn-last first t u e h q = record { rounds = h .rounds; after = h .after; settled = sym e ∙ q }
-
--- u is t, or has more marks, and is as long
-pub record Marked (t u : List Bool) : Type 0 where
-  pub long : length u ≡ length t
-  pub more : (u ≡ t) ⊎ (count t < count u)
-
-marked-none : (t : List Bool) → Marked t t
-marked-none t = record { long = refl; more = inl refl }
-
-marked-trans : (t u v : List Bool) → Marked t u → Marked u v → Marked t v
-marked-trans t u v h g = record { long = g .long ∙ h .long; more = go (h .more) (g .more) }
-  where
-    go : (u ≡ t) ⊎ (count t < count u) → (v ≡ u) ⊎ (count u < count v) → (v ≡ t) ⊎ (count t < count v)
-    go (inl p) (inl q) = inl (q ∙ p)
-    go (inl p) (inr q) = inr (omega (arith, ap count p))
-    go (inr p) (inl q) = inr (omega (arith, ap count q))
-    go (inr p) (inr q) = inr (omega arith)
-
-marked-one : (t : List Bool) (i : ℕ) → i < length t → Marked t (set t i true)
-marked-one t i l = record { long = length-set t i true; more = go (getD t i false) refl }
-  where
-    go : (b : Bool) → getD t i false ≡ b → (set t i true ≡ t) ⊎ (count t < count (set t i true))
-    go true e = inl (set-same t i e)
-    go false e = inr (omega (arith, count-set t i l e))
-
-step-marked : (bears : List ℕ) (forward live : ℕ) (s : Step) (t : List Bool) → length t ≡ mostTypes → Marked t (reachStep bears forward live s t)
-unfolding reachStep
-step-marked bears forward live s t h =
-    go (member (s .from) forward && bearsIn bears (s .by % mostTypes) && member (s .to) live)
-  where
-    go : (b : Bool) → Marked t (cond b (set t (s .by % mostTypes) true) t)
-    go true = marked-one t (s .by % mostTypes) (omega arith)
-    go false = marked-none t
-
-steps-marked : (bears : List ℕ) (forward live : ℕ) (ss : List Step) (t : List Bool) → length t ≡ mostTypes
-    → Marked t (reachSteps bears forward live ss t)
-unfolding reachSteps
-steps-marked bears forward live [] t h = marked-none t
-steps-marked bears forward live (s ∷ ss) t h =
-    let u = reachStep bears forward live s t in
-    let g = step-marked bears forward live s t h in
-    marked-trans t u _ g (steps-marked bears forward live ss u (g .long ∙ h))
-
--- a round over the reached types changes nothing, or marks more
-pub all-marked : (steps : List ℕ) (part : ℕ → ℕ → List Step) (bears forward live : List ℕ) (a s n : ℕ) (t : List Bool) → length t ≡ mostTypes
-    → Marked t (reachAll steps part bears forward live a s n t)
-unfolding reachAll
-all-marked steps part bears forward live a s zero t h = marked-none t
-all-marked steps part bears forward live a s (suc n) t h =
-    let g = go (getD t a false) in
-    marked-trans t _ _ g (all-marked steps part bears forward live (suc a) (s + getD steps a 0) n _ (g .long ∙ h))
-  where
-    go : (b : Bool) → Marked t (cond b (reachSteps bears (getD forward a 0) (getD live a 0) (part s (getD steps a 0)) t) t)
-    go true = steps-marked bears (getD forward a 0) (getD live a 0) (part s (getD steps a 0)) t h
-    go false = marked-none t
-
--- a table that changed has fewer entries without a mark
-pub marked-falls : (t u : List Bool) → length t ≡ mostTypes → Marked t u → u ≢ t → mostTypes - count u < mostTypes - count t
-marked-falls t u h g d = ⊎-elim (λ e. absurd (d e)) (λ l. omega (arith, count-le u, g .long)) (g .more)
+  pub turn-last : (first t u : List A) → u ≡ round t → Turn Good round first t → u ≡ t → Settled round first u
+  turn-last first t u e h q = record { rounds = h .rounds; after = q ∙ h .after; settled = ap round q ∙ sym e }

@@ -6,7 +6,7 @@ use mathlib.Core.List.{List, [], _∷_, _++_, List·Memᴰ}
 use Prim.Native.Nat.{ℕ, _%_, _<_}
 use native.Mathlib.Omega.{arith}
 use lib.Dec.{T}
-use lib.ListN.{getD, set, replicate, length-set}
+use lib.ListN.{getD}
 use Rattle.sdtd.specs.Limits.{mostTypes}
 use Rattle.sdtd.specs.Schema.{Step, blockOf, WithinLimits, Leads, stay, go}
 use Rattle.sdtd.specs.Schema.{Schema as Meaning}
@@ -17,28 +17,25 @@ use Rattle.schema.specs.States.{member, bearsIn}
 use Rattle.schema.specs.Value.{stepsOf, meaning}
 use Rattle.schema.specs.Trimming.{LiveExactly, Exact}
 use Rattle.schema.specs.Rows.{RowsMean}
-use Rattle.schema.specs.Spread.{spreadAll, reachAll, Settled, firstSets, startStates, bearing}
+use Rattle.schema.specs.Spread.{spreadAll, Settled, stepsIn, reaches, Reaching, first, next, ReachedFrom, firstSets, startStates, bearing}
 use Rattle.schema.specs.declared.value.Schema.{Schema}
 use Rattle.schema.proofs.Rounds.{bearing-at, start-sets}
 use Rattle.schema.proofs.SpreadLaws.{settled-keeps, byBearing, own, Table, round-keeps, settled-takes}
-use Rattle.schema.proofs.FirstTables.{Fits, OwnStep, back, forth, turned, firstLive, firstReached, types-most, root-is, root-below}
-use Rattle.schema.proofs.FirstTables.{own-steps, own-step, own-back, accepts, first-long, first-below}
-use Rattle.schema.proofs.FirstTables.{start-only, start-in, one-only, one-in}
-use Rattle.schema.proofs.ReachLaws.{Marks, ReachesIn, reach-keeps, settled-reaches}
+use Rattle.schema.proofs.FirstTables.{Fits, OwnStep, back, forth, turned, firstLive, types-most, root-is}
+use Rattle.schema.proofs.FirstTables.{own-steps, steps-in, own-step, own-back, accepts, first-long, first-below}
+use Rattle.schema.proofs.FirstTables.{start-only, start-in}
+use Rattle.schema.proofs.ReachLaws.{test-says, test-passes}
 
 -- a table of exactly the live states says which types bear a tree
 pub bears-in : (S : Meaning) (table : List ℕ) → LiveExactly S table → (j : ℕ) → T (bearsIn table j) ↔ Bears S j
 bears-in S table exact j = (λ m. bears-live .1 (exact j 0 .0 m), λ b. exact j 0 .1 (bears-live .0 b))
 
--- the three rounds
+-- the two rounds
 abbrev liveRound : Schema → List ℕ → List ℕ
 liveRound v t = spreadAll (v .steps) (forth v) t 0 0 (v .types) t
 
 abbrev forwardRound : Schema → List ℕ → List ℕ → List ℕ
 forwardRound v bears t = spreadAll (v .steps) (turned v) bears 0 0 (v .types) t
-
-abbrev reachRound : Schema → List ℕ → List ℕ → List ℕ → List Bool → List Bool
-reachRound v bears forward live t = reachAll (v .steps) (forth v) bears forward live 0 0 (v .types) t
 
 -- what the tables on the way have
 abbrev LiveTable : Schema → List ℕ → Type 0
@@ -47,8 +44,9 @@ LiveTable v = Table (firstLive v) (Live (meaning v))
 abbrev ForwardTable : Schema → List ℕ → Type 0
 ForwardTable v = Table startStates (Forward (meaning v))
 
-abbrev ReachedTable : Schema → List Bool → Type 0
-ReachedTable v = Marks (firstReached v) (Reached (meaning v))
+-- the steps of a type
+abbrev ownSteps : Schema → ℕ → List Step
+ownSteps v = stepsIn (v .steps) (forth v) (v .types)
 
 module _
     {v : Schema} (fits : Fits v) (within : WithinLimits (meaning v)) {live : List ℕ}
@@ -138,74 +136,56 @@ module _
         let n = types-most fits within in
         along a (f .leads) (f .bear) (forward-table .grown a 0 (start-in mostTypes a (omega arith)))
 
-    module _ {reached : List Bool} (ended : Settled (reachRound v live forward live) (firstReached v) reached) where
-      reached-rule :
-          (a : ℕ) (s : Step) → a < v .types → Reached (meaning v) a → List·Memᴰ s (own (v .steps) (forth v) a)
-          → ReachesIn live forward live a s → Reached (meaning v) (s .by % mostTypes)
-      reached-rule a s l r i c =
-          let m = rw (← own-steps fits within a l) at i in
-          let e = own-step fits within a s m .by in
-          let f = forward-table .sound a (s .from) (c .from) in
-          let b = bears-is (s .by) .1 (rw e at (c .by)) in
-          rw e (reached-closed .step a s r m f b (live-is a (s .to) .1 (c .to)))
+    sound : {a : ℕ} → Reaching (ownSteps v) live forward live (v .root .0) a → Reached (meaning v) a
+    sound first = reached-closed .root (v .root .0) (sym (root-is v))
+    sound (next {a = a} s r i t) =
+        let m = rw (steps-in fits within a) at i in
+        let e = own-step fits within a s m .by in
+        let c = test-says live (getD forward a 0) (getD live a 0) t in
+        let b = bears-is (s .by) .1 (rw e at (c .by)) in
+        rw e (reached-closed .step a s (sound r) m (forward-table .sound a (s .from) (c .from)) b (live-is a (s .to) .1 (c .to)))
 
-      reached-round : (t : List Bool) → ReachedTable v t → ReachedTable v (reachRound v live forward live t)
-      reached-round t k =
-          reach-keeps (v .steps) (forth v) live forward live (v .types) (fits .steps-long) (types-most fits within) k reached-rule
+    reaches-own :
+        (a : ℕ) (s : Step) → OwnStep v a s → Forward (meaning v) a (s .from) → Bears (meaning v) (s .by) → Live (meaning v) a (s .to)
+        → T (reaches live (getD forward a 0) (getD live a 0) s)
+    reaches-own a s o f b l =
+        test-passes live (getD forward a 0) (getD live a 0)
+        (record {
+          from = forward-has a (s .from) (o .type) f;
+          by = rw (o .by) (bears-is (s .by) .0 b);
+          to = live-is a (s .to) .0 l;
+        })
 
-      reached-first : ReachedTable v (firstReached v)
-      reached-first =
-          record {
-            long = length-set (replicate mostTypes false) (v .root .0) true;
-            grown = λ a m. m;
-            sound = λ a m. reached-closed .root a (one-only mostTypes (v .root .0) a m ∙ sym (root-is v));
-          }
+    closed : ReachedClosed (meaning v) (Reaching (ownSteps v) live forward live (v .root .0))
+    closed =
+        record {
+          root = λ a e. rw (e ∙ root-is v) first;
+          step =
+              λ a s r m f b l.
+              let o = own-step fits within a s m in
+              rw (o .by) at (next s r (rw (steps-in fits within a) m) (reaches-own a s o f b l));
+        }
 
-      reached-table : ReachedTable v reached
-      reached-table = settled-keeps (ReachedTable v) reached-round reached-first ended
+    exact :
+        {reached : List Bool} {entries begins : List ℕ} → ReachedFrom (ownSteps v) live forward live (v .root .0) reached
+        → RowsMean (meaning v) entries begins
+        → Exact (meaning v) (record { inside = true; live = live; bears = bearing live; reached = reached; entries = entries; begins = begins })
+    exact marked rows =
+        record {
+          live = λ a q. (live-is a q .1, live-is a q .0);
+          bears = λ a. rw (bearing-at live (live-table .long) a) (bears-is a .1, bears-is a .0);
+          reached =
+              λ a.
+              let e = reached-exact closed (λ b. sound) a in (λ t. e .1 (marked a .0 t), λ r. marked a .1 (e .0 r));
+          rows = rows;
+        }
 
-      reaches : (a : ℕ) (s : Step) → OwnStep v a s → Forward (meaning v) a (s .from) → Bears (meaning v) (s .by)
-          → Live (meaning v) a (s .to) → ReachesIn live forward live a s
-      reaches a s o f b l =
-          record {
-            from = forward-has a (s .from) (o .type) f;
-            by = rw (o .by) (bears-is (s .by) .0 b);
-            to = live-is a (s .to) .0 l;
-          }
-
-      reached-takes :
-          (a : ℕ) (s : Step) (o : OwnStep v a s) → T (getD reached a false) → ReachesIn live forward live a s → T (getD reached (s .by) false)
-      reached-takes a s o p c =
-          let e = ended .settled in
-          let n = types-most fits within in
-          let l = fits .steps-long in
-          let m = settled-reaches (v .steps) (forth v) live forward live (v .types) l n reached-table e a s (o .type) p (o .given) c in
-          rw (o .by) at m
-
-      reached-rules : ReachedClosed (meaning v) (λ a. T (getD reached a false))
-      reached-rules =
-          record {
-            root = λ a e. reached-table .grown a (rw (e ∙ root-is v) (one-in mostTypes (v .root .0) (root-below fits within)));
-            step = λ a s p m f b l. let o = own-step fits within a s m in reached-takes a s o p (reaches a s o f b l);
-          }
-
-      exact : {entries begins : List ℕ} → RowsMean (meaning v) entries begins
-          → Exact (meaning v) (record { inside = true; live = live; bears = bearing live; reached = reached; entries = entries; begins = begins })
-      exact rows =
-          record {
-            live = λ a q. (live-is a q .1, live-is a q .0);
-            bears = λ a. rw (bearing-at live (live-table .long) a) (bears-is a .1, bears-is a .0);
-            reached = λ a. let e = reached-exact reached-rules (reached-table .sound) a in (e .1, e .0);
-            rows = rows;
-          }
-
--- the tables that the three loops settle at
+-- the tables that the three loops end with
 pub tables-exact :
     {v : Schema} {live forward : List ℕ} {reached : List Bool} {entries begins : List ℕ} → Fits v → WithinLimits (meaning v)
     → Settled (λ t. spreadAll (v .steps) (stepsOf (v .from) (v .by) (v .to)) t 0 0 (v .types) t) (firstSets (v .types) (v .accepting)) live
     → Settled (λ t. spreadAll (v .steps) (stepsOf (v .to) (v .by) (v .from)) live 0 0 (v .types) t) startStates forward
-    → Settled (λ t. reachAll (v .steps) (stepsOf (v .from) (v .by) (v .to)) live forward live 0 0 (v .types) t)
-    (set (replicate mostTypes false) (v .root .0) true) reached
+    → ReachedFrom (stepsIn (v .steps) (stepsOf (v .from) (v .by) (v .to)) (v .types)) live forward live (v .root .0) reached
     → RowsMean (meaning v) entries begins
     → Exact (meaning v) (record { inside = true; live = live; bears = bearing live; reached = reached; entries = entries; begins = begins })
 tables-exact fits within l f r rows = exact fits within l f r rows

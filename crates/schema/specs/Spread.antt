@@ -1,13 +1,16 @@
 -- What the private rounds of trimming compute, step by step.
 use mathlib.Core.Bool.{Bool, cond, _&&_, true, false}
 use mathlib.Core.Path.{_≡_}
-use mathlib.Core.List.{List, [], _∷_, _++_, map}
-use Prim.Native.Nat.{ℕ, zero, suc, _+_, _-_, _%_}
+use mathlib.Core.Logic.{_↔_}
+use mathlib.Core.List.{List, [], _∷_, _++_, map, List·Memᴰ}
+use Prim.Native.Nat.{ℕ, zero, suc, _+_, _-_, _%_, _<_}
+use lib.Dec.{T, ltb}
 use lib.ListN.{getD, set, take, replicate}
-use Rattle.sdtd.specs.Limits.{mostTypes}
+use Rattle.sdtd.specs.Limits.{mostTypes, mostStates}
 use Rattle.sdtd.specs.Schema.{Step}
 use Rattle.schema.specs.States.{member, insert, bearsIn, noStates, onlyStart}
-use Rattle.schema.specs.Value.{upFrom}
+use Rattle.schema.specs.Value.{upFrom, offset}
+use Rattle.schema.specs.declared.span.Span.{Span}
 
 -- a step by a tree-bearing type with its state `to` in the set adds its state `from`
 unfoldable pub spreadStep : List ℕ → Step → ℕ → ℕ
@@ -17,38 +20,75 @@ unfoldable pub spreadSet : List ℕ → List Step → ℕ → ℕ
 spreadSet bears [] x = x
 spreadSet bears (s ∷ ss) x = spreadSet bears ss (spreadStep bears s x)
 
--- one round over n types from the type a on, whose steps begin at the place s; `part s k` are the k steps from the place s on
-unfoldable pub spreadAll : List ℕ → (ℕ → ℕ → List Step) → List ℕ → ℕ → ℕ → ℕ → List ℕ → List ℕ
-spreadAll steps part bears a s zero sets = sets
-spreadAll steps part bears a s (suc n) sets =
-    spreadAll steps part bears (suc a) (s + getD steps a 0) n (set sets a (spreadSet bears (part s (getD steps a 0)) (getD sets a 0)))
-
--- a step from a state that children reach, by a tree-bearing type, to a live state reaches its type
-unfoldable pub reachStep : List ℕ → ℕ → ℕ → Step → List Bool → List Bool
-reachStep bears forward live s t =
-    cond (member (s .from) forward && bearsIn bears (s .by % mostTypes) && member (s .to) live) (set t (s .by % mostTypes) true) t
-
-unfoldable pub reachSteps : List ℕ → ℕ → ℕ → List Step → List Bool → List Bool
-reachSteps bears forward live [] t = t
-reachSteps bears forward live (s ∷ ss) t = reachSteps bears forward live ss (reachStep bears forward live s t)
-
--- one round over n types from the type a on: the steps of those that are reached
-unfoldable pub reachAll : List ℕ → (ℕ → ℕ → List Step) → List ℕ → List ℕ → List ℕ → ℕ → ℕ → ℕ → List Bool → List Bool
-reachAll steps part bears forward live a s zero t = t
-reachAll steps part bears forward live a s (suc n) t =
-    reachAll steps part bears forward live (suc a) (s + getD steps a 0) n
-    (cond (getD t a false) (reachSteps bears (getD forward a 0) (getD live a 0) (part s (getD steps a 0)) t) t)
-
 -- the round, n times
 unfoldable pub iterate : {A : Type 0} → (A → A) → ℕ → A → A
 iterate round zero t = t
 iterate round (suc n) t = iterate round n (round t)
+
+-- the steps gone over as often as there are states; once more would add nothing
+unfoldable pub settleSet : List ℕ → List Step → ℕ → ℕ
+settleSet bears ss x = iterate (spreadSet bears ss) mostStates x
+
+-- one round over n types from the type a on, whose steps begin at the place s; `part s k` are the k steps from the place s on
+unfoldable pub spreadAll : List ℕ → (ℕ → ℕ → List Step) → List ℕ → ℕ → ℕ → ℕ → List ℕ → List ℕ
+spreadAll steps part bears a s zero sets = sets
+spreadAll steps part bears a s (suc n) sets =
+    spreadAll steps part bears (suc a) (s + getD steps a 0) n (set sets a (settleSet bears (part s (getD steps a 0)) (getD sets a 0)))
 
 -- The table after some rounds, which one round more does not change.
 pub record Settled {A : Type 0} (round : List A → List A) (first last : List A) : Type 0 where
   pub rounds : ℕ
   pub after : last ≡ iterate round rounds first
   pub settled : round last ≡ last
+
+-- where the steps of the type a stand, if it is one of the types
+unfoldable pub spanAt : List ℕ → ℕ → ℕ → Span
+spanAt steps types a =
+    cond (ltb a types) (record { start = offset steps a; n = getD steps a 0 }) (record { start = 0; n = 0 })
+
+-- the steps of the type a, if it is one of the types
+abbrev pub stepsIn : List ℕ → (ℕ → ℕ → List Step) → ℕ → ℕ → List Step
+stepsIn steps part types a = part (spanAt steps types a .start) (spanAt steps types a .n)
+
+-- the table has the place of the first step of each of the types
+abbrev pub Starts : List ℕ → ℕ → List ℕ → Type 0
+Starts steps types table = (a : ℕ) → a < types → getD table a 0 ≡ offset steps a
+
+-- the step goes from a state that children reach, by a tree-bearing type, to a live state
+abbrev pub reaches : List ℕ → ℕ → ℕ → Step → Bool
+reaches bears forward live s = member (s .from) forward && bearsIn bears (s .by % mostTypes) && member (s .to) live
+
+-- the root type is reached, and the type of each such step of a reached type
+pub data Reaching (own : ℕ → List Step) (bears forward live : List ℕ) (root : ℕ) : ℕ → Type 0 where
+  first : Reaching own bears forward live root root
+  next :
+      {a : ℕ} (s : Step) → Reaching own bears forward live root a → List·Memᴰ s (own a)
+      → T (reaches bears (getD forward a 0) (getD live a 0) s) → Reaching own bears forward live root (s .by % mostTypes)
+
+-- the table has exactly those types
+abbrev pub ReachedFrom : (ℕ → List Step) → List ℕ → List ℕ → List ℕ → ℕ → List Bool → Type 0
+ReachedFrom own bears forward live root table = (a : ℕ) → T (getD table a false) ↔ Reaching own bears forward live root a
+
+-- which types are reached, and the first `count` entries of the queue
+pub record Queued : Type 0 where
+  pub reached : List Bool
+  pub queue : List ℕ
+  pub count : ℕ
+
+abbrev pub queued : List Bool → List ℕ → ℕ → Queued
+queued reached queue count = record { reached = reached; queue = queue; count = count }
+
+-- the type b joins the queue, unless it is reached already or the queue is full
+unfoldable pub joinType : ℕ → Queued → Queued
+joinType b m =
+    cond (getD (m .reached) b false) m
+    (cond (ltb (m .count) mostTypes) (queued (set (m .reached) b true) (set (m .queue) (m .count) b) (m .count + 1)) m)
+
+-- the steps of a type, one after another: each that reaches its type has it join
+unfoldable pub reachSteps : List ℕ → ℕ → ℕ → List Step → Queued → Queued
+reachSteps bears forward live [] m = m
+reachSteps bears forward live (s ∷ ss) m =
+    reachSteps bears forward live ss (cond (reaches bears forward live s) (joinType (s .by % mostTypes) m) m)
 
 -- the first n entries, and nothing in the others
 unfoldable pub firstSets : ℕ → List ℕ → List ℕ

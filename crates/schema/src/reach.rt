@@ -1,4 +1,4 @@
-// Types that the root's words reach: one round over the steps of every reached type.
+// Types that the root's words reach: a queue of them, each gone over once.
 use crate::span::Span;
 use crate::spread::bears_in;
 use crate::state_set::StateSet;
@@ -6,12 +6,10 @@ use crate::value::STEPS;
 use crate::value::TYPES;
 use sdtd::TypeNo;
 ghost use mathlib.Core.Path.{_≡_};
-ghost use mathlib.Core.Logic.{_↔_};
-ghost use Prim.Native.Nat.{_+_, _≤_};
-ghost use lib.Dec.{T};
+ghost use Prim.Native.Nat.{_+_, _%_, _≤_};
 ghost use Rattle.sdtd.specs.Limits.{mostTypes, mostSteps};
 ghost use Rattle.schema.specs.Value.{stepsOf, offset};
-ghost use Rattle.schema.specs.Spread.{reachStep, reachSteps, reachAll};
+ghost use Rattle.schema.specs.Spread.{reaches, queued, joinType, reachSteps, Starts, spanAt};
 
 // Tables of sets of states, an entry for each type: which types bear a tree, the states that children reach, the live states.
 pub(crate) struct StateTables {
@@ -20,104 +18,112 @@ pub(crate) struct StateTables {
     pub(crate) live: [u32; TYPES],
 }
 
-// A step from a state in `forward`, by a tree-bearing type, to a state in `live` reaches its type.
-// Inside the limits the remainder changes nothing: a type is below TYPES.
-fn reach_step(
-    from: u8,
-    by: TypeNo,
-    to: u8,
-    bears: &[u32; TYPES],
-    forward: u32,
-    live: u32,
-    reached: [bool; TYPES],
-) -> [bool; TYPES]
-    ensures { λ r. ⌜ r ≡ reachStep (now (bears .entry)) forward live (record { from = from; by = by .0; to = to }) reached ⌝ }
-{
-    let b = by.0 as usize % TYPES;
-    if !StateSet(forward).has(from) {
-        return reached;
-    }
-    if !bears_in(bears, b) {
-        return reached;
-    }
-    if !StateSet(live).has(to) {
-        return reached;
-    }
-    let mut next = reached;
-    next[b] = true;
-    next
+// Where the steps of a type stand, the states that its children reach, its live states.
+pub(crate) struct TypeSteps {
+    pub(crate) span: Span,
+    pub(crate) forward: u32,
+    pub(crate) live: u32,
 }
 
-// The steps of a type, one after another.
-fn reach_steps<'a>(
-    from: &'a [u8; STEPS],
-    by: &'a [u8; STEPS],
-    to: &'a [u8; STEPS],
-    span: Span,
-    bears: &'a [u32; TYPES],
-    forward: u32,
-    live: u32,
-    reached: [bool; TYPES],
-) -> [bool; TYPES]
-    requires { ⌜ span .start + span .n ≤ mostSteps ⌝ }
-    ensures { λ r. ⌜ r
-        ≡ reachSteps (now (bears .entry)) forward live
-        (stepsOf (now (from .entry)) (now (by .entry)) (now (to .entry)) (span .start) (span .n)) reached ⌝ }
-{
-    let end = span.start + span.n;
-    let mut next = reached;
-    let mut i = span.start;
-    while i < end {
-        let grown = reach_step(from[i], TypeNo(by[i]), to[i], bears, forward, live, next);
-        next = grown;
-        i += 1;
-    }
-    next
-}
-
-// One round: the steps of each reached type.
-pub(crate) fn reach_all<'a>(
-    from: &'a [u8; STEPS],
-    by: &'a [u8; STEPS],
-    to: &'a [u8; STEPS],
-    steps: &'a [u16; TYPES],
-    types: usize,
-    tables: StateTables,
-    reached: [bool; TYPES],
-) -> [bool; TYPES]
+// The place of the first step of each of the types.
+pub(crate) fn starts(steps: &[u16; TYPES], types: usize) -> [usize; TYPES]
     requires { ⌜ (types ≤ mostTypes) × (offset (now steps) types ≤ mostSteps) ⌝ }
-    ensures { λ r. ⌜ r
-        ≡ reachAll (now (steps .entry)) (stepsOf (now (from .entry)) (now (by .entry)) (now (to .entry))) (tables .bears)
-        (tables .forward) (tables .live) 0 0 types reached ⌝ }
+    ensures { λ r. ⌜ Starts (now (steps .entry)) types r ⌝ }
 {
-    let mut next = reached;
+    let mut starts = [0; TYPES];
     let mut start = 0;
     let mut a = 0;
     while a < types {
-        let n = steps[a] as usize;
-        if next[a] {
-            let forward = tables.forward[a];
-            let live = tables.live[a];
-            let span = Span { start, n };
-            let grown = reach_steps(from, by, to, span, &tables.bears, forward, live, next);
-            next = grown;
-        }
-        start += n;
+        starts[a] = start;
+        start += steps[a] as usize;
         a += 1;
     }
-    next
+    starts
 }
 
-// Are the tables the same?
-pub(crate) fn same_flags(x: [bool; TYPES], y: [bool; TYPES]) -> bool
-    ensures { λ r. ⌜ T r ↔ (x ≡ y) ⌝ }
+// Where the steps of a type stand; inside the limits each is one of the types.
+pub(crate) fn span_at<'a>(
+    steps: &'a [u16; TYPES],
+    starts: &'a [usize; TYPES],
+    types: usize,
+    a: usize,
+) -> Span
+    requires { ⌜ (types ≤ mostTypes) × (offset (now steps) types ≤ mostSteps) × Starts (now steps) types (now starts) ⌝ }
+    ensures { λ r. ⌜ r ≡ spanAt (now (steps .entry)) types a ⌝ }
 {
-    let mut i = 0;
-    while i < TYPES {
-        if x[i] != y[i] {
-            return false;
+    if types <= a {
+        return Span { start: 0, n: 0 };
+    }
+    let start = starts[a];
+    let n = steps[a] as usize;
+    Span { start, n }
+}
+
+// Does the step go from a state in `forward`, by a tree-bearing type, to a state in `live`?
+// Inside the limits the remainder changes nothing: a type is below TYPES.
+fn reaches(from: u8, by: TypeNo, to: u8, bears: &[u32; TYPES], forward: u32, live: u32) -> bool
+    ensures { λ r. ⌜ r ≡ reaches (now (bears .entry)) forward live (record { from = from; by = by .0; to = to }) ⌝ }
+{
+    if !StateSet(forward).has(from) {
+        return false;
+    }
+    if !bears_in(bears, by.0 as usize % TYPES) {
+        return false;
+    }
+    StateSet(live).has(to)
+}
+
+// The type joins the queue, unless it is reached already. Inside the limits the remainder changes nothing.
+// The test for a full queue is there for the bound. It never holds: there are only so many types, and each joins once.
+fn join<'a>(
+    reached: &'a mut [bool; TYPES],
+    queue: &'a mut [u8; TYPES],
+    count: usize,
+    by: TypeNo,
+) -> usize
+    ensures { λ r. ⌜ queued (now (reached .exit)) (now (queue .exit)) r
+        ≡ joinType (by .0 % mostTypes) (queued (now (reached .entry)) (now (queue .entry)) count) ⌝ }
+{
+    let b = by.0 as usize % TYPES;
+    if reached[b] {
+        return count;
+    }
+    if TYPES <= count {
+        return count;
+    }
+    reached[b] = true;
+    queue[count] = b as u8;
+    count + 1
+}
+
+// The types that the steps of a type reach.
+pub(crate) fn reach_steps<'a>(
+    from: &'a [u8; STEPS],
+    by: &'a [u8; STEPS],
+    to: &'a [u8; STEPS],
+    own: TypeSteps,
+    bears: &'a [u32; TYPES],
+    reached: &mut [bool; TYPES],
+    queue: &mut [u8; TYPES],
+    count: usize,
+) -> usize
+    requires { ⌜ own .span .start + own .span .n ≤ mostSteps ⌝ }
+    ensures { λ r. ⌜ queued (now (reached .exit)) (now (queue .exit)) r
+        ≡ reachSteps (now (bears .entry)) (own .forward) (own .live)
+        (stepsOf (now (from .entry)) (now (by .entry)) (now (to .entry)) (own .span .start) (own .span .n))
+        (queued (now (reached .entry)) (now (queue .entry)) count) ⌝ }
+{
+    let forward = own.forward;
+    let live = own.live;
+    let end = own.span.start + own.span.n;
+    let mut joined = count;
+    let mut i = own.span.start;
+    while i < end {
+        let b = TypeNo(by[i]);
+        if reaches(from[i], b, to[i], bears, forward, live) {
+            joined = join(reached, queue, joined, b);
         }
         i += 1;
     }
-    true
+    joined
 }

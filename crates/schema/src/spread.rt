@@ -1,4 +1,4 @@
-// Sets of states that grow along steps: one round over the steps of every type.
+// Sets of states that grow along steps: each type's settles over its own steps, in one round over the types.
 use crate::span::Span;
 use crate::state_set::StateSet;
 use crate::value::STEPS;
@@ -6,12 +6,13 @@ use crate::value::TYPES;
 use sdtd::TypeNo;
 ghost use mathlib.Core.Path.{_≡_};
 ghost use mathlib.Core.Logic.{_↔_};
-ghost use Prim.Native.Nat.{_+_, _≤_, _<_};
+ghost use Prim.Native.Nat.{ℕ, _+_, _≤_, _<_};
 ghost use lib.Dec.{T};
+ghost use lib.ListN.{getD};
 ghost use Rattle.sdtd.specs.Limits.{mostTypes, mostSteps};
 ghost use Rattle.schema.specs.States.{bearsIn};
 ghost use Rattle.schema.specs.Value.{stepsOf, offset};
-ghost use Rattle.schema.specs.Spread.{spreadStep, spreadSet, spreadAll};
+ghost use Rattle.schema.specs.Spread.{spreadStep, spreadSet, settleSet, spreadAll};
 
 // Does the table say that the type bears a tree?
 pub(crate) fn bears_in(table: &[u32; TYPES], a: usize) -> bool
@@ -60,7 +61,30 @@ fn spread_set<'a>(
     grown
 }
 
-// One round: the set of each type, over its own steps.
+// The steps of a type, over and over until they add nothing.
+fn settle_set<'a>(
+    add: &'a [u8; STEPS],
+    by: &'a [u8; STEPS],
+    when: &'a [u8; STEPS],
+    span: Span,
+    bears: &'a [u32; TYPES],
+    set: u32,
+) -> u32
+    requires { ⌜ span .start + span .n ≤ mostSteps ⌝ }
+    ensures { λ r. ⌜ r
+        ≡ settleSet (now (bears .entry)) (stepsOf (now (add .entry)) (now (by .entry)) (now (when .entry)) (span .start) (span .n)) set ⌝ }
+{
+    let mut settled = set;
+    loop {
+        let grown = spread_set(add, by, when, span, bears, settled);
+        if grown == settled {
+            return settled;
+        }
+        settled = grown;
+    }
+}
+
+// One round: the set of each type settles over the type's own steps.
 pub(crate) fn spread_all<'a>(
     add: &'a [u8; STEPS],
     by: &'a [u8; STEPS],
@@ -68,31 +92,30 @@ pub(crate) fn spread_all<'a>(
     steps: &'a [u16; TYPES],
     types: usize,
     bears: &'a [u32; TYPES],
-    sets: [u32; TYPES],
-) -> [u32; TYPES]
+    sets: &mut [u32; TYPES],
+)
     requires { ⌜ (types ≤ mostTypes) × (offset (now steps) types ≤ mostSteps) ⌝ }
-    ensures { λ r. ⌜ r
+    ensures { λ _. ⌜ now (sets .exit)
         ≡ spreadAll (now (steps .entry)) (stepsOf (now (add .entry)) (now (by .entry)) (now (when .entry))) (now (bears .entry)) 0 0
-        types sets ⌝ }
+        types (now (sets .entry)) ⌝ }
 {
-    let mut grown = sets;
     let mut start = 0;
     let mut a = 0;
     while a < types {
         let n = steps[a] as usize;
-        grown[a] = spread_set(add, by, when, Span { start, n }, bears, grown[a]);
+        sets[a] = settle_set(add, by, when, Span { start, n }, bears, sets[a]);
         start += n;
         a += 1;
     }
-    grown
 }
 
-// Are the tables the same?
-pub(crate) fn same_sets(x: [u32; TYPES], y: [u32; TYPES]) -> bool
-    ensures { λ r. ⌜ T r ↔ (x ≡ y) ⌝ }
+// Are the first n entries of the tables the same?
+pub(crate) fn same_sets<'a>(x: &'a [u32; TYPES], y: &'a [u32; TYPES], n: usize) -> bool
+    requires { ⌜ n ≤ mostTypes ⌝ }
+    ensures { λ r. ⌜ T r ↔ ((k : ℕ) → k < n → getD (now (x .entry)) k 0 ≡ getD (now (y .entry)) k 0) ⌝ }
 {
     let mut i = 0;
-    while i < TYPES {
+    while i < n {
         if x[i] != y[i] {
             return false;
         }

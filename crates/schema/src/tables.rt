@@ -1,8 +1,10 @@
 // Trimming: which states are live, which types bear a tree, which types are reached.
 use crate::limits::within;
 use crate::reach::StateTables;
-use crate::reach::reach_all;
-use crate::reach::same_flags;
+use crate::reach::TypeSteps;
+use crate::reach::reach_steps;
+use crate::reach::span_at;
+use crate::reach::starts;
 use crate::rows::BEGINS;
 use crate::rows::make_rows;
 use crate::spread::bears_in;
@@ -14,14 +16,12 @@ use crate::value::Schema;
 use crate::value::TYPES;
 use sdtd::TypeNo;
 ghost use mathlib.Core.Path.{_≡_};
-ghost use mathlib.Core.Bool.{true, false};
 ghost use Prim.Native.Nat.{_≤_, _<_};
 ghost use lib.Dec.{T};
-ghost use lib.ListN.{set, replicate};
 ghost use Rattle.sdtd.specs.Limits.{mostTypes, mostSteps};
 ghost use Rattle.sdtd.specs.Schema.{WithinLimits};
 ghost use Rattle.schema.specs.Value.{stepsOf, offset, meaning};
-ghost use Rattle.schema.specs.Spread.{spreadAll, reachAll, Settled, firstSets, startStates, bearing};
+ghost use Rattle.schema.specs.Spread.{spreadAll, Settled, stepsIn, ReachedFrom, firstSets, startStates, bearing};
 ghost use Rattle.schema.specs.Trimming.{Exact, TrimMeans, LiveMeans, LiveRowsMean};
 
 // Whether a schema is inside the limits. Entry a: the live states of the type a as a set, whether it bears a tree, whether it is reached.
@@ -66,12 +66,11 @@ fn live_states<'a>(
 {
     let mut live = first_sets(accepting, types);
     loop {
-        let bears = live;
-        let next = spread_all(from, by, to, steps, types, &bears, live);
-        if same_sets(next, live) {
+        let before = live;
+        spread_all(from, by, to, steps, types, &before, &mut live);
+        if same_sets(&before, &live, types) {
             return live;
         }
-        live = next;
     }
 }
 
@@ -91,15 +90,15 @@ fn forward_states<'a>(
 {
     let mut forward = [StateSet::START.0; TYPES];
     loop {
-        let next = spread_all(to, by, from, steps, types, bears, forward);
-        if same_sets(next, forward) {
+        let before = forward;
+        spread_all(to, by, from, steps, types, bears, &mut forward);
+        if same_sets(&before, &forward, types) {
             return forward;
         }
-        forward = next;
     }
 }
 
-// The reached types, round by round from the root type.
+// The reached types: the root type, and those that the steps of each type of the queue reach.
 fn reached_types<'a>(
     from: &'a [u8; STEPS],
     by: &'a [u8; STEPS],
@@ -110,20 +109,33 @@ fn reached_types<'a>(
     root: TypeNo,
 ) -> [bool; TYPES]
     requires { ⌜ (types ≤ mostTypes) × (offset (now steps) types ≤ mostSteps) × (root .0 < mostTypes) ⌝ }
-    ensures { λ r. ⌜ Settled
-        (λ t. reachAll (now (steps .entry)) (stepsOf (now (from .entry)) (now (by .entry)) (now (to .entry))) (tables .bears) (tables .forward) (tables .live) 0 0 types t)
-        (set (replicate mostTypes false) (root .0) true) r ⌝ }
+    ensures { λ r. ⌜ ReachedFrom
+        (stepsIn (now (steps .entry)) (stepsOf (now (from .entry)) (now (by .entry)) (now (to .entry))) types)
+        (tables .bears) (tables .forward) (tables .live) (root .0) r ⌝ }
 {
+    let starts = starts(steps, types);
     let first = root.0 as usize;
     let mut reached = [false; TYPES];
     reached[first] = true;
-    loop {
-        let next = reach_all(from, by, to, steps, types, tables, reached);
-        if same_flags(next, reached) {
-            return reached;
-        }
-        reached = next;
+    let mut queue = [0u8; TYPES];
+    queue[0] = root.0;
+    let mut count = 1;
+    let mut at = 0;
+    while at < count {
+        let a = queue[at] as usize;
+        let span = span_at(steps, &starts, types, a);
+        let forward = tables.forward[a];
+        let live = tables.live[a];
+        let own = TypeSteps {
+            span,
+            forward,
+            live,
+        };
+        let bears = &tables.bears;
+        count = reach_steps(from, by, to, own, bears, &mut reached, &mut queue, count);
+        at += 1;
     }
+    reached
 }
 
 // Which types bear a tree, by the table.

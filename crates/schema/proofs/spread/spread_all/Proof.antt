@@ -8,7 +8,7 @@ use borrow.Author.Needs.{needs}
 use lib.ListN.{getD, set}
 use Rattle.sdtd.specs.Limits.{mostSteps}
 use Rattle.sdtd.specs.Schema.{Step}
-use Rattle.schema.specs.Spread.{spreadSet, spreadAll}
+use Rattle.schema.specs.Spread.{settleSet, spreadAll}
 use Rattle.schema.specs.Value.{stepsOf, offset}
 use Rattle.schema.proofs.Rounds.{offset-more, steps-fit}
 use Rattle.schema.proofs.spread.spread_all.Statement.{statement}
@@ -16,7 +16,7 @@ use Rattle.schema.proofs.spread.spread_all.Tie as tie
 
 -- a turn takes the first of the types left
 turn : (steps : List ℕ) (part : ℕ → ℕ → List Step) (bears : List ℕ) (a s types x : ℕ) (t y : List ℕ) → a < types
-    → x ≡ spreadSet bears (part s (getD steps a 0)) (getD t a 0) → spreadAll steps part bears a s (types - a) t ≡ y
+    → x ≡ settleSet bears (part s (getD steps a 0)) (getD t a 0) → spreadAll steps part bears a s (types - a) t ≡ y
     → spreadAll steps part bears (a + 1) (s + getD steps a 0) (types - (a + 1)) (set t a x) ≡ y
 unfolding spreadAll
 turn steps part bears a s types x t y l e h =
@@ -30,13 +30,13 @@ unfolding spreadAll
 done steps part bears a s types t y l h = let q : types - a ≡ 0 = omega arith in rw q at h
 
 abbrev Inv-loop : tie.InvT-loop
-Inv-loop add by when steps types bears grown₀ start₀ a₀ grown start a =
+Inv-loop add by when steps types bears sets₀ start₀ a₀ sets start a =
     (a ≤ types) × (start ≡ offset steps a)
-    × (spreadAll steps (stepsOf add by when) bears a start (types - a) grown
-    ≡ spreadAll steps (stepsOf add by when) bears 0 0 types grown₀)
+    × (spreadAll steps (stepsOf add by when) bears a start (types - a) sets
+    ≡ spreadAll steps (stepsOf add by when) bears 0 0 types sets₀)
 
 abbrev μ-loop : tie.MeasureT-loop
-μ-loop add by when steps types bears grown₀ start₀ a₀ grown start a = types - a
+μ-loop add by when steps types bears sets₀ start₀ a₀ sets start a = types - a
 
 -- the steps of the type a lie inside the tables
 fit : (c : tie.In-loop Inv-loop μ-loop) → c .before .loop .start + getD (c .before .before .args .steps .now) (c .before .loop .a) 0 ≤ mostSteps
@@ -56,23 +56,23 @@ element-copy-out-n c = search needs
 cast-n : tie.Need-cast-n Inv-loop μ-loop
 cast-n c = omega (arith, fit (c .before))
 
-mul-spread-set : tie.Need-mul-spread-set Inv-loop μ-loop
-mul-spread-set c = search needs
+mul-settle-set : tie.Need-mul-settle-set Inv-loop μ-loop
+mul-settle-set c = search needs
 
-array-read-spread-set : tie.Need-array-read-spread-set Inv-loop μ-loop
-array-read-spread-set c = search needs
+element-copy-out-settle-set : tie.Need-element-copy-out-settle-set Inv-loop μ-loop
+element-copy-out-settle-set c = search needs
 
-spread-set-requires : tie.Need-spread-set-requires Inv-loop μ-loop
-spread-set-requires c κs = omega (arith, fit (c .before))
+settle-set-requires : tie.Need-settle-set-requires Inv-loop μ-loop
+settle-set-requires c κs = omega (arith, fit (c .before .before))
 
-mul-grown : tie.Need-mul-grown Inv-loop μ-loop
-mul-grown c = search needs
+mul-sets : tie.Need-mul-sets Inv-loop μ-loop
+mul-sets c = search needs
 
-array-write-grown : tie.Need-array-write-grown Inv-loop μ-loop
-array-write-grown c = search needs
+element-write-sets : tie.Need-element-write-sets Inv-loop μ-loop
+element-write-sets c = search needs
 
 add-start : tie.Need-add-start Inv-loop μ-loop
-add-start c = omega (arith, fit (c .before .before))
+add-start c = omega (arith, fit (c .before .before .before))
 
 add-a : tie.Need-add-a Inv-loop μ-loop
 add-a c = search needs
@@ -82,9 +82,9 @@ loop-less c = search needs
 
 loop-again : tie.Need-loop-again Inv-loop μ-loop
 loop-again c =
-    let k = c .before .before in
+    let k = c .before .before .before in
     let o = offset-more (k .before .before .args .steps .now) (k .before .loop .a) _ (k .before .loop .inv .1) in
-    (omega arith, o, turn _ _ _ _ _ _ _ _ _ (k .loop-test .taken) (c .spread-set .ensures) (k .before .loop .inv .2))
+    (omega arith, o, turn _ _ _ _ _ _ _ _ _ (k .loop-test .taken) (c .settle-set .ensures) (k .before .loop .inv .2))
 
 returns : tie.Need-returns Inv-loop μ-loop
 returns c = done _ _ _ _ _ _ _ _ (c .loop-test .left) (c .before .loop .inv .2)
@@ -99,11 +99,11 @@ spread-all-spec =
     mul-n
     element-copy-out-n
     cast-n
-    mul-spread-set
-    array-read-spread-set
-    spread-set-requires
-    mul-grown
-    array-write-grown
+    mul-settle-set
+    element-copy-out-settle-set
+    settle-set-requires
+    mul-sets
+    element-write-sets
     add-start
     add-a
     loop-less

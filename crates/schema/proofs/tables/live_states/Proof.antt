@@ -8,6 +8,7 @@ use Rattle.schema.specs.Spread.{spreadAll}
 use Rattle.schema.specs.Value.{stepsOf}
 use Rattle.schema.proofs.Bits.{absentIn}
 use Rattle.schema.proofs.Rounds.{Sets, Turn, turn-first, turn-again, turn-less, turn-last, all-growth, growth-falls}
+use Rattle.schema.proofs.SpreadLaws.{round-tells}
 use Rattle.schema.proofs.tables.live_states.Statement.{statement}
 use Rattle.schema.proofs.tables.live_states.Tie as tie
 
@@ -33,21 +34,22 @@ same-sets-requires c κs = search needs
 
 returns : tie.Need-returns Inv-loop μ-loop
 returns c =
-    let k = c .before .before in
-    let q = c .before .same-sets .ensures .0 (rw (c .if1 .taken) tt) in
-    let s = turn-last _ _ _ _ _ (k .spread-all .ensures) (k .before .before .loop .inv) q in
-    rw (k .before .before .before .first-sets .ensures) at s
+    let k = c .before .before .before .before in
+    let told = round-tells _ _ _ _ (c .before .same-sets .result) _ _ (k .spread-all .ensures) (c .before .same-sets .ensures) in
+    let s = turn-last _ _ _ _ _ (k .spread-all .ensures) (k .before .before .before .loop .inv) (told .0 (rw (c .if1 .taken) tt)) in
+    rw (k .before .before .before .before .first-sets .ensures) at s
 
 loop-less : tie.Need-loop-less Inv-loop μ-loop
 loop-less c =
-    let k = c .before .before in
+    let k = c .before .before .before .before in
+    let told = round-tells _ _ _ _ (c .before .same-sets .result) _ _ (k .spread-all .ensures) (c .before .same-sets .ensures) in
     turn-less _ _ absentIn (λ t h d. growth-falls t _ h (all-growth _ _ t 0 0 _ t h) d)
-    _ _ _ (k .spread-all .ensures) (k .before .before .loop .inv) (λ q. rw (c .if1 .left) at (c .before .same-sets .ensures .1 q))
+    _ _ _ (k .spread-all .ensures) (k .before .before .before .loop .inv) (λ q. rw (c .if1 .left) at (told .1 q))
 
 loop-again : tie.Need-loop-again Inv-loop μ-loop
 loop-again c =
-    let k = c .before .before in
-    turn-again _ _ (λ t h. all-growth _ _ t 0 0 _ t h .sets) _ _ _ (k .spread-all .ensures) (k .before .before .loop .inv)
+    let k = c .before .before .before .before in
+    turn-again _ _ (λ t h. all-growth _ _ t 0 0 _ t h .sets) _ _ _ (k .spread-all .ensures) (k .before .before .before .loop .inv)
 
 pub live-states-spec : {M : Type 1} → statement M
 live-states-spec =

@@ -1,22 +1,28 @@
--- The types reached so far are those after some rounds; each round that changes them marks more of them.
-use mathlib.Core.Path.{_≡_, _∙_}
-use Prim.Native.Nat.{_-_}
+-- The types before the place `at` of the queue are gone over.
+use Prim.Native.Nat.{_-_, _<_}
+use mathlib.Core.Path.{refl}
+use native.Mathlib.Numerals.{add-one}
+use native.Mathlib.Omega.{arith}
 use borrow.Author.Needs.{needs}
-use lib.ListN.{length, length-set}
-use Rattle.sdtd.proofs.Rounds.{count}
+use lib.ListN.{getD, replicate}
 use Rattle.sdtd.specs.Limits.{mostTypes}
-use Rattle.schema.specs.Spread.{reachAll}
+use Rattle.schema.specs.Spread.{Starts, stepsIn, queued}
 use Rattle.schema.specs.Value.{stepsOf}
-use Rattle.schema.proofs.Rounds.{Turn, turn-first, turn-again, turn-less, turn-last, all-marked, marked-falls}
+use Rattle.schema.proofs.Rounds.{span-fits}
+use Rattle.schema.proofs.ReachLaws.{Visited, visited-first, visited-most, visited-below, visited-next, visited-last}
 use Rattle.schema.proofs.tables.reached_types.Statement.{statement}
 use Rattle.schema.proofs.tables.reached_types.Tie as tie
 
 abbrev Inv-loop : tie.InvT-loop
-Inv-loop from by to steps types tables first reached₀ reached =
-    Turn (λ t. length t ≡ mostTypes) (λ t. reachAll steps (stepsOf from by to) (tables .bears) (tables .forward) (tables .live) 0 0 types t) reached₀ reached
+Inv-loop from by to steps types tables starts first reached₀ queue₀ count₀ at₀ reached queue count at =
+    Starts steps types starts
+    × Visited (stepsIn steps (stepsOf from by to) types) (tables .bears) (tables .forward) (tables .live) first at (queued reached queue count)
 
 abbrev μ-loop : tie.MeasureT-loop
-μ-loop from by to steps types tables first reached₀ reached = mostTypes - count reached
+μ-loop from by to steps types tables starts first reached₀ queue₀ count₀ at₀ reached queue count at = mostTypes - at
+
+starts-requires : tie.Need-starts-requires Inv-loop μ-loop
+starts-requires c κs = search needs
 
 cast-first : tie.Need-cast-first Inv-loop μ-loop
 cast-first c = search needs
@@ -24,30 +30,60 @@ cast-first c = search needs
 array-write-reached : tie.Need-array-write-reached Inv-loop μ-loop
 array-write-reached c = search needs
 
+array-write-queue : tie.Need-array-write-queue Inv-loop μ-loop
+array-write-queue c = search needs
+
+-- the type at the place `at` has an entry in each table
+most : (c : tie.In-loop Inv-loop μ-loop) → c .before .loop .at < mostTypes
+most c = omega (arith, visited-most _ _ _ _ _ (c .before .loop .inv .1), c .loop-test .taken)
+
+small : (c : tie.In-loop Inv-loop μ-loop) → getD (c .before .loop .queue) (c .before .loop .at) 0 < mostTypes
+small c = visited-below _ _ _ _ _ (c .before .loop .inv .1) (c .loop-test .taken)
+
 loop-holds : tie.Need-loop-holds Inv-loop μ-loop
-loop-holds c = turn-first _ _ _ (simp length-set)
+loop-holds c = (c .before .starts .ensures, visited-first _ _ _ _ _ (replicate mostTypes 0) refl (omega arith))
 
-reach-all-requires : tie.Need-reach-all-requires Inv-loop μ-loop
-reach-all-requires c κs = search needs
+array-read-a : tie.Need-array-read-a Inv-loop μ-loop
+array-read-a c = omega (arith, most c)
 
-same-flags-requires : tie.Need-same-flags-requires Inv-loop μ-loop
-same-flags-requires c κs = search needs
+cast-a : tie.Need-cast-a Inv-loop μ-loop
+cast-a c = omega (arith, small c)
 
-returns : tie.Need-returns Inv-loop μ-loop
-returns c =
-    let q = c .before .same-flags .ensures .0 (rw (c .if1 .taken) tt) in
-    turn-last _ _ _ _ _ (c .before .before .reach-all .ensures) (c .before .before .before .loop .inv) q
+span-at-requires : tie.Need-span-at-requires Inv-loop μ-loop
+span-at-requires c κs = search needs
+
+mul-forward : tie.Need-mul-forward Inv-loop μ-loop
+mul-forward c = omega (arith, small (c .before .before))
+
+element-copy-out-forward : tie.Need-element-copy-out-forward Inv-loop μ-loop
+element-copy-out-forward c = omega (arith, small (c .before .before))
+
+mul-live : tie.Need-mul-live Inv-loop μ-loop
+mul-live c = omega (arith, small (c .before .before .before))
+
+element-copy-out-live : tie.Need-element-copy-out-live Inv-loop μ-loop
+element-copy-out-live c = omega (arith, small (c .before .before .before))
+
+reach-steps-requires : tie.Need-reach-steps-requires Inv-loop μ-loop
+reach-steps-requires c κs =
+    let k = c .before .before .before .before .before .before in
+    rw (k .span-at .ensures) (span-fits _ _ _ (k .before .before .before .before .before .before .pre .1))
+
+add-at : tie.Need-add-at Inv-loop μ-loop
+add-at c = omega (arith, most (c .before .before .before .before .before .before .before .before .before))
 
 loop-less : tie.Need-loop-less Inv-loop μ-loop
-loop-less c =
-    let k = c .before .before in
-    turn-less _ _ (λ t. mostTypes - count t) (λ t h d. marked-falls t _ h (all-marked _ _ _ _ _ 0 0 _ t h) d)
-    _ _ _ (k .reach-all .ensures) (k .before .loop .inv) (λ q. rw (c .if1 .left) at (c .before .same-flags .ensures .1 q))
+loop-less c = omega (arith, most (c .before .before .before .before .before .before .before .before .before))
 
 loop-again : tie.Need-loop-again Inv-loop μ-loop
 loop-again c =
-    let k = c .before .before in
-    turn-again _ _ (λ t h. all-marked _ _ _ _ _ 0 0 _ t h .long ∙ h) _ _ _ (k .reach-all .ensures) (k .before .loop .inv)
+    let k = c .before .before .before .before .before .before .before in
+    let l = k .before .before in
+    let i = l .before .loop .inv in
+    (i .0, rw (add-one, c .reach-steps .ensures, k .span-at .ensures) (visited-next _ _ _ _ _ (i .1) (l .loop-test .taken)))
+
+returns : tie.Need-returns Inv-loop μ-loop
+returns c = visited-last _ _ _ _ _ (c .before .loop .inv .1) (c .loop-test .left)
 
 pub reached-types-spec : {M : Type 1} → statement M
 reached-types-spec =
@@ -55,11 +91,20 @@ reached-types-spec =
     (tie.spec
     Inv-loop
     μ-loop
+    starts-requires
     cast-first
     array-write-reached
+    array-write-queue
     loop-holds
-    reach-all-requires
-    same-flags-requires
-    returns
+    array-read-a
+    cast-a
+    span-at-requires
+    mul-forward
+    element-copy-out-forward
+    mul-live
+    element-copy-out-live
+    reach-steps-requires
+    add-at
     loop-less
-    loop-again)
+    loop-again
+    returns)
