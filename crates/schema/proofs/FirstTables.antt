@@ -1,7 +1,7 @@
 -- What a value says of its steps, and the tables that the rounds of trimming begin with.
 use mathlib.Core.Path.{_≡_, refl, sym, _∙_, ap}
 use mathlib.Core.Logic.{_↔_}
-use mathlib.Core.Bool.{Bool, true, false}
+use mathlib.Core.Bool.{true, false}
 use mathlib.Core.List.{List, [], _∷_, _++_, List·Memᴰ, List·Memᴰ·not-nil}
 use Prim.Native.Nat.{ℕ, zero, suc, _-_, _%_, _^_, _≤_, _<_}
 use native.Mathlib.Decide.{ℕ-discrete, decLt}
@@ -164,6 +164,3 @@ module _ {v : Schema} (fits : Fits v) (within : WithinLimits (meaning v)) where
         | yes l ↦ rw (first-own a l) (fits .accepting-below a)
         | no l ↦ rw (first-other a (omega arith)) (lit< tt)
       ]
-
-  pub root-below : v .root .0 < mostTypes
-  root-below = within-room v within .root

@@ -200,6 +200,7 @@ module _ (own : ℕ → List Step) (bears forward live : List ℕ) (root : ℕ) 
   -- the types before the place `at` of the queue are done
   pub record Visited (at : ℕ) (m : Queued) : Type 0 where
     pub kept : Kept (Reaching own bears forward live root) m
+    pub some : 0 < m .count
     pub before : at ≤ m .count
     pub first-marked : IsMarked m root
     pub done : (i : ℕ) → i < at → Done m (typeAt m i)
@@ -248,7 +249,7 @@ module _ (own : ℕ → List Step) (bears forward live : List ℕ) (root : ℕ) 
         }
 
     first-visited : Visited 0 firstQueued
-    first-visited = record { kept = first-kept; before = omega arith; first-marked = first-in; done = λ i l. absurd (omega arith) }
+    first-visited = record { kept = first-kept; some = omega arith; before = omega arith; first-marked = first-in; done = λ i l. absurd (omega arith) }
 
   pub visited-first : (queue : List ℕ) → length queue ≡ mostTypes → root < mostTypes
       → Visited 0 (queued (set (replicate mostTypes false) root true) (set queue 0 root) 1)
@@ -265,6 +266,7 @@ module _ (own : ℕ → List Step) (bears forward live : List ℕ) (root : ℕ) 
       let g = steps-grow bears (getD forward a 0) (getD live a 0) (own a) rule (v .kept) in
       record {
         kept = g .kept;
+        some = omega (arith, g .more);
         before = omega (arith, g .more);
         first-marked = g .marks root (v .first-marked);
         done =

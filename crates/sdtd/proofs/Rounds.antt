@@ -5,7 +5,7 @@ use mathlib.Core.List.{List, [], _∷_, List·Memᴰ, List·Memᴰ·head, List·
 use Prim.Native.Nat.{ℕ, zero, suc, _+_, _≤_, _<_}
 use native.Mathlib.Omega.{arith}
 use lib.ListN.{length, getD, set, replicate, length-set, length-replicate, getD-replicate}
-use lib.Seq.{getD-set-other, set-getD}
+use lib.Seq.{getD-set-other}
 
 -- how many entries are true
 abbrev pub count : List Bool → ℕ
@@ -24,10 +24,6 @@ count-set (false ∷ t) zero h e = refl
 count-set (true ∷ t) zero h e = let z : _≡_ {A = ℕ} 0 1 = cc in omega arith
 count-set (false ∷ t) (suc i) h e = count-set t i (omega arith) e
 count-set (true ∷ t) (suc i) h e = omega (arith, count-set t i (omega arith) e)
-
--- setting an entry that is true already leaves the table as it is
-pub set-same : (t : List Bool) (i : ℕ) → getD t i false ≡ true → set t i true ≡ t
-set-same t i e = rw e at (set-getD t i false)
 
 -- n entries were added to the table one after another, each one absent before
 pub data Additions : List Bool → ℕ → List Bool → Type 0 where

@@ -1,8 +1,8 @@
 -- What is left of the steps, over the marks and the queue so far, gives what all of them give.
 use Prim.Native.Nat.{ℕ, _+_, _-_, _%_, _≤_, _<_}
-use mathlib.Core.Path.{_≡_, refl}
+use mathlib.Core.Path.{_≡_, refl, sym, _∙_}
 use mathlib.Core.Logic.{⊎-elim}
-use mathlib.Core.Bool.{Bool, true, false, cond}
+use mathlib.Core.Bool.{cond}
 use mathlib.Core.List.{List}
 use native.Mathlib.Nat.{add-sub-cancel-left}
 use native.Mathlib.Omega.{arith}
@@ -27,15 +27,6 @@ done : (bears from by to : List ℕ) (forward live i end : ℕ) (x y : Queued) �
     → reachSteps bears forward live (stepsOf from by to i (end - i)) x ≡ y → x ≡ y
 unfolding reachSteps stepsOf upFrom
 done bears from by to forward live i end x y l h = let e : end - i ≡ 0 = omega arith in rw e at h
-
--- where the arms of the test meet, the marks and the queue are those that the arm left
-held : {t b : Bool} {r r′ : List Bool} {q q′ : List ℕ} {n n′ : ℕ} {x : Queued} (m : Queued) → t ≡ b → t ≡ true
-    → r ≡ r′ → q ≡ q′ → n ≡ n′ → queued r′ q′ n′ ≡ x → queued r q n ≡ cond b x m
-held m e t i j k s = rw (← e, t) (cc)
-
-failed : {t b : Bool} {r r′ : List Bool} {q q′ : List ℕ} {n n′ : ℕ} (x : Queued) → t ≡ b → t ≡ false
-    → r ≡ r′ → q ≡ q′ → n ≡ n′ → queued r q n ≡ cond b x (queued r′ q′ n′)
-failed x e t i j k = rw (← e, t) (cc)
 
 abbrev Inv-loop : tie.InvT-loop
 Inv-loop from by to bears reached₀ queue₀ count forward live end joined₀ i₀ reached queue joined i =
@@ -75,13 +66,12 @@ loop-less c = search needs
 
 loop-again : tie.Need-loop-again Inv-loop μ-loop
 loop-again c =
+    let e = c .before .reaches .ensures in
     let k = c .before .before .before .before .before in (
       omega arith,
       omega arith,
       turn _ _ _ _ _ _ _ _ _ _ _ (k .loop-test .taken)
-          (⊎-elim
-          (λ w. held _ (c .before .reaches .ensures) (w .0 .taken) (w .4) (w .5) (w .6) (w .3 .ensures))
-          (λ w. failed _ (c .before .reaches .ensures) (w .0 .left) (w .1) (w .2) (w .3))
+          (⊎-elim (λ w. rw (sym e ∙ w .0 .taken, w .4, w .5, w .6) (w .3 .ensures)) (λ w. rw (sym e ∙ w .0 .left, w .1, w .2, w .3))
           (c .if1 .came))
           (k .before .loop .inv .2),
     )

@@ -1,5 +1,4 @@
 -- `schema::reach::span_at` meets its contract.
-use Prim.Native.Nat.{_<_}
 use native.Mathlib.Omega.{arith}
 use borrow.Author.Tests.{lt-ltb, le-ltb}
 use Rattle.schema.specs.Spread.{spanAt}

@@ -33,12 +33,15 @@ array-write-reached c = search needs
 array-write-queue : tie.Need-array-write-queue Inv-loop μ-loop
 array-write-queue c = search needs
 
--- the type at the place `at` has an entry in each table
+-- the place `at` is one of the queue, and the type there has an entry in each table
+ahead : (c : tie.In-loop Inv-loop μ-loop) → c .before .loop .at < c .before .loop .count
+ahead c = omega arith
+
 most : (c : tie.In-loop Inv-loop μ-loop) → c .before .loop .at < mostTypes
-most c = omega (arith, visited-most _ _ _ _ _ (c .before .loop .inv .1), c .loop-test .taken)
+most c = omega (arith, visited-most _ _ _ _ _ (c .before .loop .inv .1), ahead c)
 
 small : (c : tie.In-loop Inv-loop μ-loop) → getD (c .before .loop .queue) (c .before .loop .at) 0 < mostTypes
-small c = visited-below _ _ _ _ _ (c .before .loop .inv .1) (c .loop-test .taken)
+small c = visited-below _ _ _ _ _ (c .before .loop .inv .1) (ahead c)
 
 loop-holds : tie.Need-loop-holds Inv-loop μ-loop
 loop-holds c = (c .before .starts .ensures, visited-first _ _ _ _ _ (replicate mostTypes 0) refl (omega arith))
@@ -80,7 +83,7 @@ loop-again c =
     let k = c .before .before .before .before .before .before .before in
     let l = k .before .before in
     let i = l .before .loop .inv in
-    (i .0, rw (add-one, c .reach-steps .ensures, k .span-at .ensures) (visited-next _ _ _ _ _ (i .1) (l .loop-test .taken)))
+    (i .0, rw (add-one, c .reach-steps .ensures, k .span-at .ensures) (visited-next _ _ _ _ _ (i .1) (ahead l)))
 
 returns : tie.Need-returns Inv-loop μ-loop
 returns c = visited-last _ _ _ _ _ (c .before .loop .inv .1) (c .loop-test .left)
