@@ -10,16 +10,16 @@ use native.Mathlib.Decide.{ℕ-discrete, decLt}
 use native.Mathlib.Omega.{arith}
 use borrow.Author.Tests.{lt-ltb, le-ltb}
 use lib.Dec.{T}
-use lib.ListN.{length, getD, set, take, replicate, length-set, length-map, List·getD-eq-default}
+use lib.ListN.{length, getD, set, take, replicate, length-map, List·getD-eq-default}
 use lib.Seq.{take-suc, set-at, length-take-le}
 use Rattle.sdtd.specs.Limits.{mostTypes, mostStates, mostSteps}
 use Rattle.sdtd.specs.Schema.{Step}
 use Rattle.schema.specs.States.{member, bearsIn}
 use Rattle.schema.specs.Value.{upFrom, stepsOf, stepAt, offset}
-use Rattle.schema.specs.Spread.{spreadSet, settleSet, spreadAll, iterate, Settled, spanAt, startStates, bearing}
+use Rattle.schema.specs.Spread.{spreadSet, settleSet, iterate, Settled, spanAt, startStates, bearing}
 use Rattle.schema.proofs.Bits.{absent, absent-all, absent-falls, absentIn, absent-in-falls}
 use Rattle.schema.proofs.Values.{steps-cons, offset-step, offset-up, up-count, map-up}
-use Rattle.schema.proofs.SpreadLaws.{Grown, stays, set-grown, settle-grown}
+use Rattle.schema.proofs.SpreadLaws.{set-grown, Sets, Growth}
 
 -- the steps left are the one at i and those after it
 pub steps-left : (from by to : List ℕ) (i end : ℕ) → i < end
@@ -67,11 +67,6 @@ bearing-at table l a =
           ∙ sym (ap (member 0) (List·getD-eq-default table 0 (rw l past)))
     ]
 
--- A table of sets of states, an entry for each type.
-pub record Sets (t : List ℕ) : Type 0 where
-  pub long : length t ≡ mostTypes
-  pub below : (a : ℕ) → getD t a 0 < 2 ^ mostStates
-
 start-below : (n a : ℕ) → getD (replicate n 1) a 0 < 2 ^ mostStates
 start-below zero a = omega arith
 start-below (suc n) zero = omega arith
@@ -79,35 +74,6 @@ start-below (suc n) (suc a) = start-below n a
 
 pub start-sets : Sets startStates
 start-sets = record { long = refl; below = start-below mostTypes }
-
--- u is a table of sets with the states of t
-pub record Growth (t u : List ℕ) : Type 0 where
-  pub sets : Sets u
-  pub more : (a q : ℕ) → T (member q (getD t a 0)) → T (member q (getD u a 0))
-
-entry-grown : (t : List ℕ) (a k y : ℕ) → Grown (getD t a 0) y → getD t k 0 < 2 ^ mostStates → Grown (getD t k 0) (getD (set t a y) k 0)
-entry-grown [] a k y g b = stays 0 b
-entry-grown (x ∷ t) zero zero y g b = g
-entry-grown (x ∷ t) zero (suc k) y g b = stays (getD t k 0) b
-entry-grown (x ∷ t) (suc a) zero y g b = stays x b
-entry-grown (x ∷ t) (suc a) (suc k) y g b = entry-grown t a k y g b
-
-one-growth : (t : List ℕ) (a y : ℕ) → Sets t → Grown (getD t a 0) y → Growth t (set t a y)
-one-growth t a y h g = record {
-  sets = record { long = length-set t a y ∙ h .long; below = λ k. entry-grown t a k y g (h .below k) .below };
-  more = λ k. entry-grown t a k y g (h .below k) .grown;
-}
-
--- a round keeps tables of sets, and only adds states
-pub all-growth : (steps : List ℕ) (part : ℕ → ℕ → List Step) (bears : List ℕ) (a s n : ℕ) (t : List ℕ) → Sets t
-    → Growth t (spreadAll steps part bears a s n t)
-unfolding spreadAll
-all-growth steps part bears a s zero t h = record { sets = h; more = λ a q m. m }
-all-growth steps part bears a s (suc n) t h =
-    let y = settleSet bears (part s (getD steps a 0)) (getD t a 0) in
-    let g = one-growth t a y h (settle-grown bears (part s (getD steps a 0)) (getD t a 0) (h .below a)) in
-    let r = all-growth steps part bears (suc a) (s + getD steps a 0) n (set t a y) (g .sets) in
-    record { sets = r .sets; more = λ k q m. r .more k q (g .more k q m) }
 
 -- a table that grew and is not the same has fewer states absent
 pub growth-falls : (t u : List ℕ) → Sets t → Growth t u → u ≢ t → absentIn u < absentIn t

@@ -32,10 +32,10 @@ bears-in S table exact j = (λ m. bears-live .1 (exact j 0 .0 m), λ b. exact j 
 
 -- the two rounds
 abbrev liveRound : Schema → List ℕ → List ℕ
-liveRound v t = spreadAll (v .steps) (forth v) t 0 0 (v .types) t
+liveRound v t = spreadAll (v .steps) (forth v) (λ u. u) 0 0 (v .types) t
 
 abbrev forwardRound : Schema → List ℕ → List ℕ → List ℕ
-forwardRound v bears t = spreadAll (v .steps) (turned v) bears 0 0 (v .types) t
+forwardRound v bears t = spreadAll (v .steps) (turned v) (λ u. bears) 0 0 (v .types) t
 
 -- what the tables on the way have
 abbrev LiveTable : Schema → List ℕ → Type 0
@@ -54,8 +54,7 @@ module _
   live-first : LiveTable v (firstLive v)
   live-first =
       record {
-        long = first-long fits within;
-        below = first-below fits within;
+        sets = record { long = first-long fits within; below = first-below fits within };
         grown = λ a q m. m;
         sound = λ a q m. live-closed .accepting a q (accepts fits within a q .1 m);
       }
@@ -68,7 +67,7 @@ module _
       live-closed .step a s m (k .sound (s .by) 0 (rw (own-step fits within a s m .by) at b)) to
 
   live-round : (t : List ℕ) → LiveTable v t → LiveTable v (liveRound v t)
-  live-round t k = round-keeps (v .steps) (forth v) (v .types) (fits .steps-long) (types-most fits within) t k (live-rule t k)
+  live-round t k = round-keeps (v .steps) (forth v) (λ u. u) (v .types) 0 0 t refl (omega (arith, types-most fits within)) k (λ u h a s l. live-rule u h a s (omega arith))
 
   live-table : LiveTable v live
   live-table = settled-keeps (LiveTable v) live-round live-first settled
@@ -80,7 +79,7 @@ module _
         step =
             λ a s m b to.
             let o = own-step fits within a s m in
-            settled-takes (v .steps) (forth v) (v .types) (fits .steps-long) (types-most fits within) live live-table
+            settled-takes (v .steps) (forth v) (λ u. u) (v .types) live (types-most fits within) (live-table .sets)
             (settled .settled) a s (o .type) (o .given) (o .from) (rw (o .by) b) to;
       }
 
@@ -94,8 +93,7 @@ module _
     forward-first : ForwardTable v startStates
     forward-first =
         record {
-          long = refl;
-          below = start-sets .below;
+          sets = start-sets;
           grown = λ a q m. m;
           sound = λ a q m. rw (start-only mostTypes a q m) (record { word = []; leads = stay; bear = none });
         }
@@ -109,7 +107,8 @@ module _
         record { word = f .word ++ (s .by ∷ []); leads = leads-append (f .leads) (go m stay); bear = all-append (f .bear) (both c none) }
 
     forward-round : (t : List ℕ) → ForwardTable v t → ForwardTable v (forwardRound v live t)
-    forward-round t k = round-keeps (v .steps) (turned v) (v .types) (fits .steps-long) (types-most fits within) live k forward-rule
+    forward-round t k =
+        round-keeps (v .steps) (turned v) (λ u. live) (v .types) 0 0 t refl (omega (arith, types-most fits within)) k (λ u h a s l. forward-rule a s (omega arith))
 
     forward-table : ForwardTable v forward
     forward-table = settled-keeps (ForwardTable v) forward-round forward-first onward
@@ -119,7 +118,7 @@ module _
         → T (member (s .from) (getD forward a 0)) → T (member (s .to) (getD forward a 0))
     forward-takes a s i b m =
         let o = own-step fits within a s i in
-        settled-takes (v .steps) (turned v) (v .types) (fits .steps-long) (types-most fits within) live forward-table (onward .settled)
+        settled-takes (v .steps) (turned v) (λ u. live) (v .types) forward (types-most fits within) (forward-table .sets) (onward .settled)
         a (back s) (o .type) (own-back (v .from) (v .by) (v .to) (v .steps) a s (o .given)) (o .to)
         (rw (o .by) (bears-is (s .by) .0 b)) m
 
@@ -173,7 +172,7 @@ module _
     exact marked rows =
         record {
           live = λ a q. (live-is a q .1, live-is a q .0);
-          bears = λ a. rw (bearing-at live (live-table .long) a) (bears-is a .1, bears-is a .0);
+          bears = λ a. rw (bearing-at live (live-table .sets .long) a) (bears-is a .1, bears-is a .0);
           reached =
               λ a.
               let e = reached-exact closed (λ b. sound) a in (λ t. e .1 (marked a .0 t), λ r. marked a .1 (e .0 r));
@@ -183,8 +182,8 @@ module _
 -- the tables that the three loops end with
 pub tables-exact :
     {v : Schema} {live forward : List ℕ} {reached : List Bool} {entries begins : List ℕ} → Fits v → WithinLimits (meaning v)
-    → Settled (λ t. spreadAll (v .steps) (stepsOf (v .from) (v .by) (v .to)) t 0 0 (v .types) t) (firstSets (v .types) (v .accepting)) live
-    → Settled (λ t. spreadAll (v .steps) (stepsOf (v .to) (v .by) (v .from)) live 0 0 (v .types) t) startStates forward
+    → Settled (λ t. spreadAll (v .steps) (stepsOf (v .from) (v .by) (v .to)) (λ u. u) 0 0 (v .types) t) (firstSets (v .types) (v .accepting)) live
+    → Settled (λ t. spreadAll (v .steps) (stepsOf (v .to) (v .by) (v .from)) (λ u. live) 0 0 (v .types) t) startStates forward
     → ReachedFrom (stepsIn (v .steps) (stepsOf (v .from) (v .by) (v .to)) (v .types)) live forward live (v .root .0) reached
     → RowsMean (meaning v) entries begins
     → Exact (meaning v) (record { inside = true; live = live; bears = bearing live; reached = reached; entries = entries; begins = begins })
@@ -193,6 +192,6 @@ tables-exact fits within l f r rows = exact fits within l f r rows
 -- the table that the first loop settles at
 pub live-exactly :
     {v : Schema} {live : List ℕ} → Fits v → WithinLimits (meaning v)
-    → Settled (λ t. spreadAll (v .steps) (stepsOf (v .from) (v .by) (v .to)) t 0 0 (v .types) t) (firstSets (v .types) (v .accepting)) live
+    → Settled (λ t. spreadAll (v .steps) (stepsOf (v .from) (v .by) (v .to)) (λ u. u) 0 0 (v .types) t) (firstSets (v .types) (v .accepting)) live
     → LiveExactly (meaning v) live
 live-exactly fits within l a q = (live-is fits within l a q .1, live-is fits within l a q .0)

@@ -29,11 +29,13 @@ iterate round (suc n) t = iterate round n (round t)
 unfoldable pub settleSet : List ℕ → List Step → ℕ → ℕ
 settleSet bears ss x = iterate (spreadSet bears ss) mostStates x
 
--- one round over n types from the type a on, whose steps begin at the place s; `part s k` are the k steps from the place s on
-unfoldable pub spreadAll : List ℕ → (ℕ → ℕ → List Step) → List ℕ → ℕ → ℕ → ℕ → List ℕ → List ℕ
-spreadAll steps part bears a s zero sets = sets
-spreadAll steps part bears a s (suc n) sets =
-    spreadAll steps part bears (suc a) (s + getD steps a 0) n (set sets a (settleSet bears (part s (getD steps a 0)) (getD sets a 0)))
+-- one round over n types from the type a on, whose steps begin at the place s; `part s k` are the k steps from the place s on, and
+-- `tells sets` is the table that tells which types bear a tree
+unfoldable pub spreadAll : List ℕ → (ℕ → ℕ → List Step) → (List ℕ → List ℕ) → ℕ → ℕ → ℕ → List ℕ → List ℕ
+spreadAll steps part tells a s zero sets = sets
+spreadAll steps part tells a s (suc n) sets =
+    spreadAll steps part tells (suc a) (s + getD steps a 0) n
+    (set sets a (settleSet (tells sets) (part s (getD steps a 0)) (getD sets a 0)))
 
 -- The table after some rounds, which one round more does not change.
 pub record Settled {A : Type 0} (round : List A → List A) (first last : List A) : Type 0 where

@@ -84,6 +84,33 @@ fn settle_set<'a>(
     }
 }
 
+// One round over the table that tells itself which types bear a tree: the set of each type settles over the type's own steps.
+pub(crate) fn live_all<'a>(
+    from: &'a [u8; STEPS],
+    by: &'a [u8; STEPS],
+    to: &'a [u8; STEPS],
+    steps: &'a [u16; TYPES],
+    types: usize,
+    sets: &'a mut [u32; TYPES],
+)
+    requires { ⌜ (types ≤ mostTypes) × (offset (now steps) types ≤ mostSteps) ⌝ }
+    ensures { λ _. ⌜ now (sets .exit)
+        ≡ spreadAll (now (steps .entry)) (stepsOf (now (from .entry)) (now (by .entry)) (now (to .entry))) (λ t. t) 0 0 types
+        (now (sets .entry)) ⌝ }
+{
+    let mut start = 0;
+    let mut a = 0;
+    while a < types {
+        let n = steps[a] as usize;
+        let span = Span { start, n };
+        let set = sets[a];
+        let settled = settle_set(from, by, to, span, sets, set);
+        sets[a] = settled;
+        start += n;
+        a += 1;
+    }
+}
+
 // One round: the set of each type settles over the type's own steps.
 pub(crate) fn spread_all<'a>(
     add: &'a [u8; STEPS],
@@ -96,7 +123,7 @@ pub(crate) fn spread_all<'a>(
 )
     requires { ⌜ (types ≤ mostTypes) × (offset (now steps) types ≤ mostSteps) ⌝ }
     ensures { λ _. ⌜ now (sets .exit)
-        ≡ spreadAll (now (steps .entry)) (stepsOf (now (add .entry)) (now (by .entry)) (now (when .entry))) (now (bears .entry)) 0 0
+        ≡ spreadAll (now (steps .entry)) (stepsOf (now (add .entry)) (now (by .entry)) (now (when .entry))) (λ _. now (bears .entry)) 0 0
         types (now (sets .entry)) ⌝ }
 {
     let mut start = 0;

@@ -8,6 +8,7 @@ use crate::reach::starts;
 use crate::rows::BEGINS;
 use crate::rows::make_rows;
 use crate::spread::bears_in;
+use crate::spread::live_all;
 use crate::spread::same_sets;
 use crate::spread::spread_all;
 use crate::state_set::StateSet;
@@ -61,13 +62,13 @@ fn live_states<'a>(
 ) -> [u32; TYPES]
     requires { ⌜ (types ≤ mostTypes) × (offset (now steps) types ≤ mostSteps) ⌝ }
     ensures { λ r. ⌜ Settled
-        (λ t. spreadAll (now (steps .entry)) (stepsOf (now (from .entry)) (now (by .entry)) (now (to .entry))) t 0 0 types t)
+        (λ t. spreadAll (now (steps .entry)) (stepsOf (now (from .entry)) (now (by .entry)) (now (to .entry))) (λ u. u) 0 0 types t)
         (firstSets types accepting) r ⌝ }
 {
     let mut live = first_sets(accepting, types);
     loop {
         let before = live;
-        spread_all(from, by, to, steps, types, &before, &mut live);
+        live_all(from, by, to, steps, types, &mut live);
         if same_sets(&before, &live, types) {
             return live;
         }
@@ -85,7 +86,7 @@ fn forward_states<'a>(
 ) -> [u32; TYPES]
     requires { ⌜ (types ≤ mostTypes) × (offset (now steps) types ≤ mostSteps) ⌝ }
     ensures { λ r. ⌜ Settled
-        (λ t. spreadAll (now (steps .entry)) (stepsOf (now (to .entry)) (now (by .entry)) (now (from .entry))) (now (bears .entry)) 0 0 types t)
+        (λ t. spreadAll (now (steps .entry)) (stepsOf (now (to .entry)) (now (by .entry)) (now (from .entry))) (λ _. now (bears .entry)) 0 0 types t)
         startStates r ⌝ }
 {
     let mut forward = [StateSet::START.0; TYPES];

@@ -1,39 +1,22 @@
 -- What is left of the round, over what has grown so far, gives what the whole round gives.
-use Prim.Native.Nat.{ℕ, suc, _+_, _-_, _≤_, _<_}
+use Prim.Native.Nat.{_+_, _-_, _≤_, _<_}
 use mathlib.Core.Path.{_≡_, refl}
-use mathlib.Core.List.{List}
-use native.Mathlib.Numerals.{add-one}
 use native.Mathlib.Omega.{arith}
 use borrow.Author.Needs.{needs}
-use lib.ListN.{getD, set}
+use lib.ListN.{getD}
 use Rattle.sdtd.specs.Limits.{mostSteps}
-use Rattle.sdtd.specs.Schema.{Step}
-use Rattle.schema.specs.Spread.{settleSet, spreadAll}
+use Rattle.schema.specs.Spread.{spreadAll}
 use Rattle.schema.specs.Value.{stepsOf, offset}
 use Rattle.schema.proofs.Rounds.{offset-more, steps-fit}
+use Rattle.schema.proofs.SpreadLaws.{round-turn, round-done}
 use Rattle.schema.proofs.spread.spread_all.Statement.{statement}
 use Rattle.schema.proofs.spread.spread_all.Tie as tie
-
--- a turn takes the first of the types left
-turn : (steps : List ℕ) (part : ℕ → ℕ → List Step) (bears : List ℕ) (a s types x : ℕ) (t y : List ℕ) → a < types
-    → x ≡ settleSet bears (part s (getD steps a 0)) (getD t a 0) → spreadAll steps part bears a s (types - a) t ≡ y
-    → spreadAll steps part bears (a + 1) (s + getD steps a 0) (types - (a + 1)) (set t a x) ≡ y
-unfolding spreadAll
-turn steps part bears a s types x t y l e h =
-    let q : types - a ≡ suc (types - (a + 1)) = omega arith in
-    rw (e, add-one a) (rw (q, add-one a) at h)
-
--- at the end none is left
-done : (steps : List ℕ) (part : ℕ → ℕ → List Step) (bears : List ℕ) (a s types : ℕ) (t y : List ℕ) → types ≤ a
-    → spreadAll steps part bears a s (types - a) t ≡ y → t ≡ y
-unfolding spreadAll
-done steps part bears a s types t y l h = let q : types - a ≡ 0 = omega arith in rw q at h
 
 abbrev Inv-loop : tie.InvT-loop
 Inv-loop add by when steps types bears sets₀ start₀ a₀ sets start a =
     (a ≤ types) × (start ≡ offset steps a)
-    × (spreadAll steps (stepsOf add by when) bears a start (types - a) sets
-    ≡ spreadAll steps (stepsOf add by when) bears 0 0 types sets₀)
+    × (spreadAll steps (stepsOf add by when) (λ u. bears) a start (types - a) sets
+    ≡ spreadAll steps (stepsOf add by when) (λ u. bears) 0 0 types sets₀)
 
 abbrev μ-loop : tie.MeasureT-loop
 μ-loop add by when steps types bears sets₀ start₀ a₀ sets start a = types - a
@@ -84,10 +67,10 @@ loop-again : tie.Need-loop-again Inv-loop μ-loop
 loop-again c =
     let k = c .before .before .before in
     let o = offset-more (k .before .before .args .steps .now) (k .before .loop .a) _ (k .before .loop .inv .1) in
-    (omega arith, o, turn _ _ _ _ _ _ _ _ _ (k .loop-test .taken) (c .settle-set .ensures) (k .before .loop .inv .2))
+    (omega arith, o, round-turn _ _ _ _ _ _ _ _ _ (k .loop-test .taken) (c .settle-set .ensures) (k .before .loop .inv .2))
 
 returns : tie.Need-returns Inv-loop μ-loop
-returns c = done _ _ _ _ _ _ _ _ (c .loop-test .left) (c .before .loop .inv .2)
+returns c = round-done _ _ _ _ _ _ _ _ (c .loop-test .left) (c .before .loop .inv .2)
 
 pub spread-all-spec : {M : Type 1} → statement M
 spread-all-spec =

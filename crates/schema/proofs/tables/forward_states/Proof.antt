@@ -3,14 +3,14 @@ use borrow.Author.Needs.{needs}
 use Rattle.schema.specs.Spread.{spreadAll}
 use Rattle.schema.specs.Value.{stepsOf}
 use Rattle.schema.proofs.Bits.{absentIn}
-use Rattle.schema.proofs.Rounds.{Sets, start-sets, Turn, turn-first, turn-again, turn-less, turn-last, all-growth, growth-falls}
-use Rattle.schema.proofs.SpreadLaws.{round-tells}
+use Rattle.schema.proofs.Rounds.{start-sets, Turn, turn-first, turn-again, turn-less, turn-last, growth-falls}
+use Rattle.schema.proofs.SpreadLaws.{Sets, all-growth, round-tells}
 use Rattle.schema.proofs.tables.forward_states.Statement.{statement}
 use Rattle.schema.proofs.tables.forward_states.Tie as tie
 
 abbrev Inv-loop : tie.InvT-loop
 Inv-loop from by to steps types live forward₀ forward =
-    Turn Sets (λ t. spreadAll steps (stepsOf to by from) live 0 0 types t) forward₀ forward
+    Turn Sets (λ t. spreadAll steps (stepsOf to by from) (λ u. live) 0 0 types t) forward₀ forward
 
 abbrev μ-loop : tie.MeasureT-loop
 μ-loop from by to steps types live forward₀ forward = absentIn forward
@@ -34,13 +34,13 @@ loop-less : tie.Need-loop-less Inv-loop μ-loop
 loop-less c =
     let k = c .before .before .before .before in
     let told = round-tells _ _ _ _ (c .before .same-sets .result) _ _ (k .spread-all .ensures) (c .before .same-sets .ensures) in
-    turn-less _ _ absentIn (λ t h d. growth-falls t _ h (all-growth _ _ _ 0 0 _ t h) d)
+    turn-less _ _ absentIn (λ t h d. growth-falls t _ h (all-growth _ _ _ _ 0 0 t h) d)
     _ _ _ (k .spread-all .ensures) (k .before .before .loop .inv) (λ q. rw (c .if1 .left) at (told .1 q))
 
 loop-again : tie.Need-loop-again Inv-loop μ-loop
 loop-again c =
     let k = c .before .before .before .before in
-    turn-again _ _ (λ t h. all-growth _ _ _ 0 0 _ t h .sets) _ _ _ (k .spread-all .ensures) (k .before .before .loop .inv)
+    turn-again _ _ (λ t h. all-growth _ _ _ _ 0 0 t h .sets) _ _ _ (k .spread-all .ensures) (k .before .before .loop .inv)
 
 pub forward-states-spec : {M : Type 1} → statement M
 forward-states-spec =

@@ -7,13 +7,13 @@ use mir.Syntax.{w32}
 use Rattle.schema.specs.Spread.{spreadAll}
 use Rattle.schema.specs.Value.{stepsOf}
 use Rattle.schema.proofs.Bits.{absentIn}
-use Rattle.schema.proofs.Rounds.{Sets, Turn, turn-first, turn-again, turn-less, turn-last, all-growth, growth-falls}
-use Rattle.schema.proofs.SpreadLaws.{round-tells}
+use Rattle.schema.proofs.Rounds.{Turn, turn-first, turn-again, turn-less, turn-last, growth-falls}
+use Rattle.schema.proofs.SpreadLaws.{Sets, all-growth, round-tells}
 use Rattle.schema.proofs.tables.live_states.Statement.{statement}
 use Rattle.schema.proofs.tables.live_states.Tie as tie
 
 abbrev Inv-loop : tie.InvT-loop
-Inv-loop from by to steps types live₀ live = Turn Sets (λ t. spreadAll steps (stepsOf from by to) t 0 0 types t) live₀ live
+Inv-loop from by to steps types live₀ live = Turn Sets (λ t. spreadAll steps (stepsOf from by to) (λ u. u) 0 0 types t) live₀ live
 
 abbrev μ-loop : tie.MeasureT-loop
 μ-loop from by to steps types live₀ live = absentIn live
@@ -26,8 +26,8 @@ loop-holds c =
     let below : (a : ℕ) → Fits w32 (getD (c .first-sets .result) a 0) = λ a. search needs in
     turn-first _ _ _ (record { long = search needs; below = λ a. below a .fits })
 
-spread-all-requires : tie.Need-spread-all-requires Inv-loop μ-loop
-spread-all-requires c κs = search needs
+live-all-requires : tie.Need-live-all-requires Inv-loop μ-loop
+live-all-requires c κs = search needs
 
 same-sets-requires : tie.Need-same-sets-requires Inv-loop μ-loop
 same-sets-requires c κs = search needs
@@ -35,21 +35,21 @@ same-sets-requires c κs = search needs
 returns : tie.Need-returns Inv-loop μ-loop
 returns c =
     let k = c .before .before .before .before in
-    let told = round-tells _ _ _ _ (c .before .same-sets .result) _ _ (k .spread-all .ensures) (c .before .same-sets .ensures) in
-    let s = turn-last _ _ _ _ _ (k .spread-all .ensures) (k .before .before .before .loop .inv) (told .0 (rw (c .if1 .taken) tt)) in
-    rw (k .before .before .before .before .first-sets .ensures) at s
+    let told = round-tells _ _ _ _ (c .before .same-sets .result) _ _ (k .live-all .ensures) (c .before .same-sets .ensures) in
+    let s = turn-last _ _ _ _ _ (k .live-all .ensures) (k .before .before .loop .inv) (told .0 (rw (c .if1 .taken) tt)) in
+    rw (k .before .before .before .first-sets .ensures) at s
 
 loop-less : tie.Need-loop-less Inv-loop μ-loop
 loop-less c =
     let k = c .before .before .before .before in
-    let told = round-tells _ _ _ _ (c .before .same-sets .result) _ _ (k .spread-all .ensures) (c .before .same-sets .ensures) in
-    turn-less _ _ absentIn (λ t h d. growth-falls t _ h (all-growth _ _ t 0 0 _ t h) d)
-    _ _ _ (k .spread-all .ensures) (k .before .before .before .loop .inv) (λ q. rw (c .if1 .left) at (told .1 q))
+    let told = round-tells _ _ _ _ (c .before .same-sets .result) _ _ (k .live-all .ensures) (c .before .same-sets .ensures) in
+    turn-less _ _ absentIn (λ t h d. growth-falls t _ h (all-growth _ _ (λ u. u) _ 0 0 t h) d)
+    _ _ _ (k .live-all .ensures) (k .before .before .loop .inv) (λ q. rw (c .if1 .left) at (told .1 q))
 
 loop-again : tie.Need-loop-again Inv-loop μ-loop
 loop-again c =
     let k = c .before .before .before .before in
-    turn-again _ _ (λ t h. all-growth _ _ t 0 0 _ t h .sets) _ _ _ (k .spread-all .ensures) (k .before .before .before .loop .inv)
+    turn-again _ _ (λ t h. all-growth _ _ (λ u. u) _ 0 0 t h .sets) _ _ _ (k .live-all .ensures) (k .before .before .loop .inv)
 
 pub live-states-spec : {M : Type 1} → statement M
 live-states-spec =
@@ -59,7 +59,7 @@ live-states-spec =
     μ-loop
     first-sets-requires
     loop-holds
-    spread-all-requires
+    live-all-requires
     same-sets-requires
     returns
     loop-less
