@@ -1,39 +1,28 @@
 -- What the search of one type means for the schema.
-use mathlib.Core.Path.{_≡_, sym, _∙_}
-use mathlib.Core.Logic.{_↔_, _≢_}
+use mathlib.Core.Path.{sym, ap, _∙_}
+use mathlib.Core.Logic.{_≢_}
 use mathlib.Core.Bool.{Bool, false}
 use mathlib.Core.List.{List, [], _∷_, _++_, List·Memᴰ, List·Memᴰ·not-nil}
-use Prim.Native.Nat.{ℕ, zero, suc, _+_, _≤_, _<_}
+use Prim.Native.Nat.{ℕ, zero, suc, _≤_, _<_}
 use native.Mathlib.Omega.{arith}
 use lib.Dec.{T}
 use lib.ListN.{length, getD, length-append, List·getD-eq-default}
-use Rattle.sdtd.specs.Limits.{mostTypes, mostStates, mostWord}
-use Rattle.sdtd.specs.Schema.{Schema, noBlock, blockOf, tagOf, Leads, stay, go, StepWithin, WithinLimits}
+use Rattle.sdtd.specs.Limits.{mostStates, mostWord}
+use Rattle.sdtd.specs.Schema.{Step, Schema, noBlock, blockOf, tagOf, step, Leads, stay, go, WithinLimits}
 use Rattle.sdtd.specs.Trim.{Bears, none, both, AllBear, Live, Useful}
 use Rattle.sdtd.specs.Competition.{Compete, CompeteIn, pairNumber}
 use Rattle.sdtd.proofs.Automata.{all-append, leads-append}
-use Rattle.sdtd.proofs.Fixpoint.{bears-live, PairClosed}
+use Rattle.sdtd.proofs.Fixpoint.{bears-live, live-closed, PairClosed}
 use Rattle.sdtd.proofs.Rivals.{RivalSteps, rivals-compete, no-rivals}
-use Rattle.schema.specs.States.{member, bearsIn}
-use Rattle.schema.specs.Limits.{StepsWithin}
-use Rattle.competition.specs.Tables.{nextFrom, nextBy}
+use Rattle.schema.specs.Rows.{Counts, toIn, RowsMean}
+use Rattle.competition.specs.Rows.{rowOf, Stands, Leading}
 use Rattle.competition.specs.Marks.{firstOf, secondOf, byOf, parentOf, wordTo}
-use Rattle.competition.specs.Rivals.{Ahead, AreRivals}
-use Rattle.competition.specs.Queue.{Leading, Trail, ClosedPairs, TrailToRivals}
-use Rattle.schema.proofs.LimitLaws.{own-within}
-use Rattle.competition.proofs.NextStates.{next-states}
+use Rattle.competition.specs.Rivals.{AreRivals}
+use Rattle.competition.specs.Queue.{Trail, ClosedPairs, TrailToRivals}
+use Rattle.competition.specs.declared.rows.Row.{Row}
+use Rattle.schema.proofs.RowLaws.{Reads, Says, row-says, row-has}
 use Rattle.competition.proofs.Words.{word-first, word-more}
-
--- The tables that the search of the type a has: a's next states, which types bear trees, the types' tags, a's live states, and the number
--- of types.
-pub record Prepared (S : Schema) (a : ℕ) (next bears tag : List ℕ) (own types : ℕ) : Type 0 where
-  pub within : WithinLimits S
-  pub is-type : a < length (S .blocks)
-  pub next-is : next ≡ nextBy (blockOf S a .steps)
-  pub bears-is : (j : ℕ) → T (bearsIn bears j) ↔ Bears S j
-  pub own-is : (q : ℕ) → T (member q own) ↔ Live S a q
-  pub types-is : types ≡ length (S .blocks)
-  pub tags : (c : ℕ) → c < types → getD tag c 0 ≡ tagOf S c
+use Rattle.competition.proofs.Queues.{rivals-swap}
 
 -- the types of w bear trees and lead from the start state of a both to p and to q
 pub record WordTo (S : Schema) (a : ℕ) (w : List ℕ) (p q : ℕ) : Type 0 where
@@ -48,36 +37,51 @@ pub record CompeteEither (S : Schema) (a : ℕ) (w : List ℕ) (j k : ℕ) : Typ
   pub falling : k < j → Compete S a w k j
   pub short : length w ≤ mostWord
 
--- a pair of states whose number is in the set
-abbrev PairIn : List Bool → ℕ → ℕ → Type 0
-PairIn reached p q = T (getD reached (pairNumber p q) false) × (p < mostStates) × (q < mostStates)
+-- The search of the type a goes by the rows of the schema.
+module _ {S : Schema} (within : WithinLimits S) {entries begins : List ℕ} (rows : RowsMean S entries begins) (a : ℕ) where
+  abbrev rowAt : ℕ → Row
+  rowAt p = rowOf begins a p
 
-module _ {S : Schema} {a : ℕ} {next bears tag : List ℕ} {own types : ℕ} (c : Prepared S a next bears tag own types) where
-  -- the type's own steps, and what the tables say of them
-  abbrev Own : ℕ → ℕ → ℕ → Type 0
-  Own p j q = List·Memᴰ (record { from = p; by = j; to = q }) (blockOf S a .steps)
+  -- an entry of a row is a step that counts
+  entry-says : (p e : ℕ) → p < mostStates → Stands entries (rowAt p) e → Says S a p e
+  entry-says p e l s = row-says within rows a p e l (record { place = s .place; least = s .least; most = s .most; is = s .is })
 
-  own-step : (p j q : ℕ) → Own p j q → StepWithin mostStates types (record { from = p; by = j; to = q })
-  own-step p j q m = rw (c .types-is) (own-within S a (c .within) (c .is-type) (record { from = p; by = j; to = q }) m)
+  -- the entry of a step, in its state's row
+  record HasEntry (s : Step) : Type 0 where
+    entry : ℕ
+    stands : Stands entries (rowAt (s .from)) entry
+    reads : Reads (s .from) (s .to) (s .by) (tagOf S (s .by)) entry
 
-  next-own : (p j q : ℕ) → p < mostStates → j < types → T (member q (nextFrom next p j)) ↔ Own p j q
-  next-own p j q lp lj =
-      let most = c .within .types-most in
-      let h = own-within S a (c .within) (c .is-type) in
-      let all : StepsWithin mostStates mostTypes (blockOf S a .steps) =
-      λ s m. record { from = h s m .from; by = omega (arith, h s m .by, most); to = h s m .to } in
-      rw (c .next-is) (next-states (blockOf S a .steps) all p j q lp (omega (arith, c .types-is, most)))
+  has-entry : {s : Step} → Counts S a s → HasEntry s
+  has-entry c =
+      let h = row-has within rows c in
+      let r = h .1 in
+      record { entry = h .0; stands = record { place = r .place; least = r .least; most = r .most; is = r .is }; reads = h .2 }
+
+  -- a step that counts leads from a live state
+  from-live : {s : Step} → Counts S a s → Live S a (s .from)
+  from-live {s} c = live-closed .step a s (c .given) (bears-live .0 (c .bears)) (c .live)
+
+  -- two entries by which a type leads on are steps that count
+  leading-counts : {p q j p′ q′ : ℕ} → p < mostStates → q < mostStates → Leading entries (rowAt p) (rowAt q) j p′ q′
+      → Counts S a (step p j p′) × Counts S a (step q j q′)
+  leading-counts {p} {q} lp lq l =
+      let o = l .other in (
+        rw (l .by, o .first) at (entry-says p (l .entry) lp (l .stands) .counts),
+        rw (o .one-type ∙ l .by, o .second) at (entry-says q (o .entry) lq (o .stands) .counts),
+      )
 
   -- a way by one word goes on with two steps by one type
-  word-on : {p q j p′ q′ : ℕ} {w : List ℕ} → WordTo S a w p q → Own p j p′ → Own q j q′ → Bears S j → WordTo S a (w ++ (j ∷ [])) p′ q′
-  word-on r m n b =
+  word-on : {p q j p′ q′ : ℕ} {w : List ℕ} → WordTo S a w p q → Counts S a (step p j p′) × Counts S a (step q j q′)
+      → WordTo S a (w ++ (j ∷ [])) p′ q′
+  word-on r c =
       record {
-        left = leads-append (r .left) (go m stay);
-        right = leads-append (r .right) (go n stay);
-        bear = all-append (r .bear) (both b none);
+        left = leads-append (r .left) (go (c .0 .given) stay);
+        right = leads-append (r .right) (go (c .1 .given) stay);
+        bear = all-append (r .bear) (both (c .0 .bears) none);
       }
 
-  module _ {queue : List ℕ} {at : ℕ} (t : Trail next bears types queue at) where
+  module _ {queue : List ℕ} {at : ℕ} (t : Trail entries begins a queue at) where
     -- the word w leads to the pair at the place i and has at most i types
     abbrev Way : ℕ → List ℕ → Type 0
     Way i w = WordTo S a w (firstOf (getD queue i 0)) (secondOf (getD queue i 0)) × (length w ≤ i)
@@ -86,14 +90,10 @@ module _ {S : Schema} {a : ℕ} {next bears tag : List ℕ} {own types : ℕ} (c
     way-first = (rw (t .first .0, t .first .1) (record { left = stay; right = stay; bear = none }), omega arith)
 
     way-later : (i : ℕ) (w : List ℕ) → 0 < i → i ≤ at → Way (parentOf (getD queue i 0)) w → Way i (w ++ (byOf (getD queue i 0) ∷ []))
-    way-later i w l h r =
-        let e = getD queue i 0 in
-        let from = getD queue (parentOf e) 0 in
-        let f = t .led i l h in (
-          word-on (r .0) (next-own (firstOf from) (byOf e) (firstOf e) (omega arith) (f .below) .0 (f .left))
-              (next-own (secondOf from) (byOf e) (secondOf e) (omega arith) (f .below) .0 (f .right)) (c .bears-is (byOf e) .0 (f .bearing)),
-          simp length-append (omega (arith, t .linked i l h, r .1)),
-        )
+    way-later i w l h r = (
+      word-on (r .0) (leading-counts (omega arith) (omega arith) (t .led i l h)),
+      simp length-append (omega (arith, t .linked i l h, r .1)),
+    )
 
     way : (fuel i : ℕ) → i ≤ fuel → i ≤ at → Way i (wordTo fuel queue i)
     way zero zero l h = rw (word-first queue 0) way-first
@@ -112,58 +112,29 @@ module _ {S : Schema} {a : ℕ} {next bears tag : List ℕ} {own types : ℕ} (c
     pub trail-short : length (wordTo at queue at) ≤ at
     trail-short = way at at (omega arith) (omega arith) .1
 
-  -- two types of one tag ahead of two states have rival steps
-  ahead-rivals : {p q j k : ℕ} → p < mostStates → q < mostStates → j < types → k < types → getD tag j 0 ≡ getD tag k 0
-      → Ahead next bears own p j → Ahead next bears own q k → RivalSteps S a p q j k
-  ahead-rivals {p} {q} {j} {k} lp lq lj lk e x y =
+  -- rivals are rival steps by different types
+  rivals-steps :
+      {p q j k : ℕ} → p < mostStates → q < mostStates → AreRivals entries (rowAt p) (rowAt q) j k → RivalSteps S a p q j k
+  rivals-steps {p} {q} {j} {k} lp lq r =
+      let o = r .rival in
+      let x = entry-says p (r .entry) lp (r .stands) in
+      let y = entry-says q (o .entry) lq (o .stands) in
+      let cj : Counts S a (step p j (toIn (r .entry))) = rw (r .by) at (x .counts) in
+      let ck : Counts S a (step q k (toIn (o .entry))) = rw (o .by) at (y .counts) in
       record {
-        next-j = x .to;
-        next-k = y .to;
-        step-j = next-own p j (x .to) lp lj .0 (x .leads);
-        step-k = next-own q k (y .to) lq lk .0 (y .leads);
-        one-tag = sym (c .tags j lj) ∙ e ∙ c .tags k lk;
-        bears-j = c .bears-is j .0 (x .bearing);
-        bears-k = c .bears-is k .0 (y .bearing);
-        live-j = c .own-is (x .to) .0 (x .live);
-        live-k = c .own-is (y .to) .0 (y .live);
+        next-j = toIn (r .entry);
+        next-k = toIn (o .entry);
+        step-j = cj .given;
+        step-k = ck .given;
+        one-tag = ap (tagOf S) (sym (r .by)) ∙ sym (x .tag) ∙ sym (o .one-tag) ∙ y .tag ∙ ap (tagOf S) (o .by);
+        bears-j = cj .bears;
+        bears-k = ck .bears;
+        live-j = cj .live;
+        live-k = ck .live;
       }
 
-  -- rivals are rival steps by different types
-  pub rivals-steps :
-      {p q j k : ℕ} → p < mostStates → q < mostStates → AreRivals next bears tag own types p q j k ↔ (RivalSteps S a p q j k × (j ≢ k))
-  rivals-steps {p} {q} {j} {k} lp lq = (there, back)
-    where
-      there : AreRivals next bears tag own types p q j k → RivalSteps S a p q j k × (j ≢ k)
-      there r = (
-        ahead-rivals lp lq (r .below) (r .rival .below) (sym (r .rival .one-tag)) (r .ahead) (r .rival .ahead),
-        λ e. r .rival .different (sym e),
-      )
-
-      ahead : {s i n : ℕ} → s < mostStates → Own s i n → Bears S i → Live S a n → Ahead next bears own s i
-      ahead {s} {i} {n} ls m b l =
-          let below = own-step s i n m .by in
-          record { bearing = c .bears-is i .1 b; to = n; leads = next-own s i n ls below .1 m; live = c .own-is n .1 l }
-
-      back : RivalSteps S a p q j k × (j ≢ k) → AreRivals next bears tag own types p q j k
-      back h =
-          let r = h .0 in
-          let lj : j < types = own-step p j (r .next-j) (r .step-j) .by in
-          let lk : k < types = own-step q k (r .next-k) (r .step-k) .by in
-          record {
-            below = lj;
-            ahead = ahead lp (r .step-j) (r .bears-j) (r .live-j);
-            rival =
-                record {
-                  below = lk;
-                  different = λ e. h .1 (sym e);
-                  one-tag = c .tags k lk ∙ sym (r .one-tag) ∙ sym (c .tags j lj);
-                  ahead = ahead lq (r .step-k) (r .bears-k) (r .live-k);
-                };
-          }
-
   -- a trail to rivals ends in types that compete after its word
-  pub trail-competes :
-      {queue : List ℕ} {at j k : ℕ} → Useful S a → TrailToRivals next bears tag own types queue at j k
+  pub trail-competes : {queue : List ℕ} {at j k : ℕ} → Useful S a → TrailToRivals entries begins a queue at j k
       → CompeteEither S a (wordTo at queue at) j k
   trail-competes {queue} {at} {j} {k} u r =
       let lp : firstOf (getD queue at 0) < mostStates = omega arith in
@@ -171,40 +142,73 @@ module _ {S : Schema} {a : ℕ} {next bears tag : List ℕ} {own types : ℕ} (c
       let w = trail-word (r .trail) in
       let x = r .rivals in
       record {
-        different = λ e. x .rival .different (sym e);
-        rising = rivals-compete (u .0) (u .1) (w .left) (w .right) (w .bear) (rivals-steps lp lq .0 x .0);
-        falling =
-            rivals-compete (u .0) (u .1) (w .right) (w .left) (w .bear)
-            (ahead-rivals lq lp (x .rival .below) (x .below) (x .rival .one-tag) (x .rival .ahead) (x .ahead));
+        different = λ e. x .rival .different (x .rival .by ∙ sym e ∙ sym (x .by));
+        rising = rivals-compete (u .0) (u .1) (w .left) (w .right) (w .bear) (rivals-steps lp lq x);
+        falling = rivals-compete (u .0) (u .1) (w .right) (w .left) (w .bear) (rivals-steps lq lp (rivals-swap x));
         short = omega (arith, trail-short (r .trail), r .trail .place-below);
       }
 
   -- where a closed set of pairs has no rivals, no types compete
-  pub closed-restrained : {reached : List Bool} → ClosedPairs next bears tag own types reached → ¬ CompeteIn S a
-  closed-restrained {reached} d = no-rivals {P = PairIn reached} closed free
+  pub closed-restrained : {reached : List Bool} → ClosedPairs entries begins a reached → ¬ CompeteIn S a
+  closed-restrained {reached} d = no-rivals {P = LivePair} closed free
     where
-      closed-step : {p q j p′ q′ : ℕ} → PairIn reached p q → Own p j p′ → Own q j q′ → Bears S j → PairIn reached p′ q′
-      closed-step {p} {q} {j} {p′} {q′} h m n b =
-          let x = own-step p j p′ m in
-          let y = own-step q j q′ n in
-          let leading : Leading next bears types p q j p′ q′ =
-          record {
-            below = x .by;
-            bearing = c .bears-is j .1 b;
-            left = next-own p j p′ (h .1) (x .by) .1 m;
-            right = next-own q j q′ (h .2) (x .by) .1 n;
-          } in
-          (d .closed p q j p′ q′ (h .1) (h .2) (x .to) (y .to) (h .0) leading, x .to, y .to)
+      -- the number of the pair is in the set, where both states are live
+      LivePair : ℕ → ℕ → Type 0
+      LivePair p q = Live S a p → Live S a q → T (getD reached (pairNumber p q) false)
 
-      closed : PairClosed S a (PairIn reached)
-      closed =
+      -- steps by one type that count
+      leading : {p q j p′ q′ : ℕ} → Counts S a (step p j p′) → Counts S a (step q j q′) → Leading entries (rowAt p) (rowAt q) j p′ q′
+      leading c e =
+          let x = has-entry c in
+          let y = has-entry e in
           record {
-            start = (d .first, omega arith, omega arith);
-            step = λ p q j p′ q′ h m n b. closed-step h m n b;
+            entry = x .entry;
+            stands = x .stands;
+            by = x .reads .by-is;
+            other =
+                record {
+                  entry = y .entry;
+                  stands = y .stands;
+                  one-type = y .reads .by-is ∙ sym (x .reads .by-is);
+                  first = x .reads .to-is;
+                  second = y .reads .to-is;
+                };
           }
 
-      free : (p q j k : ℕ) → PairIn reached p q → RivalSteps S a p q j k → ¬ (j ≢ k)
-      free p q j k h s e = d .no-rivals p q j k (h .1) (h .2) (h .0) (rivals-steps (h .1) (h .2) .1 (s, e))
+      counts : {p j p′ : ℕ} → List·Memᴰ (step p j p′) (blockOf S a .steps) → Bears S j → Live S a p′ → Counts S a (step p j p′)
+      counts m b l = record { given = m; bears = b; live = l }
+
+      closed-step : {p q j p′ q′ : ℕ} → LivePair p q → Counts S a (step p j p′) → Counts S a (step q j q′)
+          → T (getD reached (pairNumber p′ q′) false)
+      closed-step {p} {q} {j} {p′} {q′} h c e = d .closed p q j p′ q′ (h (from-live c) (from-live e)) (leading c e)
+
+      closed : PairClosed S a LivePair
+      closed =
+          record {
+            start = λ l k. d .first;
+            step = λ p q j p′ q′ h m n b l k. closed-step h (counts m b l) (counts n b k);
+          }
+
+      free : (p q j k : ℕ) → LivePair p q → RivalSteps S a p q j k → ¬ (j ≢ k)
+      free p q j k h s different =
+          let c = counts (s .step-j) (s .bears-j) (s .live-j) in
+          let e = counts (s .step-k) (s .bears-k) (s .live-k) in
+          let x = has-entry c in
+          let y = has-entry e in
+          d .no-rivals p q j k (h (from-live c) (from-live e))
+          (record {
+            entry = x .entry;
+            stands = x .stands;
+            by = x .reads .by-is;
+            rival =
+                record {
+                  entry = y .entry;
+                  stands = y .stands;
+                  by = y .reads .by-is;
+                  one-tag = y .reads .tag-is ∙ sym (s .one-tag) ∙ sym (x .reads .tag-is);
+                  different = λ same. different (sym (x .reads .by-is) ∙ sym same ∙ y .reads .by-is);
+                };
+          })
 
 -- no types compete in a number that is no type
 pub outside-restrained : {S : Schema} {a : ℕ} → length (S .blocks) ≤ a → ¬ CompeteIn S a

@@ -34,7 +34,7 @@ pub record Placed (m : Marks) (n : ℕ) : Type 0 where
 
 -- The marked numbers are those of the entries, each number once; the first entry is the pair 0, 0, and each other was found from an
 -- earlier one.
-pub record Kept (next bears : List ℕ) (types : ℕ) (m : Marks) : Type 0 where
+pub record Kept (entries begins : List ℕ) (a : ℕ) (m : Marks) : Type 0 where
   pub reached-length : length (m .reached) ≡ mostPairs
   pub queue-length : length (m .queue) ≡ mostPairs
   pub counted : count (m .reached) ≡ m .count
@@ -44,7 +44,7 @@ pub record Kept (next bears : List ℕ) (types : ℕ) (m : Marks) : Type 0 where
   pub marked : (i : ℕ) → i < m .count → IsMarked m (entryNumber (entryAt m i))
   pub placed : (n : ℕ) → IsMarked m n → Placed m n
   pub linked : (i : ℕ) → 0 < i → i < m .count → parentOf (entryAt m i) < i
-  pub led : (i : ℕ) → 0 < i → i < m .count → LedTo next bears types (m .queue) (entryAt m i)
+  pub led : (i : ℕ) → 0 < i → i < m .count → LedTo entries begins a (m .queue) (entryAt m i)
 
 -- a mark set leaves the others as they were
 pub set-marks : (l : List Bool) (n k : ℕ) → T (getD l k false) → T (getD (set l n true) k false)
@@ -65,7 +65,7 @@ set-marked (b ∷ l) (suc n) (suc k) t = ⊎-elim (λ e. inl (omega arith)) (λ 
 abbrev pub joined : Marks → ℕ → ℕ → Marks
 joined m n e = record { reached = set (m .reached) n true; queue = set (m .queue) (m .count) e; count = m .count + 1 }
 
-module _ {next bears : List ℕ} {types : ℕ} {m : Marks} (kept : Kept next bears types m) (n e : ℕ) (is : entryNumber e ≡ n)
+module _ {entries begins : List ℕ} {a : ℕ} {m : Marks} (kept : Kept entries begins a m) (n e : ℕ) (is : entryNumber e ≡ n)
     (below : n < mostPairs) (new : getD (m .reached) n false ≡ false) where
   pub room : m .count < mostPairs
   room =
@@ -106,19 +106,19 @@ module _ {next bears : List ℕ} {types : ℕ} {m : Marks} (kept : Kept next bea
       record { place = r .place; place-below = omega (arith, r .place-below); is = rw (old-entry (r .place) (r .place-below)) (r .is) })
       (set-marked (m .reached) n k t)
 
-  module _ (parent : parentOf e < m .count) (new-led : LedTo next bears types (m .queue) e) where
-    join-led : (i : ℕ) → i < m .count + 1 → 0 < i → LedTo next bears types (joined m n e .queue) (entryAt (joined m n e) i)
+  module _ (parent : parentOf e < m .count) (new-led : LedTo entries begins a (m .queue) e) where
+    join-led : (i : ℕ) → i < m .count + 1 → 0 < i → LedTo entries begins a (joined m n e .queue) (entryAt (joined m n e) i)
     join-led =
         each
-        (λ i x. 0 < i → LedTo next bears types (joined m n e .queue) x)
+        (λ i x. 0 < i → LedTo entries begins a (joined m n e .queue) x)
         (λ i h p. still (entryAt m i) (omega (arith, kept .linked i p h)) (kept .led i p h))
         (λ p. still e parent new-led)
       where
-        still : (x : ℕ) → parentOf x < m .count → LedTo next bears types (m .queue) x
-            → LedTo next bears types (joined m n e .queue) x
+        still : (x : ℕ) → parentOf x < m .count → LedTo entries begins a (m .queue) x
+            → LedTo entries begins a (joined m n e .queue) x
         still x h f = rw (old-entry (parentOf x) h) f
 
-    pub join-kept : Kept next bears types (joined m n e)
+    pub join-kept : Kept entries begins a (joined m n e)
     join-kept =
         record {
           reached-length = simp length-set (kept .reached-length);

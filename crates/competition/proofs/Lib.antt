@@ -1,5 +1,5 @@
 -- Laws of what the loops of the search compute.
-pub mod NextStates
+pub mod RowLaws
 pub mod MarkLaws
 pub mod Kept
 pub mod MarkGrowth

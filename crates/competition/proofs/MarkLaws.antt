@@ -1,15 +1,24 @@
--- What the loops of the pair search share.
+-- What the loops over a row of entries share.
 use mathlib.Core.Path.{_≡_}
-use mathlib.Core.Bool.{Bool, true, false, cond}
 use mathlib.Core.List.{List}
-use Prim.Native.Nat.{ℕ}
-use Rattle.competition.specs.Marks.{Marks, marks}
+use Prim.Native.Nat.{ℕ, suc, _+_, _-_, _<_, _≤_}
+use native.Mathlib.Numerals.{add-one}
+use native.Mathlib.Omega.{arith}
+use lib.ListN.{getD}
+use Rattle.competition.specs.Marks.{Marks, markEach}
 
--- Where the arms of a test meet, the marks r, q, n are those that the arm left: x where the test held, the old ones where it failed.
-pub when-held : {t b : Bool} {r r′ : List Bool} {q q′ : List ℕ} {n n′ : ℕ} {x : Marks} (m : Marks) → t ≡ b → t ≡ true
-    → r ≡ r′ → q ≡ q′ → n ≡ n′ → marks r′ q′ n′ ≡ x → marks r q n ≡ cond b x m
-when-held m e t i j k s = rw (← e, t) (cc)
+module _ (mark : ℕ → Marks → Marks) (entries : List ℕ) (s t : ℕ) where
+  -- one entry, and then the others
+  pub mark-next : (m m′ x : Marks) → s < t → m′ ≡ mark (getD entries s 0) m → markEach mark entries s (t - s) m ≡ x
+      → markEach mark entries (s + 1) (t - (s + 1)) m′ ≡ x
+  unfolding markEach
+  mark-next m m′ x h e i =
+      let left : t - s ≡ suc (t - (s + 1)) = omega arith in
+      rw (e, add-one s) (rw (left, add-one s) at i)
 
-pub when-failed : {t b : Bool} {r r′ : List Bool} {q q′ : List ℕ} {n n′ : ℕ} (x : Marks) → t ≡ b → t ≡ false
-    → r ≡ r′ → q ≡ q′ → n ≡ n′ → marks r q n ≡ cond b x (marks r′ q′ n′)
-when-failed x e t i j k = rw (← e, t) (cc)
+  -- after the last entry nothing is left
+  pub mark-done : (m x : Marks) → t ≤ s → markEach mark entries s (t - s) m ≡ x → m ≡ x
+  unfolding markEach
+  mark-done m x h i =
+      let left : t - s ≡ 0 = omega arith in
+      rw left at i

@@ -1,5 +1,5 @@
 -- The loop of the pair search: its invariant, and what holds at its end.
-use mathlib.Core.Path.{_≡_, refl, sym}
+use mathlib.Core.Path.{_≡_, refl, sym, _∙_}
 use mathlib.Core.Logic.{⊎-elim}
 use mathlib.Core.Bool.{Bool, true, false}
 use mathlib.Core.List.{List}
@@ -9,30 +9,32 @@ use native.Mathlib.Omega.{arith}
 use lib.Dec.{T}
 use lib.ListN.{length, getD, set, replicate, length-set, length-replicate}
 use lib.Seq.{getD-set-same}
-use Rattle.sdtd.specs.Limits.{mostTypes, mostStates, mostPairs}
+use Rattle.sdtd.specs.Limits.{mostPairs}
 use Rattle.sdtd.specs.Competition.{pairNumber}
 use Rattle.sdtd.proofs.Pairs.{pair-swap-number, pair-one-number}
 use Rattle.sdtd.proofs.Rounds.{count, count-set}
-use Rattle.competition.specs.Marks.{Marks, firstOf, secondOf, markStep}
+use Rattle.competition.specs.Rows.{rowOf, Leading}
+use Rattle.competition.specs.Marks.{Marks, firstOf, secondOf, markRows}
 use Rattle.competition.specs.Rivals.{AreRivals}
-use Rattle.competition.specs.Queue.{Leading, ClosedPairs, TrailToRivals}
+use Rattle.competition.specs.Queue.{ClosedPairs, TrailToRivals}
+use Rattle.competition.specs.declared.rows.Row.{Row}
 use Rattle.competition.proofs.Kept.{IsMarked, entryAt, entryNumber, Placed, Kept, set-marked}
-use Rattle.competition.proofs.MarkGrowth.{Grows, LedBy, step-grows}
+use Rattle.competition.proofs.MarkGrowth.{Grows, Led, step-grows}
 
 -- only the pair 0, 0, found from nothing
 abbrev pub firstMarks : List Bool → List ℕ → Marks
 firstMarks none queue = record { reached = set none 0 true; queue = set queue 0 0; count = 1 }
 
 -- all that the pair p, q leads to is marked, and it has no rivals
-pub record Done (next bears tag : List ℕ) (own types : ℕ) (m : Marks) (p q : ℕ) : Type 0 where
-  pub closed : (j p′ q′ : ℕ) → p′ < mostStates → q′ < mostStates → Leading next bears types p q j p′ q′ → IsMarked m (pairNumber p′ q′)
-  pub no-rivals : (j k : ℕ) → ¬ AreRivals next bears tag own types p q j k
+pub record Done (entries begins : List ℕ) (a : ℕ) (m : Marks) (p q : ℕ) : Type 0 where
+  pub closed : (j p′ q′ : ℕ) → Leading entries (rowOf begins a p) (rowOf begins a q) j p′ q′ → IsMarked m (pairNumber p′ q′)
+  pub no-rivals : (j k : ℕ) → ¬ AreRivals entries (rowOf begins a p) (rowOf begins a q) j k
 
 -- the pairs of the entries before the place `at` are done
-pub record SearchInv (next bears tag : List ℕ) (own types : ℕ) (at : ℕ) (m : Marks) : Type 0 where
-  pub kept : Kept next bears types m
+pub record SearchInv (entries begins : List ℕ) (a at : ℕ) (m : Marks) : Type 0 where
+  pub kept : Kept entries begins a m
   pub before : at ≤ m .count
-  pub done : (i : ℕ) → i < at → Done next bears tag own types m (firstOf (entryAt m i)) (secondOf (entryAt m i))
+  pub done : (i : ℕ) → i < at → Done entries begins a m (firstOf (entryAt m i)) (secondOf (entryAt m i))
 
 -- at the start no pair is marked
 no-mark : (n k : ℕ) → T (getD (replicate n false) k false) → ⊥
@@ -49,7 +51,7 @@ first-unmarked zero = refl
 first-unmarked (suc n) = refl
 
 -- then the pair 0, 0 is the only one
-module _ (next bears : List ℕ) (types n : ℕ) (full : n ≡ mostPairs) (queue : List ℕ) (sized : length queue ≡ mostPairs) where
+module _ (entries begins : List ℕ) (a n : ℕ) (full : n ≡ mostPairs) (queue : List ℕ) (sized : length queue ≡ mostPairs) where
   first-entry : getD (set queue 0 0) 0 0 ≡ 0
   first-entry = getD-set-same queue 0 0 0 (omega arith)
 
@@ -73,7 +75,7 @@ module _ (next bears : List ℕ) (types n : ℕ) (full : n ≡ mostPairs) (queue
       (λ u. absurd (no-mark n k u))
       (set-marked (replicate n false) 0 k t)
 
-  first-kept : Kept next bears types (firstMarks (replicate n false) queue)
+  first-kept : Kept entries begins a (firstMarks (replicate n false) queue)
   first-kept =
       record {
         reached-length = simp (length-set, length-replicate) full;
@@ -89,92 +91,92 @@ module _ (next bears : List ℕ) (types n : ℕ) (full : n ≡ mostPairs) (queue
       }
 
 -- of a pair the states change places
-leading-swap : {next bears : List ℕ} {types p q j p′ q′ : ℕ} → Leading next bears types p q j p′ q′ → Leading next bears types q p j q′ p′
-leading-swap l = record { below = l .below; bearing = l .bearing; left = l .right; right = l .left }
+leading-swap : {entries : List ℕ} {left right : Row} {j p q : ℕ} → Leading entries left right j p q → Leading entries right left j q p
+leading-swap l =
+    let o = l .other in
+    record {
+      entry = o .entry;
+      stands = o .stands;
+      by = o .one-type ∙ l .by;
+      other = record { entry = l .entry; stands = l .stands; one-type = sym (o .one-type); first = o .second; second = o .first };
+    }
 
-module _ {next bears tag : List ℕ} {own types : ℕ} where
+pub rivals-swap : {entries : List ℕ} {left right : Row} {j k : ℕ} → AreRivals entries left right j k → AreRivals entries right left k j
+rivals-swap r =
+    let o = r .rival in
+    record {
+      entry = o .entry;
+      stands = o .stands;
+      by = o .by;
+      rival =
+          record { entry = r .entry; stands = r .stands; by = r .by; one-tag = sym (o .one-tag); different = λ e. o .different (sym e) };
+    }
+
+module _ {entries begins : List ℕ} {a : ℕ} where
   pub search-first : (queue : List ℕ) → length queue ≡ mostPairs
-      → SearchInv next bears tag own types 0 (firstMarks (replicate mostPairs false) queue)
+      → SearchInv entries begins a 0 (firstMarks (replicate mostPairs false) queue)
   search-first queue h =
-      record { kept = first-kept next bears types mostPairs refl queue h; before = omega arith; done = λ i l. absurd (omega arith) }
+      record { kept = first-kept entries begins a mostPairs refl queue h; before = omega arith; done = λ i l. absurd (omega arith) }
 
   -- a pair that is done stays done
-  done-grows : {at e : ℕ} {m m′ : Marks} {New : ℕ → ℕ → Type 0} {p q : ℕ} → Grows next bears types at e m m′ New
-      → Done next bears tag own types m p q → Done next bears tag own types m′ p q
+  done-grows : {at e : ℕ} {m m′ : Marks} {New : ℕ → ℕ → Type 0} {p q : ℕ} → Grows entries begins a at e m m′ New
+      → Done entries begins a m p q → Done entries begins a m′ p q
   done-grows g d =
-      record { closed = λ j p′ q′ hp hq l. g .marks (pairNumber p′ q′) (d .closed j p′ q′ hp hq l); no-rivals = d .no-rivals }
+      record { closed = λ j p′ q′ l. g .marks (pairNumber p′ q′) (d .closed j p′ q′ l); no-rivals = d .no-rivals }
 
-  rivals-swap : {p q j k : ℕ} → AreRivals next bears tag own types p q j k → AreRivals next bears tag own types q p k j
-  rivals-swap r =
-      record {
-        below = r .rival .below;
-        ahead = r .rival .ahead;
-        rival =
-            record {
-              below = r .below;
-              different = λ e. r .rival .different (sym e);
-              one-tag = sym (r .rival .one-tag);
-              ahead = r .ahead;
-            };
-      }
-
-  done-swap : {m : Marks} {p q : ℕ} → Done next bears tag own types m p q → Done next bears tag own types m q p
+  done-swap : {m : Marks} {p q : ℕ} → Done entries begins a m p q → Done entries begins a m q p
   done-swap d =
       record {
-        closed = λ j p′ q′ hp hq l. rw (pair-swap-number p′ q′) (d .closed j q′ p′ hq hp (leading-swap l));
+        closed = λ j p′ q′ l. rw (pair-swap-number p′ q′) (d .closed j q′ p′ (leading-swap l));
         no-rivals = λ j k r. d .no-rivals k j (rivals-swap r);
       }
 
-  module _ {at : ℕ} {m : Marks} (inv : SearchInv next bears tag own types at m) where
+  module _ {at : ℕ} {m : Marks} (inv : SearchInv entries begins a at m) where
+    -- the rows of the two states of the pair at the place `at`
+    abbrev left : Row
+    left = rowOf begins a (firstOf (entryAt m at))
+
+    abbrev right : Row
+    right = rowOf begins a (secondOf (entryAt m at))
+
     -- once its step is taken, the pair at the place `at` is done too
-    now-done : {e : ℕ} {m′ : Marks} → Grows next bears types at e m m′ (LedBy next bears types at e 0 types)
-        → ((j k : ℕ) → ¬ AreRivals next bears tag own types (firstOf e) (secondOf e) j k)
-        → (i : ℕ) → i < suc at → Done next bears tag own types m′ (firstOf (entryAt m′ i)) (secondOf (entryAt m′ i))
+    now-done : {m′ : Marks} → Grows entries begins a at (entryAt m at) m m′ (Led entries begins a at (entryAt m at))
+        → ((j k : ℕ) → ¬ AreRivals entries left right j k)
+        → (i : ℕ) → i < suc at → Done entries begins a m′ (firstOf (entryAt m′ i)) (secondOf (entryAt m′ i))
     now-done g none i h =
         elim (decLt i at) [
-          | yes l ↦ rw (g .entries i (omega (arith, inv .before))) (done-grows g (inv .done i l))
+          | yes l ↦ rw (g .stay i (omega (arith, inv .before))) (done-grows g (inv .done i l))
           | no l ↦
               let last : i ≡ at = omega arith in
-              rw (last, g .ready .here)
-              (record {
-                closed =
-                    λ j p q hp hq l.
-                    let below : j < types = l .below in
-                    g .new p q
-                    (record { by = j; least = omega arith; most = omega arith; first-below = hp; second-below = hq; leads = l });
-                no-rivals = none;
-              })
+              rw (last, g .ready .here) (record { closed = λ j p q l. g .new p q (j, l); no-rivals = none })
         ]
 
-    pub search-next : at < m .count → types ≤ mostTypes
-        → ((j k : ℕ) → ¬ AreRivals next bears tag own types (firstOf (entryAt m at)) (secondOf (entryAt m at)) j k)
-        → SearchInv next bears tag own types (suc at) (markStep next bears types at m)
-    search-next queued few none =
-        let g = step-grows next bears types at (entryAt m at) few m (record { kept = inv .kept; queued = queued; here = refl }) in
+    pub search-next : at < m .count → ((j k : ℕ) → ¬ AreRivals entries left right j k)
+        → SearchInv entries begins a (suc at) (markRows entries left right at m)
+    search-next queued none =
+        let g = step-grows entries begins a at (entryAt m at) m (record { kept = inv .kept; queued = queued; here = refl }) in
         record { kept = g .ready .kept; before = g .ready .queued; done = now-done g none }
 
     -- at the end each marked pair is done
-    done-marked : m .count ≤ at → (p q : ℕ) → IsMarked m (pairNumber p q) → Done next bears tag own types m p q
+    done-marked : m .count ≤ at → (p q : ℕ) → IsMarked m (pairNumber p q) → Done entries begins a m p q
     done-marked h p q t =
         let r = inv .kept .placed (pairNumber p q) t in
         let e : ℕ = entryAt m (r .place) in
-        let d : Done next bears tag own types m (firstOf e) (secondOf e) = inv .done (r .place) (omega (arith, r .place-below)) in
+        let d : Done entries begins a m (firstOf e) (secondOf e) = inv .done (r .place) (omega (arith, r .place-below)) in
         ⊎-elim
         (λ s. rw (s .0, s .1) at d)
         (λ s. done-swap (rw (s .0, s .1) at d))
         (pair-one-number (firstOf e) (secondOf e) p q (r .is))
 
-    pub search-done : m .count ≤ at → ClosedPairs next bears tag own types (m .reached)
+    pub search-done : m .count ≤ at → ClosedPairs entries begins a (m .reached)
     search-done h =
         record {
           first = rw (inv .kept .first) at (inv .kept .marked 0 (inv .kept .some));
-          closed = λ p q j p′ q′ hp hq hp′ hq′ t l. done-marked h p q t .closed j p′ q′ hp′ hq′ l;
-          no-rivals = λ p q j k hp hq t. done-marked h p q t .no-rivals j k;
+          closed = λ p q j p′ q′ t l. done-marked h p q t .closed j p′ q′ l;
+          no-rivals = λ p q j k t. done-marked h p q t .no-rivals j k;
         }
 
-    pub search-rivals : {j k : ℕ} → at < m .count
-        → AreRivals next bears tag own types (firstOf (entryAt m at)) (secondOf (entryAt m at)) j k
-        → TrailToRivals next bears tag own types (m .queue) at j k
+    pub search-rivals : {j k : ℕ} → at < m .count → AreRivals entries left right j k → TrailToRivals entries begins a (m .queue) at j k
     search-rivals h r =
         record {
           trail =

@@ -1,9 +1,9 @@
--- Competition. `Tables`, `Marks`, `Rivals` and `Queue` say what the private loops compute; no public promise cites them.
+-- Competition. `Rows`, `Marks`, `Rivals` and `Queue` say what the private loops compute; no public promise cites them.
 pub mod Pairs
 pub mod Questions
 pub mod Search
 pub mod Witness
-pub mod Tables
+pub mod Rows
 pub mod Marks
 pub mod Rivals
 pub mod Queue

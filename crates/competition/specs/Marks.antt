@@ -1,13 +1,13 @@
 -- What the private steps of the pair search compute.
 use mathlib.Core.Bool.{Bool, cond, true, false}
 use mathlib.Core.List.{List, [], _∷_, _++_}
-use Prim.Native.Nat.{ℕ, zero, suc, _+_, _*_, _/_, _%_, _<_, _≤_}
+use Prim.Native.Nat.{ℕ, zero, suc, _+_, _-_, _*_, _/_, _%_, _<_, _≤_}
 use lib.Dec.{eqb, ltb}
 use lib.ListN.{getD, set}
 use Rattle.sdtd.specs.Limits.{mostTypes, mostStates, mostPairs}
 use Rattle.sdtd.specs.Competition.{pairNumber}
-use Rattle.schema.specs.States.{member, bearsIn}
-use Rattle.competition.specs.Tables.{nextFrom}
+use Rattle.schema.specs.Rows.{toIn, byIn}
+use Rattle.competition.specs.declared.rows.Row.{Row}
 
 -- which pairs are reached, and the first `count` entries of the queue
 pub record Marks : Type 0 where
@@ -53,26 +53,26 @@ markOf m p q link =
     (record { reached = set (m .reached) (pairNumber p q) true; queue = set (m .queue) (m .count) (entryOf p q link); count = m .count + 1 })
     m)
 
--- the pairs of p with the states of the set y among the n states from s on
-unfoldable pub markRow : ℕ → ℕ → ℕ → ℕ → ℕ → Marks → Marks
-markRow p y link s zero m = m
-markRow p y link s (suc n) m = markRow p y link (suc s) n (cond (member s y) (markOf m p s link) m)
+-- the pair that the entries e and f of rows lead to, if they are of one type, from the pair at the place `at`
+abbrev pub markBoth : ℕ → ℕ → ℕ → Marks → Marks
+markBoth e f at m = cond (eqb (byIn f) (byIn e)) (markOf m (toIn e) (toIn f) (linkOf (byIn e) at)) m
 
--- the pairs of the states of the set x among the n states from s on with those of the set y
-unfoldable pub markProduct : ℕ → ℕ → ℕ → ℕ → ℕ → Marks → Marks
-markProduct x y link s zero m = m
-markProduct x y link s (suc n) m = markProduct x y link (suc s) n (cond (member s x) (markRow s y link 0 mostStates m) m)
+-- what each of the n entries from the place s on marks
+unfoldable pub markEach : (ℕ → Marks → Marks) → List ℕ → ℕ → ℕ → Marks → Marks
+markEach mark entries s zero m = m
+markEach mark entries s (suc n) m = markEach mark entries (suc s) n (mark (getD entries s 0) m)
 
--- the pairs that the n types from j on lead to from the pair p, q, which is at the place `at`
-unfoldable pub markTypes : List ℕ → List ℕ → ℕ → ℕ → ℕ → ℕ → ℕ → Marks → Marks
-markTypes next bears p q at j zero m = m
-markTypes next bears p q at j (suc n) m =
-    markTypes next bears p q at (suc j) n
-    (cond (bearsIn bears j) (markProduct (nextFrom next p j) (nextFrom next q j) (linkOf j at) 0 mostStates m) m)
+-- what each entry of a row marks
+abbrev pub markOver : (ℕ → Marks → Marks) → List ℕ → Row → Marks → Marks
+markOver mark entries row = markEach mark entries (row .start) (row .end - row .start)
 
--- one step of the search: the pairs that follow the pair at the place `at`
-unfoldable pub markStep : List ℕ → List ℕ → ℕ → ℕ → Marks → Marks
-markStep next bears types at m = markTypes next bears (firstOf (getD (m .queue) at 0)) (secondOf (getD (m .queue) at 0)) at 0 types m
+-- the pairs that e leads to with the entries of a row, from the pair at the place `at`
+abbrev pub markWith : List ℕ → Row → ℕ → ℕ → Marks → Marks
+markWith entries row e at = markOver (λ f. markBoth e f at) entries row
+
+-- one step of the search: the pairs that an entry of the left row leads to with one of the right row, from the pair at the place `at`
+abbrev pub markRows : List ℕ → Row → Row → ℕ → Marks → Marks
+markRows entries left right at = markOver (λ e. markWith entries right e at) entries left
 
 -- the types on the way from the first pair of the queue to the pair at the place i, where `fuel` is at least i
 unfoldable pub wordTo : ℕ → List ℕ → ℕ → List ℕ

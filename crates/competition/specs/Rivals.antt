@@ -2,40 +2,34 @@
 use mathlib.Core.Path.{_≡_}
 use mathlib.Core.Logic.{_≢_}
 use mathlib.Core.List.{List}
-use Prim.Native.Nat.{ℕ, _<_}
-use lib.Dec.{T}
-use lib.ListN.{getD}
-use Rattle.schema.specs.States.{member, bearsIn}
-use Rattle.competition.specs.Tables.{nextFrom}
+use Prim.Native.Nat.{ℕ}
+use Rattle.schema.specs.Rows.{byIn, tagIn}
+use Rattle.competition.specs.Rows.{Stands}
+use Rattle.competition.specs.declared.rows.Row.{Row}
 use Rattle.competition.specs.declared.rivals.Rival.{Rival}
 use Rattle.competition.specs.declared.rivals.Rival.the-variants.{One, NoType}
 use Rattle.competition.specs.declared.rivals.Rivals.{Rivals}
 use Rattle.competition.specs.declared.rivals.Rivals.the-variants.{Of, NoTypes}
 
--- the type j bears a tree and leads from the state s to a state of the set `own`
-pub record Ahead (next bears : List ℕ) (own s j : ℕ) : Type 0 where
-  pub bearing : T (bearsIn bears j)
-  pub to : ℕ
-  pub leads : T (member to (nextFrom next s j))
-  pub live : T (member to own)
+-- k is another type of e's tag, by an entry of the row
+pub record IsRival (entries : List ℕ) (row : Row) (e k : ℕ) : Type 0 where
+  pub entry : ℕ
+  pub stands : Stands entries row entry
+  pub by : byIn entry ≡ k
+  pub one-tag : tagIn entry ≡ tagIn e
+  pub different : byIn entry ≢ byIn e
 
--- k is another type of j's tag that is ahead of the state s
-pub record IsRival (next bears tag : List ℕ) (own types s j k : ℕ) : Type 0 where
-  pub below : k < types
-  pub different : k ≢ j
-  pub one-tag : getD tag k 0 ≡ getD tag j 0
-  pub ahead : Ahead next bears own s k
+abbrev pub RivalMeans : List ℕ → Row → ℕ → Rival → Type 0
+RivalMeans entries row e (One k) = IsRival entries row e (k .0)
+RivalMeans entries row e NoType = (k : ℕ) → ¬ IsRival entries row e k
 
-abbrev pub RivalMeans : List ℕ → List ℕ → List ℕ → ℕ → ℕ → ℕ → ℕ → Rival → Type 0
-RivalMeans next bears tag own types s j (One k) = IsRival next bears tag own types s j (k .0)
-RivalMeans next bears tag own types s j NoType = (k : ℕ) → ¬ IsRival next bears tag own types s j k
+-- an entry of the left row is by j, and k is its rival in the right row
+pub record AreRivals (entries : List ℕ) (left right : Row) (j k : ℕ) : Type 0 where
+  pub entry : ℕ
+  pub stands : Stands entries left entry
+  pub by : byIn entry ≡ j
+  pub rival : IsRival entries right entry k
 
--- j is ahead of the state p, and k its rival ahead of the state q
-pub record AreRivals (next bears tag : List ℕ) (own types p q j k : ℕ) : Type 0 where
-  pub below : j < types
-  pub ahead : Ahead next bears own p j
-  pub rival : IsRival next bears tag own types q j k
-
-abbrev pub RivalsMean : List ℕ → List ℕ → List ℕ → ℕ → ℕ → ℕ → ℕ → Rivals → Type 0
-RivalsMean next bears tag own types p q (Of j k) = AreRivals next bears tag own types p q (j .0) (k .0)
-RivalsMean next bears tag own types p q NoTypes = (j k : ℕ) → ¬ AreRivals next bears tag own types p q j k
+abbrev pub RivalsMean : List ℕ → Row → Row → Rivals → Type 0
+RivalsMean entries left right (Of j k) = AreRivals entries left right (j .0) (k .0)
+RivalsMean entries left right NoTypes = (j k : ℕ) → ¬ AreRivals entries left right j k

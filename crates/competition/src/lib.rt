@@ -3,8 +3,8 @@ mod entries;
 mod marks;
 mod pairs;
 mod rivals;
+mod rows;
 mod search;
-mod tables;
 mod witness;
 
 pub use pairs::PairNumber;

@@ -1,20 +1,15 @@
 // Pairs of states marked as reached, with a queue of those found.
 use crate::entries::entry_of;
-use crate::entries::first_of;
 use crate::entries::link_of;
-use crate::entries::second_of;
 use crate::pairs::PAIRS;
 use crate::pairs::number;
-use crate::tables::NEXT;
-use crate::tables::bears_in;
-use crate::tables::next_place;
-use schema::STATES;
-use schema::StateSet;
-use schema::TYPES;
+use crate::rows::Row;
+use schema::Entry;
+use schema::STEPS;
 ghost use mathlib.Core.Path.{_≡_};
 ghost use Prim.Native.Nat.{_<_, _≤_};
-ghost use Rattle.sdtd.specs.Limits.{mostTypes, mostStates, mostPairs};
-ghost use Rattle.competition.specs.Marks.{mostLinks, marks, markOf, markRow, markProduct, markTypes, markStep};
+ghost use Rattle.sdtd.specs.Limits.{mostStates, mostSteps, mostPairs};
+ghost use Rattle.competition.specs.Marks.{mostLinks, marks, markOf, markBoth, markWith, markRows};
 
 // The pair joins the queue, unless it is reached already.
 // The test for a full queue is there for the bound. It never holds in a search: there are only so many pairs, and each joins once.
@@ -42,92 +37,74 @@ fn mark<'a>(
     count + 1
 }
 
-// The pairs of p with the states of a set.
-fn mark_row<'a>(
+// The pair that the entries e and f of rows lead to, if they are of one type, from the pair at the place `at` of the queue.
+fn mark_both<'a>(
     reached: &'a mut [bool; PAIRS],
     queue: &'a mut [u32; PAIRS],
     count: usize,
-    p: u8,
-    right: u32,
-    link: u32,
+    e: u32,
+    f: u32,
+    at: usize,
 ) -> usize
-    requires { ⌜ (p < mostStates) × (link < mostLinks) ⌝ }
+    requires { ⌜ at < mostPairs ⌝ }
     ensures { λ r. ⌜ marks (now (reached .exit)) (now (queue .exit)) r
-        ≡ markRow p right link 0 mostStates (marks (now (reached .entry)) (now (queue .entry)) count) ⌝ }
+        ≡ markBoth e f at (marks (now (reached .entry)) (now (queue .entry)) count) ⌝ }
 {
-    let mut queued = count;
-    let mut q: u8 = 0;
-    while q < STATES {
-        if StateSet(right).has(q) {
-            queued = mark(reached, queue, queued, p, q, link);
-        }
-        q += 1;
-    }
-    queued
-}
-
-// The pairs of the states of one set with those of another.
-fn mark_product<'a>(
-    reached: &'a mut [bool; PAIRS],
-    queue: &'a mut [u32; PAIRS],
-    count: usize,
-    left: u32,
-    right: u32,
-    link: u32,
-) -> usize
-    requires { ⌜ link < mostLinks ⌝ }
-    ensures { λ r. ⌜ marks (now (reached .exit)) (now (queue .exit)) r
-        ≡ markProduct left right link 0 mostStates (marks (now (reached .entry)) (now (queue .entry)) count) ⌝ }
-{
-    if left == StateSet::NONE.0 {
+    let by = Entry(e).by();
+    if !Entry(f).by().same(by) {
         return count;
     }
+    let p = Entry(e).to();
+    let q = Entry(f).to();
+    let link = link_of(by.0 as usize, at);
+    mark(reached, queue, count, p, q, link)
+}
+
+// The pairs that e leads to with the entries of the row.
+fn mark_with<'a>(
+    reached: &'a mut [bool; PAIRS],
+    queue: &'a mut [u32; PAIRS],
+    count: usize,
+    entries: &[u32; STEPS],
+    row: Row,
+    e: u32,
+    at: usize,
+) -> usize
+    requires { ⌜ (row .end ≤ mostSteps) × (at < mostPairs) ⌝ }
+    ensures { λ r. ⌜ marks (now (reached .exit)) (now (queue .exit)) r
+        ≡ markWith (now (entries .entry)) row e at (marks (now (reached .entry)) (now (queue .entry)) count) ⌝ }
+{
+    let end = row.end;
     let mut queued = count;
-    let mut p: u8 = 0;
-    while p < STATES {
-        if StateSet(left).has(p) {
-            queued = mark_row(reached, queue, queued, p, right, link);
-        }
-        p += 1;
+    let mut i = row.start;
+    while i < end {
+        let f = entries[i];
+        queued = mark_both(reached, queue, queued, e, f, at);
+        i += 1;
     }
     queued
 }
 
-// A pair of states p, q, and its place in the queue.
-struct QueuedPair {
-    at: usize,
-    p: usize,
-    q: usize,
-}
-
-// The pairs that tree-bearing types lead to from a pair of the queue.
-// A pair with a dead state joins too and does no harm, since rival steps lead only into live states.
-fn mark_types<'a>(
+// The pairs that an entry of the left row leads to with one of the right row.
+fn mark_rows<'a>(
     reached: &'a mut [bool; PAIRS],
     queue: &'a mut [u32; PAIRS],
     count: usize,
-    next: &[u32; NEXT],
-    bears: &[u32; TYPES],
-    types: usize,
-    pair: QueuedPair,
+    entries: &[u32; STEPS],
+    left: Row,
+    right: Row,
+    at: usize,
 ) -> usize
-    requires { ⌜ (types ≤ mostTypes) × (pair .at < mostPairs) × (pair .p < mostStates) × (pair .q < mostStates) ⌝ }
+    requires { ⌜ (left .end ≤ mostSteps) × (right .end ≤ mostSteps) × (at < mostPairs) ⌝ }
     ensures { λ r. ⌜ marks (now (reached .exit)) (now (queue .exit)) r
-        ≡ markTypes (now (next .entry)) (now (bears .entry)) (pair .p) (pair .q) (pair .at) 0 types
-        (marks (now (reached .entry)) (now (queue .entry)) count) ⌝ }
+        ≡ markRows (now (entries .entry)) left right at (marks (now (reached .entry)) (now (queue .entry)) count) ⌝ }
 {
-    let at = pair.at;
-    let p = pair.p;
-    let q = pair.q;
+    let end = left.end;
     let mut queued = count;
-    let mut i = 0;
-    while i < types {
-        if bears_in(bears, i) {
-            let link = link_of(i, at);
-            let left = next[next_place(p, i)];
-            let right = next[next_place(q, i)];
-            queued = mark_product(reached, queue, queued, left, right, link);
-        }
+    let mut i = left.start;
+    while i < end {
+        let e = entries[i];
+        queued = mark_with(reached, queue, queued, entries, right, e, at);
         i += 1;
     }
     queued
@@ -139,26 +116,23 @@ pub(crate) struct PairsMarked {
     pub count: usize,
 }
 
-// One step of the search: the pairs that follow the one at the place `at` of the queue. Which are reached goes in and comes back.
+// One step of the search: the pairs that follow the one at the place `at` of the queue, by the rows of its two states. Which are reached goes
+// in and comes back.
 pub(crate) fn search_step(
     reached: [bool; PAIRS],
     queue: &mut [u32; PAIRS],
     count: usize,
-    next: &[u32; NEXT],
-    bears: &[u32; TYPES],
-    types: usize,
+    entries: &[u32; STEPS],
+    left: Row,
+    right: Row,
     at: usize,
 ) -> PairsMarked
-    requires { ⌜ (types ≤ mostTypes) × (at < mostPairs) ⌝ }
+    requires { ⌜ (left .end ≤ mostSteps) × (right .end ≤ mostSteps) × (at < mostPairs) ⌝ }
     ensures { λ r. ⌜ marks (r .reached) (now (queue .exit)) (r .count)
-        ≡ markStep (now (next .entry)) (now (bears .entry)) types at (marks reached (now (queue .entry)) count) ⌝ }
+        ≡ markRows (now (entries .entry)) left right at (marks reached (now (queue .entry)) count) ⌝ }
 {
     let mut marked = reached;
-    let entry = queue[at];
-    let p = first_of(entry);
-    let q = second_of(entry);
-    let pair = QueuedPair { at, p, q };
-    let queued = mark_types(&mut marked, queue, count, next, bears, types, pair);
+    let queued = mark_rows(&mut marked, queue, count, entries, left, right, at);
     PairsMarked {
         reached: marked,
         count: queued,

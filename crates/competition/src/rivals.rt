@@ -1,16 +1,11 @@
-// Rival steps at a pair of states: by different tree-bearing types of one tag, into live states.
-use crate::tables::NEXT;
-use crate::tables::bears_in;
-use crate::tables::next_place;
-use schema::StateSet;
-use schema::TYPES;
-use sdtd::Tag;
+// Rival steps at a pair of states: an entry of the one's row and an entry of the other's, by different types of one tag.
+use crate::rows::Row;
+use schema::Entry;
+use schema::STEPS;
 use sdtd::TypeNo;
-ghost use mathlib.Core.Logic.{_↔_};
-ghost use Prim.Native.Nat.{_<_, _≤_};
-ghost use lib.Dec.{T};
-ghost use Rattle.sdtd.specs.Limits.{mostTypes, mostStates};
-ghost use Rattle.competition.specs.Rivals.{Ahead, RivalMeans, RivalsMean};
+ghost use Prim.Native.Nat.{_≤_};
+ghost use Rattle.sdtd.specs.Limits.{mostSteps};
+ghost use Rattle.competition.specs.Rivals.{RivalMeans, RivalsMean};
 
 // A type, or none.
 pub(crate) enum Rival {
@@ -24,46 +19,21 @@ pub(crate) enum Rivals {
     NoTypes,
 }
 
-// Does the type j bear a tree and lead from the state to a state of the set `own`, the live states of the type that is searched?
-fn ahead<'a>(
-    next: &'a [u32; NEXT],
-    bears: &'a [u32; TYPES],
-    own: u32,
-    state: usize,
-    j: TypeNo,
-) -> bool
-    requires { ⌜ (state < mostStates) × (j .0 < mostTypes) ⌝ }
-    ensures { λ r. ⌜ T r ↔ Ahead (now (next .entry)) (now (bears .entry)) own state (j .0) ⌝ }
+// Another type of e's tag, by an entry of the row.
+fn rival_in(entries: &[u32; STEPS], row: Row, e: u32) -> Rival
+    requires { ⌜ row .end ≤ mostSteps ⌝ }
+    ensures { λ r. ⌜ RivalMeans (now (entries .entry)) row e r ⌝ }
 {
-    let i = j.0 as usize;
-    if !bears_in(bears, i) {
-        return false;
-    }
-    StateSet(own).meets(StateSet(next[next_place(state, i)]))
-}
-
-// Another type of j's tag that is ahead of the state.
-fn rival_of<'a>(
-    next: &'a [u32; NEXT],
-    bears: &'a [u32; TYPES],
-    tag: &'a [u8; TYPES],
-    own: u32,
-    types: usize,
-    state: usize,
-    j: TypeNo,
-) -> Rival
-    requires { ⌜ (types ≤ mostTypes) × (state < mostStates) × (j .0 < mostTypes) ⌝ }
-    ensures { λ r. ⌜ RivalMeans (now (next .entry)) (now (bears .entry)) (now (tag .entry)) own types state (j .0) r ⌝ }
-{
-    let shared = Tag(tag[j.0 as usize]);
-    let mut i = 0;
-    while i < types {
-        let k = TypeNo(i as u8);
-        if !k.same(j) {
-            if Tag(tag[i]).same(shared) {
-                if ahead(next, bears, own, state, k) {
-                    return Rival::One(k);
-                }
+    let j = Entry(e).by();
+    let shared = Entry(e).tag();
+    let end = row.end;
+    let mut i = row.start;
+    while i < end {
+        let f = entries[i];
+        if Entry(f).tag().same(shared) {
+            let k = Entry(f).by();
+            if !k.same(j) {
+                return Rival::One(k);
             }
         }
         i += 1;
@@ -71,27 +41,18 @@ fn rival_of<'a>(
     Rival::NoType
 }
 
-// Rival steps from the state p and from the state q.
-pub(crate) fn rivals_at<'a>(
-    next: &'a [u32; NEXT],
-    bears: &'a [u32; TYPES],
-    tag: &'a [u8; TYPES],
-    own: u32,
-    types: usize,
-    p: usize,
-    q: usize,
-) -> Rivals
-    requires { ⌜ (types ≤ mostTypes) × (p < mostStates) × (q < mostStates) ⌝ }
-    ensures { λ r. ⌜ RivalsMean (now (next .entry)) (now (bears .entry)) (now (tag .entry)) own types p q r ⌝ }
+// Rival steps from two states, by their rows.
+pub(crate) fn rivals_at(entries: &[u32; STEPS], left: Row, right: Row) -> Rivals
+    requires { ⌜ (left .end ≤ mostSteps) × (right .end ≤ mostSteps) ⌝ }
+    ensures { λ r. ⌜ RivalsMean (now (entries .entry)) left right r ⌝ }
 {
-    let mut i = 0;
-    while i < types {
-        let j = TypeNo(i as u8);
-        if ahead(next, bears, own, p, j) {
-            let rival = rival_of(next, bears, tag, own, types, q, j);
-            if let Rival::One(k) = rival {
-                return Rivals::Of(j, k);
-            }
+    let end = left.end;
+    let mut i = left.start;
+    while i < end {
+        let e = entries[i];
+        let rival = rival_in(entries, right, e);
+        if let Rival::One(k) = rival {
+            return Rivals::Of(Entry(e).by(), k);
         }
         i += 1;
     }

@@ -5,30 +5,24 @@ use crate::marks::search_step;
 use crate::pairs::PAIRS;
 use crate::rivals::Rivals;
 use crate::rivals::rivals_at;
-use crate::tables::NEXT;
-use crate::tables::TypeTables;
-use crate::tables::bears_in;
-use crate::tables::next_place;
+use crate::rows::row_of;
 use crate::witness::LEAST_WITNESS;
 use crate::witness::write_rivals;
-use schema::STATES;
+use schema::BEGINS;
 use schema::STEPS;
 use schema::Schema;
-use schema::Span;
-use schema::StateSet;
 use schema::TYPES;
 use schema::Trimming;
 use schema::trim;
 use sdtd::TypeNo;
 use sdtd::Verdict;
-ghost use mathlib.Core.Path.{_≡_};
-ghost use Prim.Native.Nat.{_+_, _<_, _≤_};
+ghost use Prim.Native.Nat.{_<_, _≤_};
 ghost use lib.ListN.{length};
-ghost use Rattle.sdtd.specs.Limits.{mostTypes, mostSteps, leastWitness};
+ghost use Rattle.sdtd.specs.Limits.{mostTypes, leastWitness};
 ghost use Rattle.sdtd.specs.Schema.{WithinLimits};
 ghost use Rattle.schema.specs.Trimming.{Exact};
-ghost use Rattle.schema.specs.Value.{stepsOf, offset, meaning};
-ghost use Rattle.competition.specs.Tables.{nextStep, nextBy};
+ghost use Rattle.schema.specs.Value.{meaning};
+ghost use Rattle.competition.specs.Rows.{RowsInside};
 ghost use Rattle.competition.specs.Queue.{PairFoundMeans, SearchedAt, CompetingMeans, CompetesMeans};
 ghost use Rattle.competition.specs.Search.{SearchMeans, JudgeMeans};
 
@@ -50,63 +44,39 @@ pub(crate) enum PairFound {
     Nowhere,
 }
 
-// A step joins the table of next states. Inside the limits the remainders change nothing.
-fn next_step(next: &mut [u32; NEXT], from: u8, by: TypeNo, to: u8)
-    ensures { λ _. ⌜ now (next .exit) ≡ nextStep (record { from = from; by = by .0; to = to }) (now (next .entry)) ⌝ }
-{
-    let at = next_place((from % STATES) as usize, by.0 as usize % TYPES);
-    let grown = StateSet(next[at]).with(to);
-    next[at] = grown.0;
+// Of each type whether it is reached and whether it bears a tree; and how many types there are.
+pub(crate) struct TypeTables {
+    pub reached: [bool; TYPES],
+    pub bears: [bool; TYPES],
+    pub types: usize,
 }
 
-// To which states each type leads from each state, by the steps of the span.
-fn next_states<'a>(
-    from: &'a [u8; STEPS],
-    by: &'a [u8; STEPS],
-    to: &'a [u8; STEPS],
-    span: Span,
-) -> [u32; NEXT]
-    requires { ⌜ span .start + span .n ≤ mostSteps ⌝ }
-    ensures { λ r. ⌜ r ≡ nextBy (stepsOf (now (from .entry)) (now (by .entry)) (now (to .entry)) (span .start) (span .n)) ⌝ }
-{
-    let mut next = [StateSet::NONE.0; NEXT];
-    let end = span.start + span.n;
-    let mut i = span.start;
-    while i < end {
-        next_step(&mut next, from[i], TypeNo(by[i]), to[i]);
-        i += 1;
-    }
-    next
-}
-
-// The search of one type, whose live states are the set `own`: the first pair found with rivals, with the queue that leads to it.
+// The search of the type a: the first pair found with rivals, with the queue that leads to it.
 fn search_type<'a>(
-    next: &'a [u32; NEXT],
-    bears: &'a [u32; TYPES],
-    tag: &'a [u8; TYPES],
-    own: u32,
-    types: usize,
+    entries: &'a [u32; STEPS],
+    begins: &'a [u16; BEGINS],
+    a: TypeNo,
     queue: &mut [u32; PAIRS],
 ) -> PairFound
-    requires { ⌜ types ≤ mostTypes ⌝ }
-    ensures { λ r. ⌜ PairFoundMeans (now (next .entry)) (now (bears .entry)) (now (tag .entry)) own types (now (queue .exit)) r ⌝ }
+    requires { ⌜ (a .0 < mostTypes) × RowsInside (now begins) ⌝ }
+    ensures { λ r. ⌜ PairFoundMeans (now (entries .entry)) (now (begins .entry)) (a .0) (now (queue .exit)) r ⌝ }
 {
     let mut reached = [false; PAIRS];
     reached[0] = true;
     // as a slice, from which the proof has the queue's length
-    let entries: &mut [u32] = queue;
-    entries[0] = 0;
+    let places: &mut [u32] = queue;
+    places[0] = 0;
     let mut count = 1;
     let mut at = 0;
     while at < count {
         let entry = queue[at];
-        let p = first_of(entry);
-        let q = second_of(entry);
-        let rivals = rivals_at(next, bears, tag, own, types, p, q);
+        let left = row_of(begins, a, first_of(entry));
+        let right = row_of(begins, a, second_of(entry));
+        let rivals = rivals_at(entries, left, right);
         if let Rivals::Of(j, k) = rivals {
             return PairFound::At(at, j, k);
         }
-        let marked = search_step(reached, queue, count, next, bears, types, at);
+        let marked = search_step(reached, queue, count, entries, left, right, at);
         let grown = marked.reached;
         reached = grown;
         count = marked.count;
@@ -115,31 +85,25 @@ fn search_type<'a>(
     PairFound::Nowhere
 }
 
-// The search of the type a, if it is reached and bears a tree; its steps are those of the span.
+// The search of the type a, if it is reached and bears a tree.
 fn search_at<'a>(
-    from: &'a [u8; STEPS],
-    by: &'a [u8; STEPS],
-    to: &'a [u8; STEPS],
-    span: Span,
+    entries: &'a [u32; STEPS],
+    begins: &'a [u16; BEGINS],
     tables: TypeTables,
     a: TypeNo,
     queue: &mut [u32; PAIRS],
 ) -> PairFound
-    requires { ⌜ (span .start + span .n ≤ mostSteps) × (tables .types ≤ mostTypes) × (a .0 < mostTypes) ⌝ }
-    ensures { λ r. ⌜ SearchedAt (nextBy (stepsOf (now (from .entry)) (now (by .entry)) (now (to .entry)) (span .start) (span .n)))
-        tables (a .0) (now (queue .exit)) r ⌝ }
+    requires { ⌜ (a .0 < mostTypes) × RowsInside (now begins) ⌝ }
+    ensures { λ r. ⌜ SearchedAt (now (entries .entry)) (now (begins .entry)) tables (a .0) (now (queue .exit)) r ⌝ }
 {
     let i = a.0 as usize;
     if !tables.reached[i] {
         return PairFound::Nowhere;
     }
-    if !bears_in(&tables.bears, i) {
+    if !tables.bears[i] {
         return PairFound::Nowhere;
     }
-    let own = tables.live[i];
-    let types = tables.types;
-    let next = next_states(from, by, to, span);
-    search_type(&next, &tables.bears, &tables.tag, own, types, queue)
+    search_type(entries, begins, a, queue)
 }
 
 // The smallest type in which two compete: the type, the place in the queue of a pair with rivals, and the rivals.
@@ -150,29 +114,22 @@ pub(crate) enum Competing {
 
 // The search of one type after another.
 fn first_competing<'a>(
-    from: &'a [u8; STEPS],
-    by: &'a [u8; STEPS],
-    to: &'a [u8; STEPS],
-    steps: &'a [u16; TYPES],
+    entries: &'a [u32; STEPS],
+    begins: &'a [u16; BEGINS],
     tables: TypeTables,
     queue: &mut [u32; PAIRS],
 ) -> Competing
-    requires { ⌜ (tables .types ≤ mostTypes) × (offset (now steps) (tables .types) ≤ mostSteps) ⌝ }
-    ensures { λ r. ⌜ CompetingMeans (stepsOf (now (from .entry)) (now (by .entry)) (now (to .entry))) (now (steps .entry)) tables
-        (now (queue .exit)) r ⌝ }
+    requires { ⌜ (tables .types ≤ mostTypes) × RowsInside (now begins) ⌝ }
+    ensures { λ r. ⌜ CompetingMeans (now (entries .entry)) (now (begins .entry)) tables (now (queue .exit)) r ⌝ }
 {
     let types = tables.types;
-    let mut start = 0;
     let mut i = 0;
     while i < types {
         let a = TypeNo(i as u8);
-        let n = steps[i] as usize;
-        let span = Span { start, n };
-        let pair = search_at(from, by, to, span, tables, a, queue);
+        let pair = search_at(entries, begins, tables, a, queue);
         if let PairFound::At(at, j, k) = pair {
             return Competing::In(a, at, j, k);
         }
-        start += n;
         i += 1;
     }
     Competing::NoneIn
@@ -180,30 +137,19 @@ fn first_competing<'a>(
 
 // The search of a schema inside the limits by its trimming: do two types compete? If so, the smallest type in which two compete, the two and
 // a word after which they do go to the witness buffer.
-// The table of live states tells which types bear a tree.
 fn competes(schema: Schema, trimming: Trimming, witness: &mut [u8]) -> bool
     requires { ⌜ WithinLimits (meaning schema) × Exact (meaning schema) trimming × (leastWitness ≤ length (now witness)) ⌝ }
     ensures { λ r. ⌜ CompetesMeans (meaning schema) (now (witness .entry)) (now (witness .exit)) r ⌝ }
 {
-    let tag = schema.tag;
-    let live = trimming.live;
     let reached = trimming.reached;
+    let bears = trimming.bears;
     let tables = TypeTables {
-        tag,
-        live,
-        bears: live,
         reached,
+        bears,
         types: schema.types as usize,
     };
     let mut queue = [0u32; PAIRS];
-    let competing = first_competing(
-        &schema.from,
-        &schema.by,
-        &schema.to,
-        &schema.steps,
-        tables,
-        &mut queue,
-    );
+    let competing = first_competing(&trimming.entries, &trimming.begins, tables, &mut queue);
     if let Competing::In(a, at, j, k) = competing {
         write_rivals(witness, a, j, k, &queue, at);
         return true;

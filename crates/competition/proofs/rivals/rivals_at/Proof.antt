@@ -1,42 +1,50 @@
--- `competition::rivals::rivals_at` meets its contract. The loop's invariant: no type before i has a rival. The measure is what is left of the
--- types.
-use mathlib.Core.Logic.{⊎-elim}
+-- `competition::rivals::rivals_at` meets its contract. The loop's invariant: no entry of the left row before i has a rival in the right row.
+-- The measure is what is left of the left row.
+use mathlib.Core.Path.{refl, sym}
 use Prim.Native.Nat.{ℕ, _-_, _≤_, _<_}
 use native.Mathlib.Omega.{arith}
+use lib.ListN.{getD}
 use borrow.Author.Count.{below-more}
-use Rattle.competition.specs.Rivals.{AreRivals}
+use borrow.Author.Needs.{needs}
+use Rattle.competition.specs.Rivals.{IsRival}
 use Rattle.competition.proofs.rivals.rivals_at.Statement.{statement}
 use Rattle.competition.proofs.rivals.rivals_at.Tie as tie
 
 abbrev Inv-loop : tie.InvT-loop
-Inv-loop next bears tag own types p q i₀ i =
-    (i ≤ types) × ((j : ℕ) → j < i → (k : ℕ) → ¬ AreRivals next bears tag own types p q j k)
+Inv-loop entries right end i₀ i =
+    (i₀ ≤ i) × ((n : ℕ) → n < i → i₀ ≤ n → (k : ℕ) → ¬ IsRival entries right (getD entries n 0) k)
 
 abbrev μ-loop : tie.MeasureT-loop
-μ-loop next bears tag own types p q i₀ i = types - i
+μ-loop entries right end i₀ i = end - i
 
 loop-holds : tie.Need-loop-holds Inv-loop μ-loop
-loop-holds c = (omega arith, λ i l. absurd (omega arith))
+loop-holds c = (omega arith, λ n l h. absurd (omega arith))
 
-cast-t13 : tie.Need-cast-t13 Inv-loop μ-loop
-cast-t13 c = omega arith
+mul-e : tie.Need-mul-e Inv-loop μ-loop
+mul-e c = omega arith
 
-ahead-requires : tie.Need-ahead-requires Inv-loop μ-loop
-ahead-requires c κs = omega arith
+element-copy-out-e : tie.Need-element-copy-out-e Inv-loop μ-loop
+element-copy-out-e c = omega arith
 
-rival-of-requires : tie.Need-rival-of-requires Inv-loop μ-loop
-rival-of-requires c κs = omega arith
+rival-in-requires : tie.Need-rival-in-requires Inv-loop μ-loop
+rival-in-requires c κs = omega arith
 
 enum-known-rival : tie.Need-enum-known-rival Inv-loop μ-loop
 enum-known-rival c = c .match .keys1
 
+by-requires : tie.Need-by-requires Inv-loop μ-loop
+by-requires c κs = search needs
+
 returns : tie.Need-returns Inv-loop μ-loop
 returns c =
-    let e = c .before .before .before in
+    let e = c .before .before .before .before in
+    let t = e .before .before in
+    let l = t .before in
     record {
-      below = e .before .before .before .loop-test .taken;
-      ahead = e .before .before .ahead .ensures .0 (rw (e .before .if1 .taken) tt);
-      rival = rw (c .before .rival .given .1) at (e .rival-of .ensures);
+      entry = getD (l .before .args .entries .now) (l .loop .i) 0;
+      stands = record { place = l .loop .i; least = l .loop .inv .0; most = t .loop-test .taken; is = refl };
+      by = sym (c .by .ensures);
+      rival = rw (c .before .before .rival .given .1) at (e .rival-in .ensures);
     }
 
 enum-told : tie.Need-enum-told Inv-loop μ-loop
@@ -48,21 +56,21 @@ add-i c = omega arith
 loop-less : tie.Need-loop-less Inv-loop μ-loop
 loop-less c = omega arith
 
--- i has no rival: `rival_of` found none, or i is not ahead
 loop-again : tie.Need-loop-again Inv-loop μ-loop
 loop-again c =
-    let l = c .before .before .before .loop in
-    let a = c .before .before .before .before .args in (
+    let e = c .before .before in
+    let l = e .before .before .before in
+    let a = l .before .args in (
       omega arith,
-      below-more (λ i. (k : ℕ) → ¬ AreRivals (a .next .now) (a .bears .now) (a .tag .now) (a .own) (a .types) (a .p) (a .q) i k) (l .i)
-          (l .inv .1)
-          (⊎-elim (λ w k r. (rw (w .3 .given .1) at (w .1 .ensures)) k (r .rival))
-          (λ w k r. rw (w .left) at (c .before .ahead .ensures .1 (r .ahead)))
-          (c .if1 .came)),
+      below-more (λ n. a .left .start ≤ n → (k : ℕ) → ¬ IsRival (a .entries .now) (a .right) (getD (a .entries .now) n 0) k) (l .loop .i)
+          (l .loop .inv .1)
+          (λ h. rw (c .enum-told .given .1) at (e .rival-in .ensures)),
     )
 
 returns-2 : tie.Need-returns-2 Inv-loop μ-loop
-returns-2 c = λ j k r. c .before .loop .inv .1 j (omega (arith, r .below)) k r
+returns-2 c j k r =
+    let s = r .stands in
+    c .before .loop .inv .1 (s .place) (omega (arith, s .most)) (s .least) k (rw (s .is) (r .rival))
 
 pub rivals-at-spec : {M : Type 1} → statement M
 rivals-at-spec =
@@ -71,10 +79,11 @@ rivals-at-spec =
     Inv-loop
     μ-loop
     loop-holds
-    cast-t13
-    ahead-requires
-    rival-of-requires
+    mul-e
+    element-copy-out-e
+    rival-in-requires
     enum-known-rival
+    by-requires
     returns
     enum-told
     add-i

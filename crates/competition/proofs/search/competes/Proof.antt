@@ -9,15 +9,15 @@ use Rattle.competition.proofs.search.competes.Tie as tie
 
 -- the start of the function, from where it calls the search
 abbrev start : tie.After-queue → tie.Start
-start c = c .before .before .before .before .before .before .before .before .before .before
+start c = c .before .before .before .before .before .before .before .before
 
-cast-t16 : tie.Need-cast-t16
-cast-t16 c = search needs
+cast-t14 : tie.Need-cast-t14
+cast-t14 c = search needs
 
 first-competing-requires : tie.Need-first-competing-requires
 first-competing-requires c κs =
-    let room = within-room _ (start c .pre .0) in
-    (room .types, room .steps)
+    let given = start c .pre in
+    (within-room _ (given .0) .types, given .1 .rows .inside)
 
 enum-known-competing : tie.Need-enum-known-competing
 enum-known-competing c = search needs
@@ -37,7 +37,7 @@ returns c =
     let s = c .before .before .before .before .before .before .before .before in
     let given = start (s .before) .pre in
     let f = rw (c .before .before .before .before .before .before .competing .given .1) at (s .first-competing .ensures) in
-    competing-written _ _ (given .0) (given .1) _ _ _ _ _ (f .0) (f .1) (f .2) _ _ (c .before .before .write-rivals .ensures)
+    competing-written _ _ (given .0) (given .1) _ _ _ _ _ (f .1) (f .2) _ _ (c .before .before .write-rivals .ensures)
 
 enum-told : tie.Need-enum-told
 enum-told c = search needs
@@ -52,7 +52,7 @@ pub competes-spec : {M : Type 1} → statement M
 competes-spec =
     tie.close
     (tie.spec
-    cast-t16
+    cast-t14
     first-competing-requires
     enum-known-competing
     write-rivals-requires

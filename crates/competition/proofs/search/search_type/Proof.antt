@@ -11,21 +11,20 @@ use Rattle.competition.proofs.search.search_type.Statement.{statement}
 use Rattle.competition.proofs.search.search_type.Tie as tie
 
 abbrev Inv-loop : tie.InvT-loop
-Inv-loop next bears tag own types queue₀ reached₀ count₀ at₀ queue reached count at =
-    SearchInv next bears tag own types at (marks reached queue count)
+Inv-loop entries begins a queue₀ reached₀ count₀ at₀ queue reached count at = SearchInv entries begins (a .0) at (marks reached queue count)
 
 abbrev μ-loop : tie.MeasureT-loop
-μ-loop next bears tag own types queue₀ reached₀ count₀ at₀ queue reached count at = mostPairs - at
+μ-loop entries begins a queue₀ reached₀ count₀ at₀ queue reached count at = mostPairs - at
 
 array-write-reached : tie.Need-array-write-reached Inv-loop μ-loop
 array-write-reached c = search needs
 
-slice-write-entries : tie.Need-slice-write-entries Inv-loop μ-loop
-slice-write-entries c = omega arith
+slice-write-places : tie.Need-slice-write-places Inv-loop μ-loop
+slice-write-places c = omega arith
 
 -- that the array behind the reference has its elements is known from its use as a slice
 loop-holds : tie.Need-loop-holds Inv-loop μ-loop
-loop-holds c = search-first (c .before .args .queue .now) (c .entries .given .0 .1)
+loop-holds c = search-first (c .before .args .queue .now) (c .places .given .0 .1)
 
 mul-entry : tie.Need-mul-entry Inv-loop μ-loop
 mul-entry c = omega arith
@@ -36,11 +35,17 @@ element-copy-out-entry c = omega arith
 first-of-requires : tie.Need-first-of-requires Inv-loop μ-loop
 first-of-requires c κs = tt
 
+row-of-requires : tie.Need-row-of-requires Inv-loop μ-loop
+row-of-requires c κs = (omega arith, omega arith, c .before .before .before .before .before .pre .1)
+
 second-of-requires : tie.Need-second-of-requires Inv-loop μ-loop
 second-of-requires c κs = tt
 
+row-of-requires-2 : tie.Need-row-of-requires-2 Inv-loop μ-loop
+row-of-requires-2 c κs = (omega arith, omega arith, c .before .before .before .before .before .before .before .pre .1)
+
 rivals-at-requires : tie.Need-rivals-at-requires Inv-loop μ-loop
-rivals-at-requires c κs = omega arith
+rivals-at-requires c κs = (c .before .before .row-of .ensures .1, c .row-of2 .ensures .1)
 
 enum-known-rivals : tie.Need-enum-known-rivals Inv-loop μ-loop
 enum-known-rivals c = c .match .keys1
@@ -48,15 +53,27 @@ enum-known-rivals c = c .match .keys1
 returns : tie.Need-returns Inv-loop μ-loop
 returns c =
     let r = c .before .before .before in
-    let l = r .before .before .before .before .before .loop in
-    search-rivals (l .inv) (r .before .before .before .before .loop-test .taken)
-    (rw (r .before .before .first-of .ensures, r .before .second-of .ensures, c .before .rivals .given .1) at (r .rivals-at .ensures))
+    let p = r .before .before .before .before in
+    search-rivals (p .before .before .before .loop .inv) (p .before .before .loop-test .taken)
+    (rw (
+      r .before .before .before .row-of .ensures .0,
+      p .first-of .ensures,
+      r .before .row-of2 .ensures .0,
+      r .before .before .second-of .ensures,
+      c .before .rivals .given .1,
+    ) at (r .rivals-at .ensures))
 
 enum-told : tie.Need-enum-told Inv-loop μ-loop
 enum-told c = c .match .keys2
 
 search-step-requires : tie.Need-search-step-requires Inv-loop μ-loop
-search-step-requires c κs = omega arith
+search-step-requires c κs =
+    let r = c .before .before .before in
+    let t = r .before .before .before .before .before .before in (
+      r .before .before .before .row-of .ensures .1,
+      r .before .row-of2 .ensures .1,
+      omega (arith, t .loop-test .taken, t .before .loop .inv .kept .most),
+    )
 
 add-at : tie.Need-add-at Inv-loop μ-loop
 add-at c = omega arith
@@ -68,14 +85,14 @@ loop-again : tie.Need-loop-again Inv-loop μ-loop
 loop-again c =
     let s = c .before .search-step in
     let r = c .before .before .before .before .before in
-    let l = r .before .before .before .before .before .loop in
-    rw (add-one, s .ensures)
-    (search-next (l .inv) (r .before .before .before .before .loop-test .taken) (omega arith)
-    (rw (
-      r .before .before .first-of .ensures,
-      r .before .second-of .ensures,
-      c .before .before .before .enum-told .given .1,
-    ) at (r .rivals-at .ensures)))
+    let p = r .before .before .before .before in
+    let left = r .before .before .before .row-of .ensures .0 in
+    let right = r .before .row-of2 .ensures .0 in
+    let first = p .first-of .ensures in
+    let second = r .before .before .second-of .ensures in
+    rw (add-one, s .ensures, left, first, right, second)
+    (search-next (p .before .before .before .loop .inv) (p .before .before .loop-test .taken)
+    (rw (left, first, right, second, c .before .before .before .enum-told .given .1) at (r .rivals-at .ensures)))
 
 returns-2 : tie.Need-returns-2 Inv-loop μ-loop
 returns-2 c = (c .before .loop .reached, search-done (c .before .loop .inv) (c .loop-test .left))
@@ -87,12 +104,14 @@ search-type-spec =
     Inv-loop
     μ-loop
     array-write-reached
-    slice-write-entries
+    slice-write-places
     loop-holds
     mul-entry
     element-copy-out-entry
     first-of-requires
+    row-of-requires
     second-of-requires
+    row-of-requires-2
     rivals-at-requires
     enum-known-rivals
     returns
