@@ -1,19 +1,20 @@
--- What a pass over the steps finds: the smallest type of the steps that it takes, and the states that they lead to by that type.
-use mathlib.Core.Path.{_≡_, refl, sym, subst}
+-- What a list of moves comes to: the smallest type among them, and the states that they lead to by that type.
+use mathlib.Core.Path.{_≡_, refl, sym, subst, ap, _∙_}
 use mathlib.Core.Logic.{_↔_, _⊎_, inl, inr, ⊎-elim, _≢_}
-use mathlib.Core.Bool.{Bool, true, false, _&&_, _||_}
-use mathlib.Core.List.{List}
-use Prim.Native.Nat.{ℕ, zero, suc, _+_, _^_, _≤_, _<_}
+use mathlib.Core.Bool.{Bool, true, false, _||_}
+use mathlib.Core.List.{List, [], _∷_, _++_, List·Memᴰ, List·Memᴰ·head, List·Memᴰ·tail, List·Memᴰ·cases-cons, List·Memᴰ·not-nil}
+use mathlib.Core.List.{List·Memᴰ·append-cases, List·Memᴰ·eq-of-singleton, Memᴰ·append-left, Memᴰ·append-right}
+use Prim.Native.Nat.{ℕ, zero, suc, _+_, _-_, _^_, _≤_, _<_}
 use native.Mathlib.Decide.{ℕ-discrete}
+use native.Mathlib.Numerals.{add-one}
 use native.Mathlib.Omega.{arith}
 use lib.Dec.{T, eqb, ltb, ltb→lt, lt→ltb, eqb→eq, eqb-refl}
 use Rattle.sdtd.specs.Limits.{mostStates}
-use Rattle.sdtd.proofs.Basics.{cond-either, and-parts, and-both}
+use Rattle.sdtd.proofs.Basics.{cond-either}
 use Rattle.schema.specs.States.{member, insert, noStates}
 use Rattle.schema.proofs.Bits.{member-none, insert-below, member-insert}
 use Rattle.reading.specs.declared.coming.Least.{Least}
-use Rattle.reading.specs.Layout.{moveAt}
-use Rattle.reading.specs.Coming.{least, noneYet, join, leastFrom}
+use Rattle.reading.specs.Coming.{least, noneYet, join, Move, move, joins, gathered, moveWhere}
 
 -- c has the smallest type of P, and the states that P has with it; none are kept where P has nothing
 pub record Smallest (P : ℕ → ℕ → Type 0) (c : Least) : Type 0 where
@@ -113,100 +114,110 @@ module _ (P : ℕ → ℕ → Type 0) (c : Least) (j q : ℕ) (state : q < mostS
           or-right true b h = tt
           or-right false b h = h
 
--- a step between the places s and e, under the tag g and from a state of the set, is by the type j to the state q
-pub record StepTaken (moves : List ℕ) (states g s e j q : ℕ) : Type 0 where
+-- P, and the moves of the list
+abbrev WithAll : (ℕ → ℕ → Type 0) → List Move → ℕ → ℕ → Type 0
+WithAll P ms j q = P j q ⊎ List·Memᴰ (move j q) ms
+
+-- the moves of a list lead to states
+abbrev pub ToStates : List Move → Type 0
+ToStates ms = (j q : ℕ) → List·Memᴰ (move j q) ms → q < mostStates
+
+-- the first move with P, and the others
+with-first : (P : ℕ → ℕ → Type 0) (m : Move) (ms : List Move) (j q : ℕ)
+    → WithAll (With P (m .by) (m .to)) ms j q ↔ WithAll P (m ∷ ms) j q
+with-first P m ms j q = (
+  ⊎-elim (⊎-elim inl (λ e. inr (List·Memᴰ·head (λ i. move (e .0 i) (e .1 i))))) (λ w. inr (List·Memᴰ·tail w)),
+  ⊎-elim (λ p. inl (inl p))
+      (λ w. ⊎-elim (λ e. inl (inr (ap (λ (x : Move). x .by) e, ap (λ (x : Move). x .to) e))) inr (List·Memᴰ·cases-cons w)),
+)
+
+joins-on : (P : ℕ → ℕ → Type 0) (ms : List Move) → ToStates ms → (c : Least) → Smallest P c → Smallest (WithAll P ms) (joins ms c)
+unfolding joins
+joins-on P [] to c s = smallest-same (λ j q. (inl, ⊎-elim (λ p. p) (λ w. absurd (List·Memᴰ·not-nil w)))) s
+joins-on P (m ∷ ms) to c s =
+    smallest-same (with-first P m ms)
+    (joins-on (With P (m .by) (m .to)) ms (λ j q w. to j q (List·Memᴰ·tail w)) (join c (m .by) (m .to))
+    (join-smallest P c (m .by) (m .to) (to (m .by) (m .to) (List·Memᴰ·head refl)) s))
+
+-- The moves of a list come to the smallest type among them, and to the states that they lead to by that type.
+pub joins-smallest : (ms : List Move) → ToStates ms → Smallest (λ j q. List·Memᴰ (move j q) ms) (joins ms noneYet)
+joins-smallest ms to = smallest-same (λ j q. (⊎-elim (λ p. absurd p) (λ w. w), inr)) (joins-on (λ j q. ⊥) ms to noneYet first)
+  where
+    first : Smallest (λ j q. ⊥) noneYet
+    first =
+        record {
+          kept-below = omega arith;
+          none = λ e j q t. t;
+          some = λ n. absurd (n refl);
+          least = λ j q t. absurd t;
+          keeps = λ q. (λ m. absurd (member-none q m), λ t. absurd t);
+        }
+
+-- first some moves and then others
+pub joins-append : (ms ns : List Move) (c : Least) → joins (ms ++ ns) c ≡ joins ns (joins ms c)
+unfolding joins
+joins-append [] ns c = refl
+joins-append (m ∷ ms) ns c = joins-append ms ns (join c (m .by) (m .to))
+
+-- A loop over the places from i up to the end: what is left, over what came so far, comes to y.
+module _ (f : ℕ → List Move) (i end : ℕ) where
+  -- a turn takes the first of the places left
+  pub joins-turn : (x x′ y : Least) → i < end → x′ ≡ joins (f i) x → joins (gathered f i (end - i)) x ≡ y
+      → joins (gathered f (i + 1) (end - (i + 1))) x′ ≡ y
+  unfolding gathered
+  joins-turn x x′ y l e h =
+      let q : end - i ≡ suc (end - (i + 1)) = omega arith in
+      let all : joins (f i ++ gathered f (suc i) (end - (i + 1))) x ≡ y = rw q at h in
+      rw (e, add-one i) (sym (joins-append (f i) (gathered f (suc i) (end - suc i)) x) ∙ (rw (add-one i) at all))
+
+  -- at the end none is left
+  pub joins-done : (x y : Least) → end ≤ i → joins (gathered f i (end - i)) x ≡ y → x ≡ y
+  unfolding gathered joins
+  joins-done x y l h = let q : end - i ≡ 0 = omega arith in rw q at h
+
+-- none is left either where no place has a move
+pub joins-nothing : (f : ℕ → List Move) (n i : ℕ) (x : Least) → ((k : ℕ) → i ≤ k → f k ≡ []) → joins (gathered f i n) x ≡ x
+unfolding gathered joins
+joins-nothing f zero i x none = refl
+joins-nothing f (suc n) i x none = rw (none i (omega arith)) (joins-nothing f n (suc i) x (λ k l. none k (omega arith)))
+
+-- a move of those gathered, and the place that has it
+pub record MoveAt (f : ℕ → List Move) (i n : ℕ) (m : Move) : Type 0 where
   pub place : ℕ
-  pub least : s ≤ place
-  pub most : place < e
-  pub under : moveAt moves place .tag ≡ g
-  pub from-kept : T (member (moveAt moves place .step .from) states)
-  pub by-type : j ≡ moveAt moves place .step .by
-  pub to-state : q ≡ moveAt moves place .step .to
+  pub least : i ≤ place
+  pub most : place < i + n
+  pub is : List·Memᴰ m (f place)
 
-module _ (moves : List ℕ) (states g s : ℕ) where
-  -- the steps taken before the place e
-  abbrev Before : ℕ → ℕ → ℕ → Type 0
-  Before e = StepTaken moves states g s e
+gathered-at : (f : ℕ → List Move) (i n : ℕ) (m : Move) → List·Memᴰ m (gathered f i n) → MoveAt f i n m
+unfolding gathered
+gathered-at f i zero m w = absurd (List·Memᴰ·not-nil w)
+gathered-at f i (suc n) m w =
+    ⊎-elim (λ h. record { place = i; least = omega arith; most = omega arith; is = h })
+    (λ h.
+    let p = gathered-at f (suc i) n m h in
+    record { place = p .place; least = omega (arith, p .least); most = omega (arith, p .most); is = p .is })
+    (List·Memᴰ·append-cases (f i) w)
 
-  moved : (e i : ℕ) {j q : ℕ} (t : Before e j q) → t .place < i → Before i j q
-  moved e i t l =
-      record {
-        place = t .place;
-        least = t .least;
-        most = l;
-        under = t .under;
-        from-kept = t .from-kept;
-        by-type = t .by-type;
-        to-state = t .to-state;
-      }
+gathered-from : (f : ℕ → List Move) (i n : ℕ) (m : Move) → MoveAt f i n m → List·Memᴰ m (gathered f i n)
+unfolding gathered
+gathered-from f i zero m p = absurd (omega (arith, p .least, p .most))
+gathered-from f i (suc n) m p =
+    elim (ℕ-discrete (p .place) i) [
+      | yes e ↦ Memᴰ·append-left (gathered f (suc i) n) (subst (λ (k : ℕ). List·Memᴰ m (f k)) e (p .is))
+      | no d ↦
+          Memᴰ·append-right (f i) (gathered-from f (suc i) n m
+          (record { place = p .place; least = omega (arith, p .least); most = omega (arith, p .most); is = p .is }))
+    ]
 
-  -- whether the step at the place i is taken
-  abbrev taken : ℕ → Bool
-  taken i = eqb (moveAt moves i .tag) g && member (moveAt moves i .step .from) states
+pub gathered-mem : (f : ℕ → List Move) (i n : ℕ) (m : Move) → List·Memᴰ m (gathered f i n) ↔ MoveAt f i n m
+gathered-mem f i n m = (gathered-at f i n m, gathered-from f i n m)
 
-  is-taken : (i e : ℕ) {j q : ℕ} (t : Before e j q) → t .place ≡ i → T (taken i)
-  is-taken i e t h =
-      rw (← h) (and-both (eqb (moveAt moves (t .place) .tag) g) (member (moveAt moves (t .place) .step .from) states)
-      (rw (t .under) (eqb-refl g)) (t .from-kept))
-
-  -- one more place, at which a step is taken
-  next-taken : (i : ℕ) → s ≤ i → T (taken i) → (j q : ℕ)
-      → With (Before i) (moveAt moves i .step .by) (moveAt moves i .step .to) j q ↔ Before (suc i) j q
-  next-taken i l h j q = (
-    ⊎-elim (λ t. moved i (suc i) t (omega arith)) (λ w. here w),
-    λ t. elim (ℕ-discrete (t .place) i) [
-      | yes e ↦ inr (rw (← e) (t .by-type, t .to-state))
-      | no n ↦ inl (moved (suc i) i t (omega arith))
-    ],
-  )
-    where
-      here : (j ≡ moveAt moves i .step .by) × (q ≡ moveAt moves i .step .to) → Before (suc i) j q
-      here w =
-          let parts = and-parts (eqb (moveAt moves i .tag) g) (member (moveAt moves i .step .from) states) h in
-          record {
-            place = i;
-            least = l;
-            most = omega arith;
-            under = eqb→eq (moveAt moves i .tag) g (parts .0);
-            from-kept = parts .1;
-            by-type = w .0;
-            to-state = w .1;
-          }
-
-  -- one more place, at which none is
-  next-other : (i : ℕ) → ¬ T (taken i) → (j q : ℕ) → Before i j q ↔ Before (suc i) j q
-  next-other i n j q = (
-    λ t. moved i (suc i) t (omega arith),
-    λ t. moved (suc i) i t (elim (ℕ-discrete (t .place) i) [ yes e ↦ absurd (n (is-taken i (suc i) t e)) | no d ↦ omega arith ]),
-  )
-
-  -- what came before the place i, and then at the n places from it on
-  least-on : (e : ℕ) → ((j q : ℕ) → Before e j q → q < mostStates) → (n i : ℕ) (c : Least) → s ≤ i → i + n ≡ e
-      → Smallest (Before i) c → Smallest (Before e) (leastFrom moves states g i n c)
-  unfolding leastFrom
-  least-on e bound zero i c l h f =
-      let same : i ≡ e = omega arith in
-      rw (← same) f
-  least-on e bound (suc n) i c l h f =
-      least-on e bound n (suc i) _ (omega arith) (omega arith)
-      (cond-either (Smallest (Before (suc i))) (taken i)
-      (λ t.
-      let here = next-taken i l t (moveAt moves i .step .by) (moveAt moves i .step .to) .0 (inr (refl, refl)) in
-      let w = bound (moveAt moves i .step .by) (moveAt moves i .step .to) (moved (suc i) e here (omega arith)) in
-      smallest-same (next-taken i l t) (join-smallest (Before i) c (moveAt moves i .step .by) (moveAt moves i .step .to) w f))
-      (λ t. smallest-same (next-other i t) f))
-
-  -- A pass over n steps from the place s on finds the smallest type of the steps that it takes, and the states they lead to by that type.
-  pub least-smallest : (n : ℕ) → ((j q : ℕ) → StepTaken moves states g s (s + n) j q → q < mostStates)
-      → Smallest (StepTaken moves states g s (s + n)) (leastFrom moves states g s n noneYet)
-  least-smallest n bound = least-on (s + n) bound n s noneYet (omega arith) refl first
-    where
-      first : Smallest (Before s) noneYet
-      first =
-          record {
-            kept-below = omega arith;
-            none = λ e j q t. omega arith;
-            some = λ n. absurd (n refl);
-            least = λ j q t. absurd (omega arith);
-            keeps = λ q. (λ m. absurd (member-none q m), λ t. absurd (omega arith));
-          }
+-- a move where a test holds
+pub where-mem : (b : Bool) (k p j q : ℕ) → List·Memᴰ (move j q) (moveWhere b k p) ↔ (T b × (j ≡ k) × (q ≡ p))
+where-mem true k p j q = (
+  λ w.
+      let e = List·Memᴰ·eq-of-singleton w in
+      (tt, ap (λ (x : Move). x .by) e, ap (λ (x : Move). x .to) e),
+  λ w. List·Memᴰ·head (λ i. move (w .1 i) (w .2 i)),
+)
+where-mem false k p j q = (λ w. absurd (List·Memᴰ·not-nil w), λ w. absurd (w .0))

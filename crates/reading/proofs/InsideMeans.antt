@@ -1,35 +1,37 @@
--- Inside an element: what the pass over its type's steps finds is what a call asks for.
-use mathlib.Core.Path.{_≡_, sym, _∙_, ap, subst}
+-- Inside an element: what its moves come to is what a call asks for, by the rows and by its type's own steps.
+use mathlib.Core.Path.{_≡_, refl, sym, subst, _∙_}
 use mathlib.Core.Logic.{_↔_}
-use mathlib.Core.List.{List, List·Memᴰ}
-use Prim.Native.Nat.{ℕ, _+_, _≤_, _<_}
+use mathlib.Core.Bool.{Bool, true, false, cond, _&&_}
+use mathlib.Core.List.{List, [], List·Memᴰ, List·Memᴰ·not-nil}
+use Prim.Native.Nat.{ℕ, suc, _+_, _-_, _/_, _%_, _^_, _≤_, _<_}
 use native.Mathlib.Omega.{arith}
-use lib.Dec.{T, eqb, eqb→eq}
+use lib.Dec.{T, eqb, eqb→eq, eqb-refl}
 use lib.ListN.{getD}
-use Rattle.sdtd.specs.Limits.{mostSteps}
-use Rattle.sdtd.specs.Schema.{Step, blockOf, tagOf}
+use Rattle.sdtd.specs.Limits.{mostTypes, mostStates, mostSteps}
+use Rattle.sdtd.specs.Schema.{Step, blockOf, tagOf, WithinLimits, step}
 use Rattle.sdtd.specs.Schema.{Schema as Meaning}
 use Rattle.sdtd.specs.Trim.{Bears, Live}
-use Rattle.sdtd.proofs.Basics.{cond-either}
-use Rattle.schema.specs.States.{member, noStates}
-use Rattle.schema.specs.Value.{offset, meaning}
+use Rattle.sdtd.proofs.Basics.{cond-either, and-parts, and-both}
+use Rattle.schema.specs.States.{member, noStates, bearsIn}
+use Rattle.schema.specs.Value.{stepAt, offset, meaning}
+use Rattle.schema.specs.Rows.{Counts, toIn, byIn, tagIn, rowPlace, RowsMean}
+use Rattle.schema.specs.Trimming.{LiveExactly}
 use Rattle.schema.specs.declared.value.Schema.{Schema}
-use Rattle.schema.proofs.Values.{AtPlace, steps-mem}
+use Rattle.schema.proofs.Values.{AtPlace, steps-mem, types-count, tag-of}
 use Rattle.schema.proofs.LimitLaws.{within-room}
 use Rattle.schema.proofs.Rounds.{steps-fit}
 use Rattle.schema.proofs.FirstTables.{Fits, own-step, own-steps}
-use Rattle.schema.specs.Trimming.{LiveExactly}
+use Rattle.schema.proofs.TablesExact.{bears-in}
+use Rattle.schema.proofs.RowLaws.{Says, counted-from, row-says, row-has}
 use Rattle.reading.specs.declared.value.Reading.{Reading}
 use Rattle.reading.specs.declared.coming.Least.{Least}
 use Rattle.reading.specs.Levels.{Within, innerType, innerSet}
 use Rattle.reading.specs.Questions.{LeadsTo, CanOpen}
-use Rattle.reading.specs.Layout.{Move, moveAt}
-use Rattle.reading.specs.Coming.{noneYet, leastFrom, comingOf, comingFrom}
-use Rattle.reading.specs.Examined.{BearsTable, labelOf, MovesOf}
-use Rattle.reading.proofs.LevelLaws.{tags-of, inner-below}
+use Rattle.reading.specs.Coming.{noneYet, Move, move, joins, comingOf, comingBy, entryMoves, stateMoves, stepTaken, stepMoves}
+use Rattle.reading.specs.Steps.{innerByRows, innerBySteps}
+use Rattle.reading.proofs.LevelLaws.{inner-below}
 use Rattle.reading.proofs.ComingMeans.{ComesNext, ComingMeans}
-use Rattle.reading.proofs.ComingLaws.{Smallest, smallest-same, StepTaken, least-smallest}
-use Rattle.reading.proofs.LabelLaws.{label-means}
+use Rattle.reading.proofs.ComingLaws.{Smallest, smallest-same, joins-smallest, gathered-mem, where-mem}
 
 -- the type j can be opened under the tag g inside the innermost element, and leads to the live state q
 record Opens (S : Meaning) (r : Reading) (g j q : ℕ) : Type 0 where
@@ -58,96 +60,170 @@ smallest-means S r g c d s =
               λ h p. (λ m. s .keeps p .0 m .leads, λ w. s .keeps p .1 (record { bears = o .bears; tag = o .tag; leads = w }));
         }
 
--- the places of the steps of the innermost element's type: from its offset to its end
+same-opens : {S : Meaning} {r : Reading} {g j q k p : ℕ} → j ≡ k → q ≡ p → Opens S r g k p → Opens S r g j q
+same-opens e f o = rw (e, f) o
+
+-- a step by a type that can be opened counts
+opens-counts : {S : Meaning} {r : Reading} {g j q : ℕ} (o : Opens S r g j q) → Counts S (innerType r) (step (o .leads .from) j q)
+opens-counts o = record { given = o .leads .step; bears = o .bears; live = o .leads .live }
+
+-- the moves by the types that can be opened come to what a call asks for
+moves-means : {S : Meaning} → WithinLimits S → (r : Reading) (g : ℕ) (ms : List Move) → 0 < r .depth
+    → ((j q : ℕ) → List·Memᴰ (move j q) ms ↔ Opens S r g j q) → ComingMeans S r g (comingBy ms)
+moves-means {S} within r g ms inside same =
+    smallest-means S r g (joins ms noneYet) inside
+    (smallest-same same (joins-smallest ms (λ j q m. counted-from within (opens-counts (same j q .0 m)) .1)))
+
+-- the moves of a row that counts
+chosen-mem : (b : Bool) (m : Move) (ms : List Move) → List·Memᴰ m (cond b ms []) ↔ (T b × List·Memᴰ m ms)
+chosen-mem true m ms = (λ w. (tt, w), λ w. w .1)
+chosen-mem false m ms = (λ w. absurd (List·Memᴰ·not-nil w), λ w. absurd (w .0))
+
+module _ {S : Meaning} (within : WithinLimits S) {entries begins : List ℕ} (rows : RowsMean S entries begins) (r : Reading) (g : ℕ) where
+  -- the moves at the state p of the innermost type, and at the place i of the entries
+  abbrev atState : ℕ → List Move
+  atState p = stateMoves entries begins g (innerSet r / 2 ^ p) (rowPlace (innerType r) p)
+
+  abbrev atEntry : ℕ → List Move
+  atEntry i = entryMoves g (getD entries i 0)
+
+  abbrev rowStart : ℕ → ℕ
+  rowStart p = getD begins (rowPlace (innerType r) p) 0
+
+  abbrev rowEnd : ℕ → ℕ
+  rowEnd p = getD begins (suc (rowPlace (innerType r) p)) 0
+
+  -- an entry under the tag, in the row of a state kept
+  said-opens : (p e : ℕ) → T (member p (innerSet r)) → T (eqb (tagIn e) g) → Says S (innerType r) p e → Opens S r g (byIn e) (toIn e)
+  said-opens p e kept under s =
+      record {
+        bears = s .counts .bears;
+        tag = sym (s .tag) ∙ eqb→eq (tagIn e) g under;
+        leads = record { from = p; kept = kept; step = s .counts .given; live = s .counts .live };
+      }
+
+  row-opens : (j q : ℕ) → List·Memᴰ (move j q) (innerByRows entries begins r g) → Opens S r g j q
+  row-opens j q m =
+      let p = gathered-mem atState 0 mostStates (move j q) .0 m in
+      let row = chosen-mem (member (p .place) (innerSet r)) (move j q) _ .0 (p .is) in
+      let i = gathered-mem atEntry (rowStart (p .place)) (rowEnd (p .place) - rowStart (p .place)) (move j q) .0 (row .1) in
+      let e = getD entries (i .place) 0 in
+      let w = where-mem (eqb (tagIn e) g) (byIn e) (toIn e) j q .0 (i .is) in
+      let says =
+      row-says within rows (innerType r) (p .place) e (omega (arith, p .most))
+      (record { place = i .place; least = i .least; most = omega (arith, i .least, i .most); is = refl }) in
+      same-opens (w .1) (w .2) (said-opens (p .place) e (row .0) (w .0) says)
+
+  opens-row : (j q : ℕ) → Opens S r g j q → List·Memᴰ (move j q) (innerByRows entries begins r g)
+  opens-row j q o =
+      let c = opens-counts o in
+      let p = o .leads .from in
+      let (e, i, reads) = row-has within rows c in
+      let under : T (eqb (tagIn e) g) = rw (reads .tag-is ∙ o .tag) (eqb-refl g) in
+      let here : List·Memᴰ (move j q) (atEntry (i .place)) =
+      rw (i .is) (where-mem (eqb (tagIn e) g) (byIn e) (toIn e) j q .1 (under, sym (reads .by-is), sym (reads .to-is))) in
+      let row =
+      gathered-mem atEntry (rowStart p) (rowEnd p - rowStart p) (move j q) .1
+      (record { place = i .place; least = i .least; most = omega (arith, i .least, i .most); is = here }) in
+      gathered-mem atState 0 mostStates (move j q) .1
+      (record {
+        place = p;
+        least = omega arith;
+        most = omega (arith, counted-from within c .0);
+        is = chosen-mem (member p (innerSet r)) (move j q) _ .1 (o .leads .kept, row);
+      })
+
+  -- inside an element the rows come to what a call asks for
+  pub rows-mean : 0 < r .depth → ComingMeans S r g (comingBy (innerByRows entries begins r g))
+  rows-mean inside = moves-means within r g (innerByRows entries begins r g) inside (λ j q. (row-opens j q, opens-row j q))
+
+-- the places of the steps of the innermost element's type: from its offset on
 abbrev start : Schema → Reading → ℕ
 start v r = offset (v .steps) (innerType r)
 
-abbrev end : Schema → Reading → ℕ
-end v r = start v r + getD (v .steps) (innerType r) 0
+abbrev count : Schema → Reading → ℕ
+count v r = getD (v .steps) (innerType r) 0
 
-module _ {v : Schema} {r : Reading} (fits : Fits v) (within : Within (meaning v) r) where
-  module _ (inside : 0 < r .depth) where
-    -- the steps of the innermost element's type lie inside the tables
-    pub inside-room : start v r + getD (v .steps) (innerType r) 0 ≤ mostSteps
-    inside-room =
-        omega (arith, within-room v (within .schema) .steps, steps-fit (v .steps) (innerType r) (v .types) (inner-below v r within inside))
+module _ {v : Schema} {r : Reading} (fits : Fits v) (within : Within (meaning v) r) (inside : 0 < r .depth) where
+  -- the steps of the innermost element's type lie inside the tables
+  pub inside-room : start v r + count v r ≤ mostSteps
+  inside-room =
+      omega (arith, within-room v (within .schema) .steps, steps-fit (v .steps) (innerType r) (v .types) (inner-below v r within inside))
 
-    -- a step of the innermost element's type, and its place
-    step-place : (x : Step)
-        → List·Memᴰ x (blockOf (meaning v) (innerType r) .steps)
-        ↔ AtPlace (v .from) (v .by) (v .to) (start v r) (getD (v .steps) (innerType r) 0) x
-    step-place x =
-        rw (own-steps fits (within .schema) (innerType r) (inner-below v r within inside))
-        (steps-mem (v .from) (v .by) (v .to) (start v r) (getD (v .steps) (innerType r) 0) x)
+  -- a step of the innermost element's type, and its place
+  step-place : (x : Step)
+      → List·Memᴰ x (blockOf (meaning v) (innerType r) .steps) ↔ AtPlace (v .from) (v .by) (v .to) (start v r) (count v r) x
+  step-place x =
+      rw (own-steps fits (within .schema) (innerType r) (inner-below v r within inside))
+      (steps-mem (v .from) (v .by) (v .to) (start v r) (count v r) x)
 
-    module _
-        (moves bears live : List ℕ) (bearing : BearsTable (meaning v) bears) (table : LiveExactly (meaning v) live)
-        (laid : MovesOf v bears live (innerType r) moves) (g : ℕ) (tag : g < v .tags) where
-      -- the tag under which a step of that type is taken
-      abbrev labelled : ℕ → ℕ → ℕ
-      labelled j q = labelOf (v .tag) bears (getD live (innerType r) 0) j q
+  module _ (live : List ℕ) (table : LiveExactly (meaning v) live) (g : ℕ) where
+    -- whether a step of that type is taken, and the moves at the place i
+    abbrev isTaken : Step → Bool
+    isTaken x = stepTaken (v .tag) live (getD live (innerType r) 0) (innerSet r) g x
 
-      same-label : {j k p q : ℕ} → j ≡ k → q ≡ p → labelled k p ≡ labelled j q
-      same-label e f = rw (e, f)
+    abbrev atStep : ℕ → List Move
+    atStep i = stepMoves (v .tag) live (getD live (innerType r) 0) (innerSet r) g (stepAt (v .from) (v .by) (v .to) i)
 
-      step-label : (x : Step) → List·Memᴰ x (blockOf (meaning v) (innerType r) .steps)
-          → (labelled (x .by) (x .to) ≡ g)
-          ↔ (Bears (meaning v) (x .by) × Live (meaning v) (innerType r) (x .to) × (tagOf (meaning v) (x .by) ≡ g))
-      step-label x m =
-          label-means v bears live bearing table (innerType r) (x .by) (x .to) g (omega (arith, tags-of v, within .schema .tags-most))
-          (own-step fits (within .schema) (innerType r) x m .by)
+    -- the four tests of a step by the type j, which is read at the entry j
+    module _ (x : Step) (m : List·Memᴰ x (blockOf (meaning v) (innerType r) .steps)) where
+      at-own : x .by % mostTypes ≡ x .by
+      at-own = own-step fits (within .schema) (innerType r) x m .by
 
-      -- the steps taken are those by the types that can be opened
-      taken-opens : (j q : ℕ) → StepTaken moves (innerSet r) g (start v r) (end v r) j q ↔ Opens (meaning v) r g j q
-      taken-opens j q = (opens, taken)
-        where
-          opens : StepTaken moves (innerSet r) g (start v r) (end v r) j q → Opens (meaning v) r g j q
-          opens t =
-              let here = laid (t .place) (t .least) (t .most) in
-              let by : j ≡ getD (v .by) (t .place) 0 = t .by-type ∙ ap (λ (m : Move). m .step .by) here in
-              let to : q ≡ getD (v .to) (t .place) 0 = t .to-state ∙ ap (λ (m : Move). m .step .to) here in
-              let x : Step = record { from = getD (v .from) (t .place) 0; by = j; to = q } in
-              let m = step-place x .1 (record { place = t .place; least = t .least; most = t .most; is = rw (by, to) }) in
-              let labels : labelled j q ≡ g = sym (same-label by to) ∙ sym (ap (λ (m : Move). m .tag) here) ∙ t .under in
-              let w = step-label x m .0 labels in
-              let from : moveAt moves (t .place) .step .from ≡ getD (v .from) (t .place) 0 = ap (λ (m : Move). m .step .from) here in
-              record {
-                bears = w .0;
-                tag = w .2;
-                leads =
-                    record {
-                      from = x .from;
-                      kept = subst (λ (p : ℕ). T (member p (innerSet r))) from (t .from-kept);
-                      step = m;
-                      live = w .1;
-                    };
-              }
+      abbrev under : Bool
+      under = eqb (getD (v .tag) (x .by % mostTypes) 0) g
 
-          taken : Opens (meaning v) r g j q → StepTaken moves (innerSet r) g (start v r) (end v r) j q
-          taken o =
-              let x : Step = record { from = o .leads .from; by = j; to = q } in
-              let p = step-place x .0 (o .leads .step) in
-              let here = laid (p .place) (p .least) (p .most) in
-              let from : o .leads .from ≡ getD (v .from) (p .place) 0 = ap (λ (s : Step). s .from) (p .is) in
-              let by : j ≡ getD (v .by) (p .place) 0 = ap (λ (s : Step). s .by) (p .is) in
-              let to : q ≡ getD (v .to) (p .place) 0 = ap (λ (s : Step). s .to) (p .is) in
-              let labels : labelled j q ≡ g = step-label x (o .leads .step) .1 (o .bears, o .leads .live, o .tag) in
-              record {
-                place = p .place;
-                least = p .least;
-                most = p .most;
-                under = ap (λ (m : Move). m .tag) here ∙ same-label by to ∙ labels;
-                from-kept = subst (λ (p : ℕ). T (member p (innerSet r))) (from ∙ sym (ap (λ (m : Move). m .step .from) here)) (o .leads .kept);
-                by-type = by ∙ sym (ap (λ (m : Move). m .step .by) here);
-                to-state = to ∙ sym (ap (λ (m : Move). m .step .to) here);
-              }
+      abbrev bearing : Bool
+      bearing = bearsIn live (x .by % mostTypes)
 
-  -- inside an element the pass over its steps finds what a call asks for
-  pub inside-means : (moves bears live : List ℕ) {g : ℕ} → 0 < r .depth → BearsTable (meaning v) bears → LiveExactly (meaning v) live
-      → MovesOf v bears live (innerType r) moves → g < v .tags
-      → ComingMeans (meaning v) r g (comingFrom moves (innerSet r) g (start v r) (getD (v .steps) (innerType r) 0))
-  inside-means moves bears live {g} inside bearing table laid tag =
-      let same = taken-opens inside moves bears live bearing table laid g tag in
-      smallest-means (meaning v) r g (leastFrom moves (innerSet r) g (start v r) (getD (v .steps) (innerType r) 0) noneYet) inside
-      (smallest-same same (least-smallest moves (innerSet r) g (start v r) (getD (v .steps) (innerType r) 0)
-      (λ j q t. own-step fits (within .schema) (innerType r) _ (same j q .0 t .leads .step) .to)))
+      abbrev toLive : Bool
+      toLive = member (x .to) (getD live (innerType r) 0)
+
+      own-tag : x .by < v .types → getD (v .tag) (x .by % mostTypes) 0 ≡ tagOf (meaning v) (x .by)
+      own-tag l = rw at-own (sym (tag-of v (x .by) l))
+
+      type-below : Bears (meaning v) (x .by) → Live (meaning v) (innerType r) (x .to) → x .by < v .types
+      type-below b l = rw types-count at (counted-from (within .schema) (record { given = m; bears = b; live = l }) .2)
+
+      taken-opens : T (isTaken x) → Opens (meaning v) r g (x .by) (x .to)
+      taken-opens t =
+          let both = and-parts (under && member (x .from) (innerSet r)) (bearing && toLive) t in
+          let first = and-parts under (member (x .from) (innerSet r)) (both .0) in
+          let second = and-parts bearing toLive (both .1) in
+          let b : Bears (meaning v) (x .by) = bears-in (meaning v) live table (x .by) .0 (rw at-own at (second .0)) in
+          let l = table (innerType r) (x .to) .0 (second .1) in
+          record {
+            bears = b;
+            tag = sym (own-tag (type-below b l)) ∙ eqb→eq (getD (v .tag) (x .by % mostTypes) 0) g (first .0);
+            leads = record { from = x .from; kept = first .1; step = m; live = l };
+          }
+
+      opens-taken : T (member (x .from) (innerSet r)) → Bears (meaning v) (x .by) → Live (meaning v) (innerType r) (x .to)
+          → tagOf (meaning v) (x .by) ≡ g → T (isTaken x)
+      opens-taken kept b l e =
+          and-both (under && member (x .from) (innerSet r)) (bearing && toLive)
+          (and-both under (member (x .from) (innerSet r)) (rw (own-tag (type-below b l) ∙ e) (eqb-refl g)) kept)
+          (and-both bearing toLive (rw at-own (bears-in (meaning v) live table (x .by) .1 b)) (table (innerType r) (x .to) .1 l))
+
+    step-opens : (j q : ℕ) → List·Memᴰ (move j q) (innerBySteps v live r g) → Opens (meaning v) r g j q
+    step-opens j q m =
+        let p = gathered-mem atStep (start v r) (count v r) (move j q) .0 m in
+        let x = stepAt (v .from) (v .by) (v .to) (p .place) in
+        let w = where-mem (isTaken x) (x .by) (x .to) j q .0 (p .is) in
+        let given = step-place x .1 (record { place = p .place; least = p .least; most = p .most; is = refl }) in
+        same-opens (w .1) (w .2) (taken-opens x given (w .0))
+
+    opens-step : (j q : ℕ) → Opens (meaning v) r g j q → List·Memᴰ (move j q) (innerBySteps v live r g)
+    opens-step j q o =
+        let x = step (o .leads .from) j q in
+        let p = step-place x .0 (o .leads .step) in
+        let t = opens-taken x (o .leads .step) (o .leads .kept) (o .bears) (o .leads .live) (o .tag) in
+        let here : List·Memᴰ (move j q) (atStep (p .place)) =
+        subst (λ (y : Step). List·Memᴰ (move j q) (stepMoves (v .tag) live (getD live (innerType r) 0) (innerSet r) g y)) (p .is)
+        (where-mem (isTaken x) j q j q .1 (t, refl, refl)) in
+        gathered-mem atStep (start v r) (count v r) (move j q) .1
+        (record { place = p .place; least = p .least; most = p .most; is = here })
+
+    -- inside an element its type's own steps come to what a call asks for
+    pub steps-mean : ComingMeans (meaning v) r g (comingBy (innerBySteps v live r g))
+    steps-mean = moves-means (within .schema) r g (innerBySteps v live r g) inside (λ j q. (step-opens j q, opens-step j q))

@@ -5,7 +5,6 @@ pub mod LayoutLaws
 pub mod StepWays
 pub mod ComingLaws
 pub mod ComingMeans
-pub mod LabelLaws
 pub mod InsideMeans
 pub mod RootMeans
 pub mod StepLaws

@@ -1,20 +1,21 @@
 -- The steps over an examined schema answer what the calls promise.
-use mathlib.Core.Path.{_≡_, refl, sym, ap, _∙_}
+use mathlib.Core.Path.{_≡_, refl, sym, _∙_}
 use mathlib.Core.Logic.{_↔_, _⊎_, inl, inr}
 use mathlib.Core.Bool.{Bool, true, false, cond, _&&_}
-use mathlib.Core.List.{[], _∷_}
-use Prim.Native.Nat.{ℕ, _+_, _^_, _≤_, _<_}
+use mathlib.Core.List.{List, [], _∷_}
+use Prim.Native.Nat.{ℕ, _^_, _≤_, _<_}
 use native.Mathlib.Omega.{arith}
 use borrow.Author.Tests.{ne-eqb}
 use lib.Dec.{T, eqb, leb, eqb→eq, leb→le, le→leb, eqb-refl}
 use lib.ListN.{getD, drop}
-use Rattle.sdtd.specs.Limits.{mostTags, mostStates, mostSteps, mostLevels}
+use Rattle.sdtd.specs.Limits.{mostTags, mostStates, mostLevels}
 use Rattle.sdtd.specs.Schema.{Schema as Meaning}
 use Rattle.sdtd.specs.Document.{Event, opening, closing, finish}
 use Rattle.sdtd.specs.Answer.{ask, Ordered}
 use Rattle.sdtd.proofs.Basics.{cond-either, and-parts, is-true, is-false, not-both}
 use Rattle.schema.specs.States.{meet}
-use Rattle.schema.specs.Value.{offset, meaning}
+use Rattle.schema.specs.Value.{meaning}
+use Rattle.schema.specs.Trimming.{LiveExactly}
 use Rattle.schema.specs.declared.value.Schema.{Schema}
 use Rattle.schema.proofs.FirstTables.{Fits}
 use Rattle.reading.specs.declared.value.Reading.{Reading}
@@ -26,13 +27,14 @@ use Rattle.reading.specs.declared.layout.Layout.{Layout}
 use Rattle.reading.specs.declared.steps.Inner.{Inner}
 use Rattle.reading.specs.Levels.{innerType, innerSet, Within}
 use Rattle.reading.specs.Questions.{gives, refuses, questions, TakenBy, Ends, CallMeans}
-use Rattle.reading.specs.Layout.{Row, row}
-use Rattle.reading.specs.Examined.{LaidOut}
-use Rattle.reading.specs.Steps.{StepTables, stepTables, innerRow, comingAt, openBy, openStep, inner, innerOf, closeStep, closeStepIn}
-use Rattle.reading.specs.Steps.{finishStep, Steady, InnerFits}
-use Rattle.reading.proofs.LevelLaws.{tags-of, tag-below, inner-below, inner-most, inner-tag, ends-meets}
+use Rattle.reading.specs.Layout.{tagOfHead, acceptingOfHead}
+use Rattle.reading.specs.Coming.{Move, comingBy}
+use Rattle.reading.specs.Examined.{HeadsMean, LaidOut}
+use Rattle.reading.specs.Steps.{StepTables, stepTables, comingAt, openBy, openStep, openByRows, openBySteps, inner, innerOf, closeStep, closeStepIn}
+use Rattle.reading.specs.Steps.{finishStep, Steady, InnerFits, OwnFits}
+use Rattle.reading.proofs.LevelLaws.{tags-of, inner-below, inner-most, inner-tag, ends-meets}
 use Rattle.reading.proofs.ComingMeans.{ComingMeans}
-use Rattle.reading.proofs.InsideMeans.{inside-room, inside-means}
+use Rattle.reading.proofs.InsideMeans.{rows-mean, inside-room, steps-mean}
 use Rattle.reading.proofs.RootMeans.{root-means}
 
 not-leb : (m n : ℕ) → ¬ T (leb m n) → n < m
@@ -97,7 +99,7 @@ stands-steady v {r} w = record { depth = w .reading .depth; inner = inner-most v
 
 -- the tables of the layout, and the schema's count of tags
 abbrev pub tablesOf : Schema → Layout → StepTables
-tablesOf v l = stepTables (l .moves) (l .blocks) (l .opens) (v .tags)
+tablesOf v l = stepTables (l .entries) (l .begins) (l .heads) (v .tags)
 
 module _ {v : Schema} {r : Reading} (fits : Fits v) (within : Within (meaning v) r) where
   tags-most : v .tags ≤ mostTags
@@ -122,38 +124,33 @@ module _ {v : Schema} {r : Reading} (fits : Fits v) (within : Within (meaning v)
       let d : ¬ (r .depth ≡ 0) = λ e. n (rw e tt) in
       omega arith
 
-  module _ {l : Layout} (laid : LaidOut v l) where
-    -- the blocks' entries of the innermost type
-    inner-row : 0 < r .depth
-        → innerRow (l .blocks) r
-        ≡ row (getD (v .tag) (innerType r) 0) (getD (v .accepting) (innerType r) 0) (offset (v .steps) (innerType r)) (getD (v .steps) (innerType r) 0)
-    inner-row d = laid .blocks (innerType r) (inner-below v r within d)
-
-    -- with no element open, and inside one
-    pub coming-at-means : (g : ℕ) → g < v .tags → ComingMeans (meaning v) r g (comingAt (l .moves) (l .blocks) (l .opens) r g)
+  -- an opening by the heads, and inside an element by its moves
+  module _ {heads : List ℕ} (headed : HeadsMean v heads) (g : ℕ) (moves : List Move)
+      (inside-means : 0 < r .depth → ComingMeans (meaning v) r g (comingBy moves)) where
+    coming-at-means : g < v .tags → ComingMeans (meaning v) r g (comingAt heads moves r g)
     unfolding comingAt
-    coming-at-means g m =
+    coming-at-means m =
         cond-either (ComingMeans (meaning v) r g) (eqb (r .depth) 0)
-        (λ h. root-means (meaning v) r (eqb→eq (r .depth) 0 h) g (l .opens) (laid .opens g (omega (arith, tags-most))))
-        (λ n.
-        let inside = some-open n in
-        rw (ap (λ (x : Row). x .start) (inner-row inside), ap (λ (x : Row). x .count) (inner-row inside))
-        (inside-means fits within (l .moves) (laid .bears) (laid .live) inside (laid .bears-exact) (laid .live-exact) (laid .moves (innerType r) (inner-below v r within inside)) m))
+        (λ h. root-means (meaning v) r (eqb→eq (r .depth) 0 h) g heads (headed .opens g (omega (arith, tags-most))))
+        (λ n. inside-means (some-open n))
 
-    pub open-step-means : (g : ℕ) → CallMeans (meaning v) r (opening g) (openStep (tablesOf v l) r g)
+    open-step-means : CallMeans (meaning v) r (opening g) (openStep (v .tags) r g (comingAt heads moves r g))
     unfolding openStep
-    open-step-means g = tag-asked (Rest (meaning v) r (opening g) 3) g (λ m. open-by-means (comingAt (l .moves) (l .blocks) (l .opens) r g) (coming-at-means g m))
+    open-step-means = tag-asked (Rest (meaning v) r (opening g) 3) g (λ m. open-by-means (comingAt heads moves r g) (coming-at-means m))
 
-    -- what the code of an opening asks for
-    pub stands-fit : (v .tags ≤ mostTags) × InnerFits (l .blocks) r
-    stands-fit = (tags-most, record { steady = stands-steady v within; tag = tag; room = room })
-      where
-        tag : 0 < r .depth → innerRow (l .blocks) r .tag < mostTags
-        tag d = rw (ap (λ (x : Row). x .tag) (inner-row d)) (tag-below v (within .schema) (innerType r) (inner-below v r within d))
+  pub open-rows-means : {l : Layout} → LaidOut v l → (g : ℕ) → CallMeans (meaning v) r (opening g) (openByRows (tablesOf v l) r g)
+  open-rows-means laid g = open-step-means (laid .heads) g _ (rows-mean (within .schema) (laid .rows) r g)
 
-        room : 0 < r .depth → innerRow (l .blocks) r .start + innerRow (l .blocks) r .count ≤ mostSteps
-        room d =
-            rw (ap (λ (x : Row). x .start) (inner-row d), ap (λ (x : Row). x .count) (inner-row d)) (inside-room fits within d)
+  pub open-steps-means : (live : List ℕ) {heads : List ℕ} → LiveExactly (meaning v) live → HeadsMean v heads
+      → (g : ℕ) → CallMeans (meaning v) r (opening g) (openBySteps v live heads r g)
+  open-steps-means live table headed g = open-step-means headed g _ (λ inside. steps-mean fits within inside live table g)
+
+  -- what the code of an opening asks for
+  pub stands-fit : {l : Layout} → LaidOut v l → (v .tags ≤ mostTags) × InnerFits (l .begins) r
+  stands-fit laid = (tags-most, record { steady = stands-steady v within; rows = laid .rows .inside })
+
+  pub stands-own : (v .tags ≤ mostTags) × OwnFits v r
+  stands-own = (tags-most, record { steady = stands-steady v within; room = λ d. inside-room fits within d })
 
   module _ (sets : (n : ℕ) → getD (r .sets) n 0 < 2 ^ mostStates) where
     -- 17
@@ -189,6 +186,13 @@ module _ {v : Schema} {r : Reading} (fits : Fits v) (within : Within (meaning v)
     unfolding innerOf
     close-step-means g = close-means _ (λ d. chosen _ _ d) g
 
-    pub close-in-means : {l : Layout} → LaidOut v l → (g : ℕ) → CallMeans (meaning v) r (closing g) (closeStepIn (l .blocks) (v .tags) r g)
+    pub close-in-means : {heads : List ℕ} → HeadsMean v heads → (g : ℕ) → CallMeans (meaning v) r (closing g) (closeStepIn heads (v .tags) r g)
     unfolding closeStepIn
-    close-in-means laid g = close-means _ (λ d. chosen _ _ d ∙ ap (λ (x : Row). inner (x .tag) (x .accepting)) (inner-row laid d)) g
+    close-in-means {heads} headed g = close-means _ (λ d. chosen _ _ d ∙ own d) g
+      where
+        own : 0 < r .depth
+            → inner (tagOfHead heads (innerType r)) (acceptingOfHead heads (innerType r))
+            ≡ inner (getD (v .tag) (innerType r) 0) (getD (v .accepting) (innerType r) 0)
+        own d =
+            let l = inner-below v r within d in
+            rw (headed .tag (innerType r) l, headed .accepting (innerType r) l)

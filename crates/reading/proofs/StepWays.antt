@@ -3,13 +3,13 @@ use mathlib.Core.Path.{_≡_, sym, ap, _∙_}
 use mathlib.Core.Bool.{true, false}
 use mathlib.Core.Logic.{_≢_}
 use mathlib.Core.List.{List}
-use Prim.Native.Nat.{ℕ, suc, _+_, _-_, _≤_, _<_}
+use Prim.Native.Nat.{ℕ, suc, _+_, _-_, _%_, _≤_, _<_}
 use native.Mathlib.Omega.{arith}
 use borrow.Author.Tests.{eq-eqb, ne-eqb, le-leb, lt-leb}
 use lib.Dec.{eqb}
 use lib.ListN.{getD, set}
 use Rattle.sdtd.specs.declared.TypeNo.{TypeNo}
-use Rattle.sdtd.specs.Limits.{mostLevels}
+use Rattle.sdtd.specs.Limits.{mostTags, mostLevels}
 use Rattle.schema.specs.States.{meet}
 use Rattle.reading.specs.declared.value.Reading.{Reading}
 use Rattle.reading.specs.declared.calls.EventAnswer.the-variants.{Typed, Taken, Refused}
@@ -18,10 +18,11 @@ use Rattle.reading.specs.declared.coming.Coming.the-variants.{Nothing, O
 use Rattle.reading.specs.declared.steps.Standing.{Standing}
 use Rattle.reading.specs.declared.steps.Stepped.{Stepped}
 use Rattle.reading.specs.declared.steps.Inner.{Inner}
+use Rattle.reading.specs.Levels.{innerType, innerSet}
 use Rattle.reading.specs.Questions.{gives, opened, closed, afterFinish, setsAfter}
-use Rattle.reading.specs.Layout.{blockTag, blockAccepting, blockStart, blockCount, opensUnder}
-use Rattle.reading.specs.Coming.{comingFrom}
-use Rattle.reading.specs.Steps.{StepTables, readingOf, nextOf, comingAt, openBy, openStep, inner, noneOpen, closeStep, closeStepIn, finishStep}
+use Rattle.reading.specs.Layout.{headTag, headAccepting}
+use Rattle.reading.specs.Coming.{Move, comingBy}
+use Rattle.reading.specs.Steps.{readingOf, nextOf, comingFirst, comingAt, openBy, openStep, inner, noneOpen, closeStep, closeStepIn, finishStep}
 use Rattle.reading.proofs.LevelLaws.{sub-one}
 
 -- a refusal leaves the reading as it was
@@ -78,63 +79,58 @@ module _ (own : Inner) (tags : ℕ) (r : Reading) (g : ℕ) where
         unfolding closeStep
         close-taken o w = rw (f, lt-leb tags g l, ne-eqb (r .depth) 0 d, o, rw (sub-one (r .depth)) at w)
 
--- a closing by the blocks
-module _ (blocks : List ℕ) (tags : ℕ) (r : Reading) (g : ℕ) where
-  pub close-none : r .depth ≡ 0 → closeStep noneOpen tags r g ≡ closeStepIn blocks tags r g
+-- a closing by the heads
+module _ (heads : List ℕ) (tags : ℕ) (r : Reading) (g : ℕ) where
+  pub close-none : r .depth ≡ 0 → closeStep noneOpen tags r g ≡ closeStepIn heads tags r g
   unfolding closeStepIn
   close-none d = rw (eq-eqb (r .depth) 0 d)
 
-  pub close-inner : r .depth ≢ 0 → (t a : ℕ) → t ≡ blockTag (getD (r .types) (r .depth - 1) 0) → a ≡ blockAccepting (getD (r .types) (r .depth - 1) 0)
-      → closeStep (inner (getD blocks t 0) (getD blocks a 0)) tags r g ≡ closeStepIn blocks tags r g
+  pub close-inner : r .depth ≢ 0 → (t a : ℕ) → t ≡ headTag (getD (r .types) (r .depth - 1) 0) → a ≡ headAccepting (getD (r .types) (r .depth - 1) 0)
+      → closeStep (inner (getD heads t 0 % mostTags) (getD heads a 0)) tags r g ≡ closeStepIn heads tags r g
   unfolding closeStepIn
   close-inner d t a te ae = rw (te, ae, sub-one (r .depth), ne-eqb (r .depth) 0 d)
 
 -- what comes next
-module _ (moves blocks opens : List ℕ) (r : Reading) (g : ℕ) where
-  pub coming-rooted : r .depth ≡ 0 → r .rooted ≡ true → Nothing ≡ comingAt moves blocks opens r g
+module _ (heads : List ℕ) (r : Reading) (g : ℕ) where
+  pub coming-none : (moves : List Move) → r .depth ≡ 0 → comingFirst heads (r .rooted) g ≡ comingAt heads moves r g
   unfolding comingAt
-  coming-rooted d o = rw (eq-eqb (r .depth) 0 d, o)
+  coming-none moves d = rw (eq-eqb (r .depth) 0 d)
 
-  pub coming-root : r .depth ≡ 0 → r .rooted ≡ false → opensUnder opens g ≡ comingAt moves blocks opens r g
+  pub coming-inside : (ms : ℕ → ℕ → List Move) → r .depth ≢ 0
+      → comingBy (ms (getD (r .types) (r .depth - 1) 0) (getD (r .sets) (r .depth - 1) 0)) ≡ comingAt heads (ms (innerType r) (innerSet r)) r g
   unfolding comingAt
-  coming-root d o = rw (eq-eqb (r .depth) 0 d, o)
-
-  pub coming-inside : r .depth ≢ 0 → (s n : ℕ) → s ≡ blockStart (getD (r .types) (r .depth - 1) 0) → n ≡ blockCount (getD (r .types) (r .depth - 1) 0)
-      → comingFrom moves (getD (r .sets) (r .depth - 1) 0) g (getD blocks s 0) (getD blocks n 0) ≡ comingAt moves blocks opens r g
-  unfolding comingAt
-  coming-inside d s n se ne = rw (se, ne, sub-one (r .depth), ne-eqb (r .depth) 0 d)
+  coming-inside ms d = rw (sub-one (r .depth), ne-eqb (r .depth) 0 d)
 
 -- an opening
-module _ (t : StepTables) (r : Reading) (g : ℕ) where
-  pub open-finished : r .finished ≡ true → gives (Refused 11) r ≡ openStep t r g
+module _ (tags : ℕ) (r : Reading) (g : ℕ) (c : Coming) where
+  pub open-finished : r .finished ≡ true → gives (Refused 11) r ≡ openStep tags r g c
   unfolding openStep
   open-finished f = rw f
 
   module _ (f : r .finished ≡ false) where
-    pub open-tag : t .tags ≤ g → gives (Refused 12) r ≡ openStep t r g
+    pub open-tag : tags ≤ g → gives (Refused 12) r ≡ openStep tags r g c
     unfolding openStep
-    open-tag l = rw (f, le-leb (t .tags) g l)
+    open-tag l = rw (f, le-leb tags g l)
 
-    module _ (l : g < t .tags) {c : Coming} (e : c ≡ comingAt (t .moves) (t .blocks) (t .opens) r g) where
-      open-by : openBy r c ≡ openStep t r g
-      unfolding openStep
-      open-by =
-          let asked : openBy r (comingAt (t .moves) (t .blocks) (t .opens) r g) ≡ openStep t r g = rw (f, lt-leb (t .tags) g l) in
-          ap (λ (x : Coming). openBy r x) e ∙ asked
+    pub open-by : g < tags → openBy r c ≡ openStep tags r g c
+    unfolding openStep
+    open-by l = rw (f, lt-leb tags g l)
 
-      pub open-none : c ≡ Nothing → gives (Refused 13) r ≡ openStep t r g
-      open-none n = ap (openBy r) (sym n) ∙ open-by
+-- an opening by what comes next
+module _ (r : Reading) (c : Coming) where
+  pub open-none : c ≡ Nothing → gives (Refused 13) r ≡ openBy r c
+  open-none n = ap (openBy r) (sym n)
 
-      module _ (j : TypeNo) (kept : ℕ) (n : c ≡ OfType j kept) where
-        pub open-deep : mostLevels ≤ r .depth → gives (Refused 14) r ≡ openStep t r g
-        open-deep d =
-            let deep : gives (Refused 14) r ≡ openBy r (OfType j kept) = rw (le-leb mostLevels (r .depth) d) in
-            deep ∙ ap (openBy r) (sym n) ∙ open-by
+  module _ (j : TypeNo) (kept : ℕ) (n : c ≡ OfType j kept) where
+    pub open-deep : mostLevels ≤ r .depth → gives (Refused 14) r ≡ openBy r c
+    open-deep d =
+        let deep : gives (Refused 14) r ≡ openBy r (OfType j kept) = rw (le-leb mostLevels (r .depth) d) in
+        deep ∙ ap (openBy r) (sym n)
 
-        pub open-taken : r .depth < mostLevels → gives (Typed j) (opened r (j .0) kept) ≡ openStep t r g
-        open-taken d =
-            let room : gives (Typed j) (opened r (j .0) kept) ≡ openBy r (OfType j kept) = rw (lt-leb mostLevels (r .depth) d) in
-            room ∙ ap (openBy r) (sym n) ∙ open-by
+    pub open-taken : r .depth < mostLevels → gives (Typed j) (opened r (j .0) kept) ≡ openBy r c
+    open-taken d =
+        let room : gives (Typed j) (opened r (j .0) kept) ≡ openBy r (OfType j kept) = rw (lt-leb mostLevels (r .depth) d) in
+        room ∙ ap (openBy r) (sym n)
 
 -- one level more is the reading opened
 pub descended : (s : Stepped) (at : Standing) (types sets types' sets' : List ℕ) (j : TypeNo) (kept : ℕ)

@@ -29,9 +29,9 @@ use Rattle.events.specs.Events.{Events, ends, stray, eventAt, eventsOf}
 use Rattle.reading.specs.Passage.{TakenCall, stops, Passes}
 use Rattle.reading.specs.EventFile.{byCalls, numberOf, placeOf}
 use Rattle.reading.specs.Examined.{LaidOut}
-use Rattle.reading.specs.Steps.{StepTables, openStep, closeStepIn, finishStep}
+use Rattle.reading.specs.Steps.{StepTables, openByRows, closeStepIn, finishStep}
 use Rattle.reading.specs.Turns.{Walked, stop, turnBy, turnTo, turnEnd, turnOn, turnOf}
-use Rattle.reading.proofs.StepLaws.{tablesOf, open-step-means, close-in-means, finish-step-means}
+use Rattle.reading.proofs.StepLaws.{tablesOf, open-rows-means, close-in-means, finish-step-means}
 use Rattle.events.proofs.EventLaws.{Ends, event-ends}
 use Rattle.events.proofs.EventPlaces.{Stands, event-stands}
 use Rattle.reading.proofs.SetsKept.{Below}
@@ -104,11 +104,11 @@ module _ {v : Schema} (fits : Fits v) {l : Layout} (laid : LaidOut v l) {file : 
   by-event : (e : FileEvent) → Stands file (w .at) e → Ends file (w .at) e
       → TurnSound (meaning v) file cs w (turnOn (tablesOf v l) (length file) w e)
   by-event (Open g) stands inside =
-      answered k going (opening (g .0)) (openStep (tablesOf v l) (w .reading) (g .0))
-      (open-step-means fits (k .reading .within) laid (g .0)) stands inside _ refl
+      answered k going (opening (g .0)) (openByRows (tablesOf v l) (w .reading) (g .0))
+      (open-rows-means fits (k .reading .within) laid (g .0)) stands inside _ refl
   by-event (Close g) stands inside =
-      answered k going (closing (g .0)) (closeStepIn (l .blocks) (v .tags) (w .reading) (g .0))
-      (close-in-means fits (k .reading .within) (k .reading .below) laid (g .0)) stands inside _ refl
+      answered k going (closing (g .0)) (closeStepIn (l .heads) (v .tags) (w .reading) (g .0))
+      (close-in-means fits (k .reading .within) (k .reading .below) (laid .heads) (g .0)) stands inside _ refl
   by-event Finish stands inside =
       answered k going finish (finishStep (w .reading)) (finish-step-means (k .reading .within)) stands inside _ refl
   by-event NoEvent stands inside = end-sound k going stands
@@ -138,8 +138,8 @@ module _ (t : StepTables) (file : List ℕ) (w : Walked) (going : w .going ≡ t
 
   event-less : (e : FileEvent) → Ends file (w .at) e
       → toGo file (turnOn t (length file) w e) < toGo file w
-  event-less (Open g) l = next-less _ (openStep t (w .reading) (g .0)) (omega arith) l
-  event-less (Close g) l = next-less _ (closeStepIn (t .blocks) (t .tags) (w .reading) (g .0)) (omega arith) l
+  event-less (Open g) l = next-less _ (openByRows t (w .reading) (g .0)) (omega arith) l
+  event-less (Close g) l = next-less _ (closeStepIn (t .heads) (t .tags) (w .reading) (g .0)) (omega arith) l
   event-less Finish l = next-less _ (finishStep (w .reading)) (omega arith) l
   event-less NoEvent l = rw going (omega arith)
 

@@ -13,7 +13,7 @@ use Rattle.events.specs.declared.decoder.FileEvent.the-variants.{Open, Close, F
 use Rattle.reading.specs.declared.event_file.Walking.{Walking}
 use Rattle.reading.specs.declared.steps.Stepped.{Stepped}
 use Rattle.events.specs.Events.{size, eventAt}
-use Rattle.reading.specs.Steps.{StepTables, readingOf, nextOf, openStep, closeStepIn, Finishes}
+use Rattle.reading.specs.Steps.{StepTables, readingOf, nextOf, openByRows, closeStepIn, Finishes}
 use Rattle.reading.specs.Turns.{Walked, standingOf, walkedOf, stop, turnBy, turnTo, AfterStep, EndsHere, turnOn, turnOf}
 
 -- what follows a refusal
@@ -34,11 +34,11 @@ module _ (t : StepTables) (file : List ℕ) (w : Walking) (types sets : List ℕ
   matched d case = ap (turnOn t (length file) (walkedOf w types sets)) (sym case ∙ stands)
 
   module _ (s : Stepped) (types′ sets′ : List ℕ) (r : Walking) where
-    pub turn-open : (g : Tag) → e ≡ Open g → nextOf s types′ sets′ ≡ openStep t (readingOf (standingOf w) types sets) (g .0)
+    pub turn-open : (g : Tag) → e ≡ Open g → nextOf s types′ sets′ ≡ openByRows t (readingOf (standingOf w) types sets) (g .0)
         → AfterStep w s (w .at + size (Open g)) r → walkedOf r types′ sets′ ≡ turnOf t file (walkedOf w types sets)
     turn-open g case step after = stepped w types sets s _ types′ sets′ r _ after step ∙ matched (Open g) case
 
-    pub turn-close : (g : Tag) → e ≡ Close g → nextOf s types′ sets′ ≡ closeStepIn (t .blocks) (t .tags) (readingOf (standingOf w) types sets) (g .0)
+    pub turn-close : (g : Tag) → e ≡ Close g → nextOf s types′ sets′ ≡ closeStepIn (t .heads) (t .tags) (readingOf (standingOf w) types sets) (g .0)
         → AfterStep w s (w .at + size (Close g)) r → walkedOf r types′ sets′ ≡ turnOf t file (walkedOf w types sets)
     turn-close g case step after = stepped w types sets s _ types′ sets′ r _ after step ∙ matched (Close g) case
 

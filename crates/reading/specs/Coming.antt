@@ -1,17 +1,20 @@
 -- What the private steps of the calls compute: the type that comes next inside an element, and the check of the open levels.
-use mathlib.Core.Bool.{cond, _&&_, _||_}
-use mathlib.Core.List.{List}
-use Prim.Native.Nat.{ℕ, zero, suc, _%_, _≤_, _<_}
+use mathlib.Core.Bool.{Bool, cond, _&&_, _||_}
+use mathlib.Core.List.{List, [], _∷_, _++_}
+use Prim.Native.Nat.{ℕ, zero, suc, _-_, _/_, _%_, _^_, _≤_, _<_}
 use lib.Dec.{T, eqb, ltb}
 use lib.ListN.{getD}
-use Rattle.sdtd.specs.Limits.{mostTypes, mostLevels}
+use Rattle.sdtd.specs.Limits.{mostTypes, mostStates, mostLevels}
 use Rattle.sdtd.specs.Numbered.{typeNo}
-use Rattle.schema.specs.States.{member, insert, noStates}
+use Rattle.sdtd.specs.Schema.{Step}
+use Rattle.schema.specs.States.{member, insert, noStates, bearsIn}
+use Rattle.schema.specs.Rows.{toIn, byIn, tagIn, rowPlace}
+use Rattle.schema.specs.Value.{stepAt, offset}
+use Rattle.schema.specs.declared.value.Schema.{Schema}
 use Rattle.reading.specs.declared.value.Reading.{Reading}
 use Rattle.reading.specs.declared.coming.Coming.{Coming}
 use Rattle.reading.specs.declared.coming.Coming.the-variants.{Nothing, OfType}
 use Rattle.reading.specs.declared.coming.Least.{Least}
-use Rattle.reading.specs.Layout.{moveAt}
 
 -- a type and the states that it leads to; where none is kept, no type came yet
 abbrev pub least : ℕ → ℕ → Least
@@ -26,21 +29,66 @@ join c j q =
     cond (eqb j (c .of .0)) (least j (insert q (c .kept)))
     (cond (eqb (c .kept) noStates || ltb j (c .of .0)) (least j (insert q noStates)) c)
 
--- the smallest type under the tag g from the states of the set, by the n steps from the place i on, after what came so far
-unfoldable pub leastFrom : List ℕ → ℕ → ℕ → ℕ → ℕ → Least → Least
-leastFrom moves states g i zero c = c
-leastFrom moves states g i (suc n) c =
-    leastFrom moves states g (suc i) n
-    (cond (eqb (moveAt moves i .tag) g && member (moveAt moves i .step .from) states)
-    (join c (moveAt moves i .step .by) (moveAt moves i .step .to)) c)
+-- a move: the type that it is by, and the state that it leads to
+pub record Move : Type 0 where
+  pub by : ℕ
+  pub to : ℕ
+
+abbrev pub move : ℕ → ℕ → Move
+move by to = record { by = by; to = to }
+
+-- the moves, one after another, after what came so far
+unfoldable pub joins : List Move → Least → Least
+joins [] c = c
+joins (m ∷ ms) c = joins ms (join c (m .by) (m .to))
 
 -- what the smallest type is, if one came
 unfoldable pub comingOf : Least → Coming
 comingOf c = cond (eqb (c .kept) noStates) Nothing (OfType (c .of) (c .kept))
 
--- what comes next under the tag g from the states of the set, by the n steps from the place i on
-abbrev pub comingFrom : List ℕ → ℕ → ℕ → ℕ → ℕ → Coming
-comingFrom moves states g i n = comingOf (leastFrom moves states g i n noneYet)
+-- what comes next by the moves
+abbrev pub comingBy : List Move → Coming
+comingBy moves = comingOf (joins moves noneYet)
+
+-- the moves at the n places from i on
+unfoldable pub gathered : (ℕ → List Move) → ℕ → ℕ → List Move
+gathered f i zero = []
+gathered f i (suc n) = f i ++ gathered f (suc i) n
+
+-- the move by j to q where it is one, else none
+abbrev pub moveWhere : Bool → ℕ → ℕ → List Move
+moveWhere b j q = cond b (move j q ∷ []) []
+
+-- the move of the entry e under the tag g
+abbrev pub entryMoves : ℕ → ℕ → List Move
+entryMoves g e = moveWhere (eqb (tagIn e) g) (byIn e) (toIn e)
+
+-- those of the entries from start up to end
+abbrev pub rowMoves : List ℕ → ℕ → ℕ → ℕ → List Move
+rowMoves entries g start end = gathered (λ i. entryMoves g (getD entries i 0)) start (end - start)
+
+-- those of the row i, where the lowest digit of `left` is 1
+abbrev pub stateMoves : List ℕ → List ℕ → ℕ → ℕ → ℕ → List Move
+stateMoves entries begins g left i = cond (eqb (left % 2) 1) (rowMoves entries g (getD begins i 0) (getD begins (suc i) 0)) []
+
+-- the moves under the tag g from the states of the set, by the rows of the type a
+abbrev pub movesByRows : List ℕ → List ℕ → ℕ → ℕ → ℕ → List Move
+movesByRows entries begins a states g = gathered (λ p. stateMoves entries begins g (states / 2 ^ p) (rowPlace a p)) 0 mostStates
+
+-- the step s is taken under the tag g: its type has the tag and bears a tree, it leads from a state of the set, and into one of the live
+-- states `own`
+abbrev pub stepTaken : List ℕ → List ℕ → ℕ → ℕ → ℕ → Step → Bool
+stepTaken tag live own states g s =
+    (eqb (getD tag (s .by % mostTypes) 0) g && member (s .from) states) && (bearsIn live (s .by % mostTypes) && member (s .to) own)
+
+-- the same moves by the type's own steps: the n from the place i on
+abbrev pub stepMoves : List ℕ → List ℕ → ℕ → ℕ → ℕ → Step → List Move
+stepMoves tag live own states g s = moveWhere (stepTaken tag live own states g s) (s .by) (s .to)
+
+abbrev pub movesBySteps : Schema → List ℕ → ℕ → ℕ → ℕ → List Move
+movesBySteps v live a states g =
+    gathered (λ i. stepMoves (v .tag) live (getD live a 0) states g (stepAt (v .from) (v .by) (v .to) i)) (offset (v .steps) a)
+    (getD (v .steps) a 0)
 
 -- a level's type is below the count, and its set below that type's states
 pub record LevelFits (types : ℕ) (states : List ℕ) (a set : ℕ) : Type 0 where

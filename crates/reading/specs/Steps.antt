@@ -1,13 +1,15 @@
 -- What the private steps over a schema laid out and lent levels compute; question 10 is asked before.
 use mathlib.Core.Path.{_≡_}
-use mathlib.Core.Bool.{cond, _&&_}
+use mathlib.Core.Bool.{Bool, cond, _&&_}
 use mathlib.Core.List.{List}
 use Prim.Native.Nat.{ℕ, _+_, _≤_, _<_}
 use lib.Dec.{eqb, leb}
 use lib.ListN.{getD}
-use Rattle.sdtd.specs.Limits.{mostTags, mostLevels, mostSteps, mostTypes}
+use Rattle.sdtd.specs.Limits.{mostLevels, mostSteps, mostTypes}
 use Rattle.sdtd.specs.Numbered.{tagNo}
 use Rattle.schema.specs.States.{meet, noStates}
+use Rattle.schema.specs.Value.{offset}
+use Rattle.schema.specs.declared.value.Schema.{Schema}
 use Rattle.reading.specs.declared.value.Reading.{Reading}
 use Rattle.reading.specs.declared.calls.EventAnswer.the-variants.{Typed, Taken, Refused}
 use Rattle.reading.specs.declared.calls.Next.{Next}
@@ -18,8 +20,8 @@ use Rattle.reading.specs.declared.steps.Stepped.{Stepped}
 use Rattle.reading.specs.declared.steps.Inner.{Inner}
 use Rattle.reading.specs.Levels.{innerType, innerSet}
 use Rattle.reading.specs.Questions.{gives, opened, closed, afterFinish}
-use Rattle.reading.specs.Layout.{Row, rowAt, opensUnder}
-use Rattle.reading.specs.Coming.{comingFrom}
+use Rattle.reading.specs.Layout.{tagOfHead, acceptingOfHead, opensUnder}
+use Rattle.reading.specs.Coming.{Move, comingBy, movesByRows, movesBySteps}
 
 -- the reading that stands there with these levels
 abbrev pub readingOf : Standing → List ℕ → List ℕ → Reading
@@ -31,34 +33,45 @@ nextOf s types sets = gives (s .answer) (readingOf (s .standing) types sets)
 
 -- the tables of a schema laid out, and its count of tags
 pub record StepTables : Type 0 where
-  pub moves : List ℕ
-  pub blocks : List ℕ
-  pub opens : List ℕ
+  pub entries : List ℕ
+  pub begins : List ℕ
+  pub heads : List ℕ
   pub tags : ℕ
 
 abbrev pub stepTables : List ℕ → List ℕ → List ℕ → ℕ → StepTables
-stepTables moves blocks opens tags = record { moves = moves; blocks = blocks; opens = opens; tags = tags }
+stepTables entries begins heads tags = record { entries = entries; begins = begins; heads = heads; tags = tags }
 
--- what the blocks say of the innermost type
-abbrev pub innerRow : List ℕ → Reading → Row
-innerRow blocks r = rowAt blocks (innerType r)
+-- what comes next under the tag g where no element is open, and no root came or one did
+abbrev pub comingFirst : List ℕ → Bool → ℕ → Coming
+comingFirst heads rooted g = cond rooted Nothing (opensUnder heads g)
 
--- what comes next under the tag g
-unfoldable pub comingAt : List ℕ → List ℕ → List ℕ → Reading → ℕ → Coming
-comingAt moves blocks opens r g =
-    cond (eqb (r .depth) 0) (cond (r .rooted) Nothing (opensUnder opens g))
-    (comingFrom moves (innerSet r) g (innerRow blocks r .start) (innerRow blocks r .count))
+-- what comes next under the tag g: inside an element, by its moves
+unfoldable pub comingAt : List ℕ → List Move → Reading → ℕ → Coming
+comingAt heads moves r g = cond (eqb (r .depth) 0) (comingFirst heads (r .rooted) g) (comingBy moves)
+
+-- the moves of the innermost element, by the rows, and by its type's own steps
+abbrev pub innerByRows : List ℕ → List ℕ → Reading → ℕ → List Move
+innerByRows entries begins r g = movesByRows entries begins (innerType r) (innerSet r) g
+
+abbrev pub innerBySteps : Schema → List ℕ → Reading → ℕ → List Move
+innerBySteps v live r g = movesBySteps v live (innerType r) (innerSet r) g
 
 -- an opening, by what comes next
 abbrev pub openBy : Reading → Coming → Next
 openBy r Nothing = gives (Refused 13) r
 openBy r (OfType j kept) = cond (leb mostLevels (r .depth)) (gives (Refused 14) r) (gives (Typed j) (opened r (j .0) kept))
 
--- an opening of g
-unfoldable pub openStep : StepTables → Reading → ℕ → Next
-openStep t r g =
-    cond (r .finished) (gives (Refused 11) r)
-    (cond (leb (t .tags) g) (gives (Refused 12) r) (openBy r (comingAt (t .moves) (t .blocks) (t .opens) r g)))
+-- an opening of g, by what comes next under it
+unfoldable pub openStep : ℕ → Reading → ℕ → Coming → Next
+openStep tags r g c = cond (r .finished) (gives (Refused 11) r) (cond (leb tags g) (gives (Refused 12) r) (openBy r c))
+
+-- an opening of g, by the rows
+abbrev pub openByRows : StepTables → Reading → ℕ → Next
+openByRows t r g = openStep (t .tags) r g (comingAt (t .heads) (innerByRows (t .entries) (t .begins) r g) r g)
+
+-- an opening of g, by the steps of the schema's value
+abbrev pub openBySteps : Schema → List ℕ → List ℕ → Reading → ℕ → Next
+openBySteps v live heads r g = openStep (v .tags) r g (comingAt heads (innerBySteps v live r g) r g)
 
 -- a closing of g, where the innermost element has its own tag and accepting states
 unfoldable pub closeStep : Inner → ℕ → Reading → ℕ → Next
@@ -80,10 +93,10 @@ noneOpen = inner 0 noStates
 unfoldable pub innerOf : List ℕ → List ℕ → Reading → Inner
 innerOf tag accepting r = cond (eqb (r .depth) 0) noneOpen (inner (getD tag (innerType r) 0) (getD accepting (innerType r) 0))
 
--- a closing of g, by the blocks
+-- a closing of g, by the heads
 unfoldable pub closeStepIn : List ℕ → ℕ → Reading → ℕ → Next
-closeStepIn blocks tags r g =
-    closeStep (cond (eqb (r .depth) 0) noneOpen (inner (innerRow blocks r .tag) (innerRow blocks r .accepting))) tags r g
+closeStepIn heads tags r g =
+    closeStep (cond (eqb (r .depth) 0) noneOpen (inner (tagOfHead heads (innerType r)) (acceptingOfHead heads (innerType r)))) tags r g
 
 -- a finish
 unfoldable pub finishStep : Reading → Next
@@ -95,11 +108,15 @@ pub record Steady (r : Reading) : Type 0 where
   pub depth : r .depth ≤ mostLevels
   pub inner : 0 < r .depth → innerType r < mostTypes
 
--- the tag of the innermost type is one, and its steps lie inside the tables
-pub record InnerFits (blocks : List ℕ) (r : Reading) : Type 0 where
+-- the same, and each row ends inside the entries
+pub record InnerFits (begins : List ℕ) (r : Reading) : Type 0 where
   pub steady : Steady r
-  pub tag : 0 < r .depth → innerRow blocks r .tag < mostTags
-  pub room : 0 < r .depth → innerRow blocks r .start + innerRow blocks r .count ≤ mostSteps
+  pub rows : (i : ℕ) → getD begins i 0 ≤ mostSteps
+
+-- the same, and the innermost type's own steps lie inside the tables of steps
+pub record OwnFits (v : Schema) (r : Reading) : Type 0 where
+  pub steady : Steady r
+  pub room : 0 < r .depth → offset (v .steps) (innerType r) + getD (v .steps) (innerType r) 0 ≤ mostSteps
 
 -- what a closing does, whatever the types of the levels
 abbrev pub Closes : Inner → ℕ → List ℕ → Standing → ℕ → Stepped → Type 0

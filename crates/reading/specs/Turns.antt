@@ -15,7 +15,7 @@ use Rattle.reading.specs.declared.event_file.Walking.{Walking}
 use Rattle.reading.specs.declared.steps.Standing.{Standing}
 use Rattle.reading.specs.declared.steps.Stepped.{Stepped}
 use Rattle.events.specs.Events.{size, eventAt}
-use Rattle.reading.specs.Steps.{StepTables, readingOf, openStep, closeStepIn, finishStep}
+use Rattle.reading.specs.Steps.{StepTables, readingOf, openByRows, closeStepIn, finishStep}
 
 -- how far a walk has come: whether it goes on, the number and the place so far, and the reading
 pub record Walked : Type 0 where
@@ -64,8 +64,8 @@ EndsHere end w r = (types sets : List ℕ) → walkedOf r types sets ≡ turnEnd
 
 -- one event of the file, by the tables of the schema; the file ends at `end`
 abbrev pub turnOn : StepTables → ℕ → Walked → FileEvent → Walked
-turnOn t end w (Open g) = turnTo w (w .at + size (Open g)) (openStep t (w .reading) (g .0))
-turnOn t end w (Close g) = turnTo w (w .at + size (Close g)) (closeStepIn (t .blocks) (t .tags) (w .reading) (g .0))
+turnOn t end w (Open g) = turnTo w (w .at + size (Open g)) (openByRows t (w .reading) (g .0))
+turnOn t end w (Close g) = turnTo w (w .at + size (Close g)) (closeStepIn (t .heads) (t .tags) (w .reading) (g .0))
 turnOn t end w Finish = turnTo w (w .at + size Finish) (finishStep (w .reading))
 turnOn t end w NoEvent = turnEnd end w
 

@@ -1,29 +1,37 @@
 // Opening, closing and finish: each takes a reading and hands back the one that follows, with the answer.
-use crate::examined::examine;
+use crate::coming::Coming;
+use crate::examined::heads;
+use crate::layout::HEADS;
 use crate::levels::levels_within;
+use crate::own_steps::coming_steps;
 use crate::steps::Inner;
 use crate::steps::NONE_OPEN;
 use crate::steps::Standing;
 use crate::steps::Stepped;
+use crate::steps::coming_first;
+use crate::steps::open_by;
+use crate::steps::stays;
 use crate::steps::step_close;
 use crate::steps::step_finish;
-use crate::steps::step_open;
 use crate::value::LEVELS;
 use crate::value::Reading;
 use schema::Schema;
 use schema::StateSet;
 use schema::TYPES;
+use schema::live;
 use schema::within;
 use sdtd::Tag;
 use sdtd::TypeNo;
 ghost use mathlib.Core.Path.{_≡_};
 ghost use mathlib.Core.Logic.{_↔_};
+ghost use Prim.Native.Nat.{_≤_, _<_};
 ghost use lib.Dec.{T};
+ghost use Rattle.sdtd.specs.Limits.{mostTags};
 ghost use Rattle.sdtd.specs.Document.{opening, closing, finish};
 ghost use Rattle.schema.specs.Value.{meaning};
 ghost use Rattle.reading.specs.Levels.{Within, fresh};
 ghost use Rattle.reading.specs.Questions.{CallMeans, gives};
-ghost use Rattle.reading.specs.Steps.{readingOf, nextOf, innerOf, Steady};
+ghost use Rattle.reading.specs.Steps.{readingOf, nextOf, comingAt, innerBySteps, openBySteps, innerOf, Steady, OwnFits};
 
 // The answer to an event: an opening's type, taken for a closing or a finish, or a refusal's number.
 pub enum EventAnswer {
@@ -88,6 +96,52 @@ fn inner_of<'a>(
     }
 }
 
+// What comes next under the tag g, by the steps of the innermost type.
+fn coming_own<'a>(
+    schema: Schema,
+    live: [u32; TYPES],
+    heads: &'a [u32; HEADS],
+    types: &'a [u8; LEVELS],
+    sets: &'a [u32; LEVELS],
+    at: Standing,
+    g: Tag,
+) -> Coming
+    requires { ⌜ (g .0 < mostTags) × OwnFits schema (readingOf at (now types) (now sets)) ⌝ }
+    ensures { λ r. ⌜ r ≡ comingAt (now (heads .entry)) (innerBySteps schema live (readingOf at (now (types .entry)) (now (sets .entry))) (g .0))
+        (readingOf at (now (types .entry)) (now (sets .entry))) (g .0) ⌝ }
+{
+    let depth = at.depth as usize;
+    if depth == 0 {
+        return coming_first(heads, at.rooted, g);
+    }
+    let inner = TypeNo(types[depth - 1]);
+    coming_steps(schema, live, inner, sets[depth - 1], g)
+}
+
+// An opening of the tag g, by the steps of the innermost type.
+fn step_open_own<'a>(
+    schema: Schema,
+    live: [u32; TYPES],
+    heads: &'a [u32; HEADS],
+    types: &'a mut [u8; LEVELS],
+    sets: &'a mut [u32; LEVELS],
+    at: Standing,
+    g: Tag,
+) -> Stepped
+    requires { ⌜ (schema .tags ≤ mostTags) × OwnFits schema (readingOf at (now types) (now sets)) ⌝ }
+    ensures { λ r. ⌜ nextOf r (now (types .exit)) (now (sets .exit))
+        ≡ openBySteps schema live (now (heads .entry)) (readingOf at (now (types .entry)) (now (sets .entry))) (g .0) ⌝ }
+{
+    if at.finished {
+        return stays(11, at);
+    }
+    if schema.tags <= g.0 {
+        return stays(12, at);
+    }
+    let next = coming_own(schema, live, heads, types, sets, at, g);
+    open_by(types, sets, at, next)
+}
+
 // Question 10.
 fn both_within(schema: Schema, reading: Reading) -> bool
     ensures { λ r. ⌜ T r ↔ Within (meaning schema) reading ⌝ }
@@ -117,8 +171,8 @@ impl Reading {
     pub fn open(self, schema: Schema, tag: Tag) -> Next
         ensures { λ n. ⌜ CallMeans (meaning schema) self (opening (tag .0)) n ⌝ }
     {
-        let layout = examine(schema);
-        if !layout.inside {
+        let found = live(schema);
+        if !found.inside {
             return refused(10, self);
         }
         let states = schema.states;
@@ -132,16 +186,9 @@ impl Reading {
         };
         let mut types = self.types;
         let mut sets = self.sets;
-        let step = step_open(
-            &layout.moves,
-            &layout.blocks,
-            &layout.opens,
-            schema.tags,
-            &mut types,
-            &mut sets,
-            at,
-            tag,
-        );
+        let live = found.live;
+        let heads = heads(schema, live);
+        let step = step_open_own(schema, live, &heads, &mut types, &mut sets, at, tag);
         with_levels(step, types, sets)
     }
 

@@ -1,19 +1,20 @@
 // Which type comes next under a tag, inside an element: the smallest that leads from the states kept to a live state.
-use crate::layout::MOVES;
-use crate::layout::move_by;
-use crate::layout::move_from;
-use crate::layout::move_tag;
-use crate::layout::move_to;
+use schema::BEGINS;
+use schema::Entry;
+use schema::STATES;
+use schema::STEPS;
 use schema::StateSet;
 use sdtd::Tag;
 use sdtd::TypeNo;
 ghost use mathlib.Core.Path.{_≡_};
 ghost use mathlib.Core.Bool.{cond, not, _&&_};
+ghost use Prim.Native.Nat.{ℕ, _≤_, _<_};
 ghost use lib.Dec.{eqb, ltb};
+ghost use lib.ListN.{getD};
+ghost use Rattle.sdtd.specs.Limits.{mostTypes, mostSteps};
 ghost use Rattle.schema.specs.States.{noStates};
-ghost use Prim.Native.Nat.{_+_, _≤_};
-ghost use Rattle.sdtd.specs.Limits.{mostSteps};
-ghost use Rattle.reading.specs.Coming.{comingFrom, comingOf};
+ghost use Rattle.schema.specs.Rows.{mostRows};
+ghost use Rattle.reading.specs.Coming.{joins, entryMoves, rowMoves, stateMoves, movesByRows, comingOf, comingBy};
 ghost use Rattle.reading.specs.Coming.{join as joined};
 
 // What comes next under a tag: nothing, or a type and the states that it leads to.
@@ -27,6 +28,11 @@ pub(crate) struct Least {
     pub of: TypeNo,
     pub kept: u32,
 }
+
+pub(crate) const NONE_YET: Least = Least {
+    of: TypeNo(0),
+    kept: StateSet::NONE.0,
+};
 
 // Does a smaller type than j stand there already? That it is the same type is asked first, which most steps answer.
 fn smaller_there(best: Least, j: TypeNo) -> bool
@@ -55,7 +61,7 @@ fn kept_for(best: Least, j: TypeNo) -> u32
 
 // A step by j to q, beside what came so far: the same type adds the state; the first type or a smaller one replaces what came; a larger one
 // changes nothing.
-fn join(best: Least, j: TypeNo, q: u8) -> Least
+pub(crate) fn join(best: Least, j: TypeNo, q: u8) -> Least
     ensures { λ r. ⌜ r ≡ joined best (j .0) q ⌝ }
 {
     if smaller_there(best, j) {
@@ -69,7 +75,7 @@ fn join(best: Least, j: TypeNo, q: u8) -> Least
 }
 
 // The smallest type of all, if one came.
-fn coming_of(least: Least) -> Coming
+pub(crate) fn coming_of(least: Least) -> Coming
     ensures { λ r. ⌜ r ≡ comingOf least ⌝ }
 {
     if least.kept == StateSet::NONE.0 {
@@ -79,30 +85,74 @@ fn coming_of(least: Least) -> Coming
     Coming::OfType(of, least.kept)
 }
 
-// What comes next under the tag g from the states of the set, by the n steps from start on.
-pub(crate) fn coming_from(
-    moves: &[u8; MOVES],
-    start: usize,
-    n: usize,
+// A table's entry as a place: a parameter is known to fit its type, and an element behind a reference is not.
+fn place(n: u16) -> usize
+    ensures { λ r. ⌜ r ≡ n ⌝ }
+{
+    n as usize
+}
+
+// An entry, if it is under the tag g, after what came so far.
+fn join_entry(e: Entry, g: Tag, best: Least) -> Least
+    ensures { λ r. ⌜ r ≡ joins (entryMoves (g .0) (e .0)) best ⌝ }
+{
+    if !e.tag().same(g) {
+        return best;
+    }
+    join(best, e.by(), e.to())
+}
+
+// The entries under the tag g from start up to end, after what came so far.
+fn join_row(entries: &[u32; STEPS], start: usize, end: usize, g: Tag, best: Least) -> Least
+    requires { ⌜ end ≤ mostSteps ⌝ }
+    ensures { λ r. ⌜ r ≡ joins (rowMoves (now (entries .entry)) (g .0) start end) best ⌝ }
+{
+    let mut least = best;
+    let mut i = start;
+    while i < end {
+        least = join_entry(Entry(entries[i]), g, least);
+        i += 1;
+    }
+    least
+}
+
+// The row i, if the lowest bit of `left` is set.
+fn join_state<'a>(
+    entries: &'a [u32; STEPS],
+    begins: &'a [u16; BEGINS],
+    i: usize,
+    left: u32,
+    g: Tag,
+    best: Least,
+) -> Least
+    requires { ⌜ (i < mostRows) × ((k : ℕ) → getD (now begins) k 0 ≤ mostSteps) ⌝ }
+    ensures { λ r. ⌜ r ≡ joins (stateMoves (now (entries .entry)) (now (begins .entry)) (g .0) left i) best ⌝ }
+{
+    if left % 2 == 0 {
+        return best;
+    }
+    join_row(entries, place(begins[i]), place(begins[i + 1]), g, best)
+}
+
+// What comes next under the tag g from the states of the set, by the rows of the type a.
+pub(crate) fn coming_rows<'a>(
+    entries: &'a [u32; STEPS],
+    begins: &'a [u16; BEGINS],
+    a: TypeNo,
     states: u32,
     g: Tag,
 ) -> Coming
-    requires { ⌜ start + n ≤ mostSteps ⌝ }
-    ensures { λ r. ⌜ r ≡ comingFrom (now (moves .entry)) states (g .0) start n ⌝ }
+    requires { ⌜ (a .0 < mostTypes) × ((k : ℕ) → getD (now begins) k 0 ≤ mostSteps) ⌝ }
+    ensures { λ r. ⌜ r ≡ comingBy (movesByRows (now (entries .entry)) (now (begins .entry)) (a .0) states (g .0)) ⌝ }
 {
-    let mut best = Least {
-        of: TypeNo(0),
-        kept: StateSet::NONE.0,
-    };
-    let end = start + n;
-    let mut i = start;
-    while i < end {
-        if Tag(moves[move_tag(i)]).same(g) {
-            if StateSet(states).has(moves[move_from(i)]) {
-                best = join(best, TypeNo(moves[move_by(i)]), moves[move_to(i)]);
-            }
-        }
-        i += 1;
+    let mut best = NONE_YET;
+    let first = STATES as usize * a.0 as usize;
+    let mut left = states;
+    let mut p = 0;
+    while left != 0 {
+        best = join_state(entries, begins, first + p, left, g, best);
+        left /= 2;
+        p += 1;
     }
     coming_of(best)
 }

@@ -1,9 +1,7 @@
 // The event file's answer: one event after another, from a fresh reading, until the first refusal.
 use crate::calls::EventAnswer;
 use crate::examined::examine;
-use crate::layout::BLOCKS;
-use crate::layout::MOVES;
-use crate::layout::OPENS;
+use crate::layout::HEADS;
 use crate::steps::Standing;
 use crate::steps::Stepped;
 use crate::steps::step_close_in;
@@ -14,6 +12,8 @@ use events::ALONE;
 use events::FileEvent;
 use events::WITH_TAG;
 use events::walk_to;
+use schema::BEGINS;
+use schema::STEPS;
 use schema::Schema;
 use schema::StateSet;
 ghost use mathlib.Core.Path.{_≡_};
@@ -102,18 +102,18 @@ fn at_no_event(end: usize, w: Walking) -> Walking
 
 // One event of the file.
 fn turn<'a>(
-    moves: &'a [u8; MOVES],
-    blocks: &'a [u32; BLOCKS],
-    opens: &'a [u8; OPENS],
+    entries: &'a [u32; STEPS],
+    begins: &'a [u16; BEGINS],
+    heads: &'a [u32; HEADS],
     tags: u8,
     events: &'a [u8],
     types: &'a mut [u8; LEVELS],
     sets: &'a mut [u32; LEVELS],
     w: Walking,
 ) -> Walking
-    requires { ⌜ (tags ≤ mostTags) × InnerFits (now blocks) (readingOf (standingOf w) (now types) (now sets)) ⌝ }
+    requires { ⌜ (tags ≤ mostTags) × InnerFits (now begins) (readingOf (standingOf w) (now types) (now sets)) ⌝ }
     ensures { λ r. ⌜ walkedOf r (now (types .exit)) (now (sets .exit))
-        ≡ turnOf (stepTables (now (moves .entry)) (now (blocks .entry)) (now (opens .entry)) tags) (now (events .entry))
+        ≡ turnOf (stepTables (now (entries .entry)) (now (begins .entry)) (now (heads .entry)) tags) (now (events .entry))
         (walkedOf w (now (types .entry)) (now (sets .entry))) ⌝ }
 {
     let standing = Standing {
@@ -125,11 +125,11 @@ fn turn<'a>(
     let event = passed.event;
     match event {
         FileEvent::Open(g) => {
-            let s = step_open(moves, blocks, opens, tags, types, sets, standing, g);
+            let s = step_open(entries, begins, heads, tags, types, sets, standing, g);
             after_step(w, s, w.at + WITH_TAG)
         }
         FileEvent::Close(g) => {
-            let s = step_close_in(blocks, tags, types, sets, standing, g);
+            let s = step_close_in(heads, tags, types, sets, standing, g);
             after_step(w, s, w.at + WITH_TAG)
         }
         FileEvent::Finish => {
@@ -176,9 +176,9 @@ pub fn read_events(schema: Schema, events: &[u8], out: &mut [u8]) -> EventFile
         let place = w.at;
         let depth = w.depth;
         w = turn(
-            &layout.moves,
-            &layout.blocks,
-            &layout.opens,
+            &layout.entries,
+            &layout.begins,
+            &layout.heads,
             schema.tags,
             events,
             &mut types,

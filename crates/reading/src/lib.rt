@@ -6,6 +6,7 @@ mod examined;
 mod layout;
 mod lent;
 mod levels;
+mod own_steps;
 mod steps;
 mod value;
 

@@ -2,18 +2,17 @@
 // asked before.
 use crate::calls::EventAnswer;
 use crate::coming::Coming;
-use crate::coming::coming_from;
-use crate::layout::BLOCKS;
-use crate::layout::MOVES;
-use crate::layout::OPENS;
-use crate::layout::block_accepting;
-use crate::layout::block_count;
-use crate::layout::block_start;
-use crate::layout::block_tag;
-use crate::layout::opens_flag;
-use crate::layout::opens_type;
+use crate::coming::coming_rows;
+use crate::layout::HEADS;
+use crate::layout::head_accepting;
+use crate::layout::head_root;
+use crate::layout::head_tag;
 use crate::value::LEVELS;
+use schema::BEGINS;
+use schema::STEPS;
 use schema::StateSet;
+use schema::TAGS;
+use schema::TYPES;
 use sdtd::Tag;
 use sdtd::TypeNo;
 ghost use mathlib.Core.Path.{_≡_};
@@ -23,7 +22,8 @@ ghost use lib.ListN.{set};
 ghost use Rattle.sdtd.specs.Limits.{mostTags, mostLevels};
 ghost use Rattle.reading.specs.Questions.{setsAfter};
 ghost use Rattle.reading.specs.Layout.{opensUnder};
-ghost use Rattle.reading.specs.Steps.{stepTables, readingOf, nextOf, comingAt, openStep, Closes, closeStepIn, Finishes, InnerFits};
+ghost use Rattle.reading.specs.Steps.{stepTables, readingOf, nextOf, comingFirst, comingAt, innerByRows, openBy, openByRows};
+ghost use Rattle.reading.specs.Steps.{Closes, closeStepIn, Finishes, Steady, InnerFits};
 
 // A reading without its levels.
 pub(crate) struct Standing {
@@ -38,7 +38,7 @@ pub(crate) struct Stepped {
     pub standing: Standing,
 }
 
-fn stays(number: u8, at: Standing) -> Stepped
+pub(crate) fn stays(number: u8, at: Standing) -> Stepped
     ensures { λ r. ⌜ (r .answer ≡ EventAnswer.Refused number) × (r .standing ≡ at) ⌝ }
 {
     Stepped {
@@ -78,71 +78,59 @@ fn descend<'a>(
 }
 
 // What opens under the tag g at the outermost level.
-fn opens_under(opens: &[u8; OPENS], g: Tag) -> Coming
+fn opens_under(heads: &[u32; HEADS], g: Tag) -> Coming
     requires { ⌜ g .0 < mostTags ⌝ }
-    ensures { λ r. ⌜ r ≡ opensUnder (now (opens .entry)) (g .0) ⌝ }
+    ensures { λ r. ⌜ r ≡ opensUnder (now (heads .entry)) (g .0) ⌝ }
 {
-    if opens[opens_flag(g)] == 0 {
+    let n = heads[head_root(g)];
+    if n == 0 {
         return Coming::Nothing;
     }
-    Coming::OfType(TypeNo(opens[opens_type(g)]), StateSet::NONE.0)
+    Coming::OfType(TypeNo(((n - 1) % TYPES as u32) as u8), StateSet::NONE.0)
 }
 
-// What comes next under the tag g.
+// What comes next under the tag g where no element is open, and no root came or one did.
+pub(crate) fn coming_first(heads: &[u32; HEADS], rooted: bool, g: Tag) -> Coming
+    requires { ⌜ g .0 < mostTags ⌝ }
+    ensures { λ r. ⌜ r ≡ comingFirst (now (heads .entry)) rooted (g .0) ⌝ }
+{
+    if rooted {
+        return Coming::Nothing;
+    }
+    opens_under(heads, g)
+}
+
+// What comes next under the tag g, by the rows.
 fn coming_at<'a>(
-    moves: &'a [u8; MOVES],
-    blocks: &'a [u32; BLOCKS],
-    opens: &'a [u8; OPENS],
+    entries: &'a [u32; STEPS],
+    begins: &'a [u16; BEGINS],
+    heads: &'a [u32; HEADS],
     types: &'a [u8; LEVELS],
     sets: &'a [u32; LEVELS],
     at: Standing,
     g: Tag,
 ) -> Coming
-    requires { ⌜ (g .0 < mostTags) × InnerFits (now blocks) (readingOf at (now types) (now sets)) ⌝ }
-    ensures { λ r. ⌜ r ≡ comingAt (now (moves .entry)) (now (blocks .entry)) (now (opens .entry))
-        (readingOf at (now (types .entry)) (now (sets .entry))) (g .0) ⌝ }
+    requires { ⌜ (g .0 < mostTags) × InnerFits (now begins) (readingOf at (now types) (now sets)) ⌝ }
+    ensures { λ r. ⌜ r ≡ comingAt (now (heads .entry)) (innerByRows (now (entries .entry)) (now (begins .entry))
+        (readingOf at (now (types .entry)) (now (sets .entry))) (g .0)) (readingOf at (now (types .entry)) (now (sets .entry))) (g .0) ⌝ }
 {
     let depth = at.depth as usize;
     if depth == 0 {
-        if at.rooted {
-            return Coming::Nothing;
-        }
-        return opens_under(opens, g);
+        return coming_first(heads, at.rooted, g);
     }
     let inner = TypeNo(types[depth - 1]);
-    let a = inner.0 as usize;
-    coming_from(
-        moves,
-        blocks[block_start(a)] as usize,
-        blocks[block_count(a)] as usize,
-        sets[depth - 1],
-        g,
-    )
+    coming_rows(entries, begins, inner, sets[depth - 1], g)
 }
 
-// An opening of the tag g.
-pub(crate) fn step_open<'a>(
-    moves: &'a [u8; MOVES],
-    blocks: &'a [u32; BLOCKS],
-    opens: &'a [u8; OPENS],
-    tags: u8,
+// An opening, by what comes next.
+pub(crate) fn open_by<'a>(
     types: &'a mut [u8; LEVELS],
     sets: &'a mut [u32; LEVELS],
     at: Standing,
-    g: Tag,
+    next: Coming,
 ) -> Stepped
-    requires { ⌜ (tags ≤ mostTags) × InnerFits (now blocks) (readingOf at (now types) (now sets)) ⌝ }
-    ensures { λ r. ⌜ nextOf r (now (types .exit)) (now (sets .exit))
-        ≡ openStep (stepTables (now (moves .entry)) (now (blocks .entry)) (now (opens .entry)) tags)
-        (readingOf at (now (types .entry)) (now (sets .entry))) (g .0) ⌝ }
+    ensures { λ r. ⌜ nextOf r (now (types .exit)) (now (sets .exit)) ≡ openBy (readingOf at (now (types .entry)) (now (sets .entry))) next ⌝ }
 {
-    if at.finished {
-        return stays(11, at);
-    }
-    if tags <= g.0 {
-        return stays(12, at);
-    }
-    let next = coming_at(moves, blocks, opens, types, sets, at, g);
     match next {
         Coming::Nothing => stays(13, at),
         Coming::OfType(j, kept) => {
@@ -152,6 +140,32 @@ pub(crate) fn step_open<'a>(
             descend(types, sets, at, j, kept)
         }
     }
+}
+
+// An opening of the tag g, by the rows.
+pub(crate) fn step_open<'a>(
+    entries: &'a [u32; STEPS],
+    begins: &'a [u16; BEGINS],
+    heads: &'a [u32; HEADS],
+    tags: u8,
+    types: &'a mut [u8; LEVELS],
+    sets: &'a mut [u32; LEVELS],
+    at: Standing,
+    g: Tag,
+) -> Stepped
+    requires { ⌜ (tags ≤ mostTags) × InnerFits (now begins) (readingOf at (now types) (now sets)) ⌝ }
+    ensures { λ r. ⌜ nextOf r (now (types .exit)) (now (sets .exit))
+        ≡ openByRows (stepTables (now (entries .entry)) (now (begins .entry)) (now (heads .entry)) tags)
+        (readingOf at (now (types .entry)) (now (sets .entry))) (g .0) ⌝ }
+{
+    if at.finished {
+        return stays(11, at);
+    }
+    if tags <= g.0 {
+        return stays(12, at);
+    }
+    let next = coming_at(entries, begins, heads, types, sets, at, g);
+    open_by(types, sets, at, next)
 }
 
 // The tag and the accepting states of the innermost element.
@@ -204,18 +218,18 @@ pub(crate) fn step_close(
     }
 }
 
-// The same, by the blocks.
+// The same, by the heads.
 pub(crate) fn step_close_in<'a>(
-    blocks: &'a [u32; BLOCKS],
+    heads: &'a [u32; HEADS],
     tags: u8,
     types: &'a [u8; LEVELS],
     sets: &'a [u32; LEVELS],
     at: Standing,
     g: Tag,
 ) -> Stepped
-    requires { ⌜ InnerFits (now blocks) (readingOf at (now types) (now sets)) ⌝ }
+    requires { ⌜ Steady (readingOf at (now types) (now sets)) ⌝ }
     ensures { λ r. ⌜ nextOf r (now (types .entry)) (now (sets .entry))
-        ≡ closeStepIn (now (blocks .entry)) tags (readingOf at (now (types .entry)) (now (sets .entry))) (g .0) ⌝ }
+        ≡ closeStepIn (now (heads .entry)) tags (readingOf at (now (types .entry)) (now (sets .entry))) (g .0) ⌝ }
 {
     if at.depth == 0 {
         return step_close(NONE_OPEN, tags, sets, at, g);
@@ -224,8 +238,8 @@ pub(crate) fn step_close_in<'a>(
     let inner = TypeNo(types[level]);
     let a = inner.0 as usize;
     let own = Inner {
-        tag: Tag(blocks[block_tag(a)] as u8),
-        accepting: blocks[block_accepting(a)],
+        tag: Tag((heads[head_tag(a)] % TAGS as u32) as u8),
+        accepting: heads[head_accepting(a)],
     };
     step_close(own, tags, sets, at, g)
 }

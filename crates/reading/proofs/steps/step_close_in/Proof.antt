@@ -4,25 +4,17 @@ use Prim.Native.Nat.{_-_, _<_}
 use native.Mathlib.Omega.{arith}
 use borrow.Author.Needs.{needs}
 use lib.ListN.{getD}
-use Rattle.sdtd.specs.Limits.{mostTags, mostTypes}
-use Rattle.reading.specs.Layout.{blockTag}
+use Rattle.sdtd.specs.Limits.{mostTypes}
 use Rattle.reading.proofs.LevelLaws.{sub-one}
 use Rattle.reading.proofs.StepWays.{close-none, close-inner}
 use Rattle.reading.proofs.steps.step_close_in.Statement.{statement}
 use Rattle.reading.proofs.steps.step_close_in.Tie as tie
 
--- the innermost type is an entry of the blocks
+-- the innermost type is an entry of the heads
 inner : (c : tie.Else1) → let k = c .before .before .args in getD (k .types .now) (k .at .depth - 1) 0 < mostTypes
 inner c =
     let s = c .before .before in
-    rw (sub-one (s .args .at .depth)) (s .pre .steady .inner (omega arith))
-
--- its tag is one
-own-tag : (c : tie.Else1)
-    → let k = c .before .before .args in getD (k .blocks .now) (blockTag (getD (k .types .now) (k .at .depth - 1) 0)) 0 < mostTags
-own-tag c =
-    let s = c .before .before in
-    rw (sub-one (s .args .at .depth)) (s .pre .tag (omega arith))
+    rw (sub-one (s .args .at .depth)) (s .pre .inner (omega arith))
 
 step-close-requires : tie.Need-step-close-requires
 step-close-requires c κs = search needs
@@ -42,8 +34,8 @@ element-copy-out-t14 c = search needs
 cast-a : tie.Need-cast-a
 cast-a c = search needs
 
-block-tag-requires : tie.Need-block-tag-requires
-block-tag-requires c κs = inner (c .before .before .before)
+head-tag-requires : tie.Need-head-tag-requires
+head-tag-requires c κs = inner (c .before .before .before)
 
 mul-t18 : tie.Need-mul-t18
 mul-t18 c = search needs
@@ -51,18 +43,23 @@ mul-t18 c = search needs
 element-copy-out-t21 : tie.Need-element-copy-out-t21
 element-copy-out-t21 c = omega (arith, inner (c .before .before .before .before))
 
+cast-t22 : tie.Need-cast-t22
+cast-t22 c = search needs
+
+rem-t23 : tie.Need-rem-t23
+rem-t23 c = search needs
+
 cast-t14 : tie.Need-cast-t14
-cast-t14 c =
-    rw (c .before .block-tag .ensures) (record { fits = omega (arith, own-tag (c .before .before .before .before .before)) })
+cast-t14 c = search needs
 
-block-accepting-requires : tie.Need-block-accepting-requires
-block-accepting-requires c κs = inner (c .before .before .before .before .before)
+head-accepting-requires : tie.Need-head-accepting-requires
+head-accepting-requires c κs = inner (c .before .before .before .before .before)
 
-mul-t24 : tie.Need-mul-t24
-mul-t24 c = search needs
+mul-t26 : tie.Need-mul-t26
+mul-t26 c = search needs
 
-element-copy-out-t27 : tie.Need-element-copy-out-t27
-element-copy-out-t27 c = omega (arith, inner (c .before .before .before .before .before .before))
+element-copy-out-t29 : tie.Need-element-copy-out-t29
+element-copy-out-t29 c = omega (arith, inner (c .before .before .before .before .before .before))
 
 step-close-requires-2 : tie.Need-step-close-requires-2
 step-close-requires-2 c κs = search needs
@@ -71,7 +68,7 @@ returns-2 : tie.Need-returns-2
 returns-2 c =
     let a = c .before .before in
     let t = a .before .before in
-    c .step-close2 .ensures _ ∙ close-inner _ _ _ _ (t .before .before .before .before .if1 .left) _ _ (t .block-tag .ensures) (a .block-accepting .ensures)
+    c .step-close2 .ensures _ ∙ close-inner _ _ _ _ (t .before .before .before .before .if1 .left) _ _ (t .head-tag .ensures) (a .head-accepting .ensures)
 
 pub step-close-in-spec : {M : Type 1} → statement M
 step-close-in-spec =
@@ -83,12 +80,14 @@ step-close-in-spec =
     cast-level
     element-copy-out-t14
     cast-a
-    block-tag-requires
+    head-tag-requires
     mul-t18
     element-copy-out-t21
+    cast-t22
+    rem-t23
     cast-t14
-    block-accepting-requires
-    mul-t24
-    element-copy-out-t27
+    head-accepting-requires
+    mul-t26
+    element-copy-out-t29
     step-close-requires-2
     returns-2)

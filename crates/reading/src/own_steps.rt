@@ -1,0 +1,139 @@
+// What comes next inside an element by its type's own steps, where a schema is asked for one opening only.
+use crate::coming::Coming;
+use crate::coming::Least;
+use crate::coming::NONE_YET;
+use crate::coming::coming_of;
+use crate::coming::join;
+use crate::examined::bears_in;
+use schema::STEPS;
+use schema::Schema;
+use schema::Span;
+use schema::StateSet;
+use schema::TYPES;
+use sdtd::Tag;
+use sdtd::TypeNo;
+ghost use mathlib.Core.Path.{_≡_};
+ghost use Prim.Native.Nat.{_+_, _≤_, _<_};
+ghost use lib.ListN.{getD};
+ghost use Rattle.sdtd.specs.Limits.{mostTypes, mostSteps};
+ghost use Rattle.sdtd.specs.Schema.{step};
+ghost use Rattle.schema.specs.Value.{offset, stepAt};
+ghost use Rattle.reading.specs.Coming.{joins, gathered, stepTaken, stepMoves, movesBySteps, comingBy};
+
+// Under which tag a step is asked for, from which states, and into which live states of its type.
+struct Asked {
+    pub g: Tag,
+    pub states: u32,
+    pub own: u32,
+}
+
+// Is a step from the state p by the type j to the state q taken?
+fn step_taken<'a>(
+    tag: &'a [u8; TYPES],
+    live: &'a [u32; TYPES],
+    asked: Asked,
+    p: u8,
+    j: TypeNo,
+    q: u8,
+) -> bool
+    ensures { λ r. ⌜ r ≡ stepTaken (now (tag .entry)) (now (live .entry)) (asked .own) (asked .states) (asked .g .0) (step p (j .0) q) ⌝ }
+{
+    let a = j.0 as usize % TYPES;
+    let g = asked.g;
+    if !Tag(tag[a]).same(g) {
+        return false;
+    }
+    if !StateSet(asked.states).has(p) {
+        return false;
+    }
+    if !bears_in(live, a) {
+        return false;
+    }
+    StateSet(asked.own).has(q)
+}
+
+// That step, if it is taken, after what came so far.
+fn join_step<'a>(
+    tag: &'a [u8; TYPES],
+    live: &'a [u32; TYPES],
+    asked: Asked,
+    p: u8,
+    j: TypeNo,
+    q: u8,
+    best: Least,
+) -> Least
+    ensures { λ r. ⌜ r ≡ joins (stepMoves (now (tag .entry)) (now (live .entry)) (asked .own) (asked .states) (asked .g .0) (step p (j .0) q)) best ⌝ }
+{
+    if !step_taken(tag, live, asked, p, j, q) {
+        return best;
+    }
+    join(best, j, q)
+}
+
+// What comes next by the steps of the span.
+fn coming_span<'a>(
+    from: &'a [u8; STEPS],
+    by: &'a [u8; STEPS],
+    to: &'a [u8; STEPS],
+    span: Span,
+    tag: &'a [u8; TYPES],
+    live: &'a [u32; TYPES],
+    asked: Asked,
+) -> Coming
+    requires { ⌜ span .start + span .n ≤ mostSteps ⌝ }
+    ensures { λ r. ⌜ r ≡ comingBy (gathered (λ i. stepMoves (now (tag .entry)) (now (live .entry)) (asked .own) (asked .states) (asked .g .0)
+        (stepAt (now (from .entry)) (now (by .entry)) (now (to .entry)) i)) (span .start) (span .n)) ⌝ }
+{
+    let mut best = NONE_YET;
+    let end = span.start + span.n;
+    let mut i = span.start;
+    while i < end {
+        best = join_step(tag, live, asked, from[i], TypeNo(by[i]), to[i], best);
+        i += 1;
+    }
+    coming_of(best)
+}
+
+// The place of the first step of the type a.
+fn start_of(steps: [u16; TYPES], a: usize) -> usize
+    requires { ⌜ (a ≤ mostTypes) × (offset steps a ≤ mostSteps) ⌝ }
+    ensures { λ r. ⌜ r ≡ offset steps a ⌝ }
+{
+    let mut start = 0;
+    let mut b = 0;
+    while b < a {
+        start += steps[b] as usize;
+        b += 1;
+    }
+    start
+}
+
+// What comes next under the tag g from the states of the set, by the steps of the type a; `live` has the live states of each type.
+pub(crate) fn coming_steps(
+    schema: Schema,
+    live: [u32; TYPES],
+    a: TypeNo,
+    states: u32,
+    g: Tag,
+) -> Coming
+    requires { ⌜ (a .0 < mostTypes) × (offset (schema .steps) (a .0) + getD (schema .steps) (a .0) 0 ≤ mostSteps) ⌝ }
+    ensures { λ r. ⌜ r ≡ comingBy (movesBySteps schema live (a .0) states (g .0)) ⌝ }
+{
+    let steps = schema.steps;
+    let inner = a.0 as usize;
+    let span = Span {
+        start: start_of(steps, inner),
+        n: steps[inner] as usize,
+    };
+    let own = live[inner];
+    let asked = Asked { g, states, own };
+    coming_span(
+        &schema.from,
+        &schema.by,
+        &schema.to,
+        span,
+        &schema.tag,
+        &live,
+        asked,
+    )
+}
