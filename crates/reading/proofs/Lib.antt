@@ -1,7 +1,7 @@
 -- First what the private steps of the calls compute, then what lists of calls mean and that each call has exactly one answer; last, lent
 -- readings and event files.
 pub mod LevelLaws
-pub mod LayoutLaws
+pub mod HeadLaws
 pub mod StepWays
 pub mod ComingLaws
 pub mod ComingMeans

@@ -30,11 +30,11 @@ use Rattle.reading.specs.declared.value.Reading.{Reading}
 use Rattle.reading.specs.declared.coming.Coming.{Coming}
 use Rattle.reading.specs.declared.coming.Coming.the-variants.{Nothing, OfType}
 use Rattle.reading.specs.Questions.{CanOpen}
-use Rattle.reading.specs.Layout.{headTag, headAccepting, headRoot, setHead, opensUnder, addRoot}
+use Rattle.reading.specs.Heads.{headTag, headAccepting, headRoot, setHead, opensUnder, addRoot}
 use Rattle.reading.specs.Steps.{comingFirst}
-use Rattle.reading.specs.Examined.{RootOf, OpensMeans, HeadsMean}
+use Rattle.reading.specs.Heads.{RootOf, OpensMeans, HeadsMean}
 use Rattle.reading.proofs.LevelLaws.{tag-below}
-use Rattle.reading.proofs.LayoutLaws.{head-long, head-elsewhere, head-tag, head-accepting}
+use Rattle.reading.proofs.HeadLaws.{head-long, head-elsewhere, head-tag, head-accepting}
 use Rattle.reading.proofs.ComingMeans.{ComingMeans}
 
 module _ (S : Meaning) (r : Reading) (outside : r .depth ≡ 0) (g : ℕ) where

@@ -14,6 +14,7 @@ use Rattle.sdtd.specs.Document.{Event, opening, closing, finish}
 use Rattle.sdtd.specs.Answer.{ask, Ordered}
 use Rattle.sdtd.proofs.Basics.{cond-either, and-parts, is-true, is-false, not-both}
 use Rattle.schema.specs.States.{meet}
+use Rattle.schema.specs.Rows.{RowsMean}
 use Rattle.schema.specs.Value.{meaning}
 use Rattle.schema.specs.Trimming.{LiveExactly}
 use Rattle.schema.specs.declared.value.Schema.{Schema}
@@ -23,13 +24,12 @@ use Rattle.reading.specs.declared.calls.EventAnswer.the-variants.{Refuse
 use Rattle.reading.specs.declared.calls.Next.{Next}
 use Rattle.reading.specs.declared.coming.Coming.{Coming}
 use Rattle.reading.specs.declared.coming.Coming.the-variants.{Nothing, OfType}
-use Rattle.reading.specs.declared.layout.Layout.{Layout}
 use Rattle.reading.specs.declared.steps.Inner.{Inner}
 use Rattle.reading.specs.Levels.{innerType, innerSet, Within}
 use Rattle.reading.specs.Questions.{gives, refuses, questions, TakenBy, Ends, CallMeans}
-use Rattle.reading.specs.Layout.{tagOfHead, acceptingOfHead}
+use Rattle.reading.specs.Heads.{tagOfHead, acceptingOfHead}
 use Rattle.reading.specs.Coming.{Move, comingBy}
-use Rattle.reading.specs.Examined.{HeadsMean, LaidOut}
+use Rattle.reading.specs.Heads.{HeadsMean}
 use Rattle.reading.specs.Steps.{StepTables, stepTables, comingAt, openBy, openStep, openByRows, openBySteps, inner, innerOf, closeStep, closeStepIn}
 use Rattle.reading.specs.Steps.{finishStep, Steady, InnerFits, OwnFits}
 use Rattle.reading.proofs.LevelLaws.{tags-of, inner-below, inner-most, inner-tag, ends-meets}
@@ -97,9 +97,11 @@ finish-step-means {S} {r} w =
 pub stands-steady : (v : Schema) {r : Reading} → Within (meaning v) r → Steady r
 stands-steady v {r} w = record { depth = w .reading .depth; inner = inner-most v r w }
 
--- the tables of the layout, and the schema's count of tags
-abbrev pub tablesOf : Schema → Layout → StepTables
-tablesOf v l = stepTables (l .entries) (l .begins) (l .heads) (v .tags)
+-- the tables of a schema inside the limits
+pub record TablesMean (v : Schema) (t : StepTables) : Type 0 where
+  pub rows : RowsMean (meaning v) (t .entries) (t .begins)
+  pub heads : HeadsMean v (t .heads)
+  pub tags : t .tags ≡ v .tags
 
 module _ {v : Schema} {r : Reading} (fits : Fits v) (within : Within (meaning v) r) where
   tags-most : v .tags ≤ mostTags
@@ -138,16 +140,16 @@ module _ {v : Schema} {r : Reading} (fits : Fits v) (within : Within (meaning v)
     unfolding openStep
     open-step-means = tag-asked (Rest (meaning v) r (opening g) 3) g (λ m. open-by-means (comingAt heads moves r g) (coming-at-means m))
 
-  pub open-rows-means : {l : Layout} → LaidOut v l → (g : ℕ) → CallMeans (meaning v) r (opening g) (openByRows (tablesOf v l) r g)
-  open-rows-means laid g = open-step-means (laid .heads) g _ (rows-mean (within .schema) (laid .rows) r g)
+  pub open-rows-means : {t : StepTables} → TablesMean v t → (g : ℕ) → CallMeans (meaning v) r (opening g) (openByRows t r g)
+  open-rows-means m g = rw (m .tags) (open-step-means (m .heads) g _ (rows-mean (within .schema) (m .rows) r g))
 
   pub open-steps-means : (live : List ℕ) {heads : List ℕ} → LiveExactly (meaning v) live → HeadsMean v heads
       → (g : ℕ) → CallMeans (meaning v) r (opening g) (openBySteps v live heads r g)
   open-steps-means live table headed g = open-step-means headed g _ (λ inside. steps-mean fits within inside live table g)
 
   -- what the code of an opening asks for
-  pub stands-fit : {l : Layout} → LaidOut v l → (v .tags ≤ mostTags) × InnerFits (l .begins) r
-  stands-fit laid = (tags-most, record { steady = stands-steady v within; rows = laid .rows .inside })
+  pub stands-fit : {t : StepTables} → TablesMean v t → (t .tags ≤ mostTags) × InnerFits (t .begins) r
+  stands-fit m = (rw (m .tags) tags-most, record { steady = stands-steady v within; rows = m .rows .inside })
 
   pub stands-own : (v .tags ≤ mostTags) × OwnFits v r
   stands-own = (tags-most, record { steady = stands-steady v within; room = λ d. inside-room fits within d })

@@ -20,7 +20,7 @@ use Rattle.reading.specs.declared.steps.Stepped.{Stepped}
 use Rattle.reading.specs.declared.steps.Inner.{Inner}
 use Rattle.reading.specs.Levels.{innerType, innerSet}
 use Rattle.reading.specs.Questions.{gives, opened, closed, afterFinish, setsAfter}
-use Rattle.reading.specs.Layout.{headTag, headAccepting}
+use Rattle.reading.specs.Heads.{headTag, headAccepting}
 use Rattle.reading.specs.Coming.{Move, comingBy}
 use Rattle.reading.specs.Steps.{readingOf, nextOf, comingFirst, comingAt, openBy, openStep, inner, noneOpen, closeStep, closeStepIn, finishStep}
 use Rattle.reading.proofs.LevelLaws.{sub-one}

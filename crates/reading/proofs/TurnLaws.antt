@@ -21,17 +21,15 @@ use Rattle.reading.specs.declared.value.Reading.{Reading}
 use Rattle.reading.specs.declared.calls.EventAnswer.{EventAnswer}
 use Rattle.reading.specs.declared.calls.EventAnswer.the-variants.{Typed, Taken, Refused}
 use Rattle.reading.specs.declared.calls.Next.{Next}
-use Rattle.reading.specs.declared.layout.Layout.{Layout}
 use Rattle.events.specs.declared.decoder.FileEvent.{FileEvent}
 use Rattle.events.specs.declared.decoder.FileEvent.the-variants.{Open, Close, Finish, NoEvent}
 use Rattle.reading.specs.Levels.{fresh}
 use Rattle.events.specs.Events.{Events, ends, stray, eventAt, eventsOf}
 use Rattle.reading.specs.Passage.{TakenCall, stops, Passes}
 use Rattle.reading.specs.EventFile.{byCalls, numberOf, placeOf}
-use Rattle.reading.specs.Examined.{LaidOut}
 use Rattle.reading.specs.Steps.{StepTables, openByRows, closeStepIn, finishStep}
 use Rattle.reading.specs.Turns.{Walked, stop, turnBy, turnTo, turnEnd, turnOn, turnOf}
-use Rattle.reading.proofs.StepLaws.{tablesOf, open-rows-means, close-in-means, finish-step-means}
+use Rattle.reading.proofs.StepLaws.{TablesMean, open-rows-means, close-in-means, finish-step-means}
 use Rattle.events.proofs.EventLaws.{Ends, event-ends}
 use Rattle.events.proofs.EventPlaces.{Stands, event-stands}
 use Rattle.reading.proofs.SetsKept.{Below}
@@ -98,23 +96,23 @@ module _ {S : Meaning} {file : List ℕ} {cs : List TakenCall} {w : Walked} (k :
       nothing-given [] refl (omega arith)
       (record { place = k .place; reading = k .reading; goes = λ e. absurd (false≢true e); stopped = λ e. end-stopped stands })
 
-module _ {v : Schema} (fits : Fits v) {l : Layout} (laid : LaidOut v l) {file : List ℕ}
+module _ {v : Schema} (fits : Fits v) {t : StepTables} (tables : TablesMean v t) {file : List ℕ}
     {cs : List TakenCall} {w : Walked} (k : WalkSound (meaning v) file cs w) (going : w .going ≡ true) where
   -- by what stands at the place
   by-event : (e : FileEvent) → Stands file (w .at) e → Ends file (w .at) e
-      → TurnSound (meaning v) file cs w (turnOn (tablesOf v l) (length file) w e)
+      → TurnSound (meaning v) file cs w (turnOn t (length file) w e)
   by-event (Open g) stands inside =
-      answered k going (opening (g .0)) (openByRows (tablesOf v l) (w .reading) (g .0))
-      (open-rows-means fits (k .reading .within) laid (g .0)) stands inside _ refl
+      answered k going (opening (g .0)) (openByRows t (w .reading) (g .0))
+      (open-rows-means fits (k .reading .within) tables (g .0)) stands inside _ refl
   by-event (Close g) stands inside =
-      answered k going (closing (g .0)) (closeStepIn (l .heads) (v .tags) (w .reading) (g .0))
-      (close-in-means fits (k .reading .within) (k .reading .below) (laid .heads) (g .0)) stands inside _ refl
+      answered k going (closing (g .0)) (closeStepIn (t .heads) (t .tags) (w .reading) (g .0))
+      (rw (tables .tags) (close-in-means fits (k .reading .within) (k .reading .below) (tables .heads) (g .0))) stands inside _ refl
   by-event Finish stands inside =
       answered k going finish (finishStep (w .reading)) (finish-step-means (k .reading .within)) stands inside _ refl
   by-event NoEvent stands inside = end-sound k going stands
 
   -- after a turn the walk is sound
-  pub turn-sound : {u : Walked} → u ≡ turnOf (tablesOf v l) file w → TurnSound (meaning v) file cs w u
+  pub turn-sound : {u : Walked} → u ≡ turnOf t file w → TurnSound (meaning v) file cs w u
   unfolding turnOf
   turn-sound e =
       subst (TurnSound (meaning v) file cs w) (sym e)

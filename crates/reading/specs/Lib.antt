@@ -1,4 +1,4 @@
--- Readings and event files: document 01's sections "A reading" and "The event file". `Layout`, `Coming`, `Examined`, `Steps` and `Turns` say
+-- Readings and event files: document 01's sections "A reading" and "The event file". `Heads`, `Coming`, `Steps` and `Turns` say
 -- what the private steps compute; no public promise cites them.
 pub mod Levels
 pub mod Questions
@@ -6,8 +6,7 @@ pub mod Calls
 pub mod Passage
 pub mod EventFile
 pub mod EventMeaning
-pub mod Layout
+pub mod Heads
 pub mod Coming
-pub mod Examined
 pub mod Steps
 pub mod Turns

@@ -20,7 +20,7 @@ use Rattle.reading.specs.declared.steps.Stepped.{Stepped}
 use Rattle.reading.specs.declared.steps.Inner.{Inner}
 use Rattle.reading.specs.Levels.{innerType, innerSet}
 use Rattle.reading.specs.Questions.{gives, opened, closed, afterFinish}
-use Rattle.reading.specs.Layout.{tagOfHead, acceptingOfHead, opensUnder}
+use Rattle.reading.specs.Heads.{tagOfHead, acceptingOfHead, opensUnder}
 use Rattle.reading.specs.Coming.{Move, comingBy, movesByRows, movesBySteps}
 
 -- the reading that stands there with these levels

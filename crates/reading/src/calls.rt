@@ -1,7 +1,7 @@
 // Opening, closing and finish: each takes a reading and hands back the one that follows, with the answer.
 use crate::coming::Coming;
-use crate::examined::heads;
-use crate::layout::HEADS;
+use crate::heads::HEADS;
+use crate::heads::heads;
 use crate::levels::levels_within;
 use crate::own_steps::coming_steps;
 use crate::steps::Inner;

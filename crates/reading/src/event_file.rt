@@ -1,7 +1,7 @@
 // The event file's answer: one event after another, from a fresh reading, until the first refusal.
 use crate::calls::EventAnswer;
-use crate::examined::examine;
-use crate::layout::HEADS;
+use crate::heads::HEADS;
+use crate::heads::heads;
 use crate::steps::Standing;
 use crate::steps::Stepped;
 use crate::steps::step_close_in;
@@ -16,6 +16,7 @@ use schema::BEGINS;
 use schema::STEPS;
 use schema::Schema;
 use schema::StateSet;
+use schema::live_rows;
 ghost use mathlib.Core.Path.{_≡_};
 ghost use Rattle.schema.specs.Value.{meaning};
 ghost use Prim.Native.Nat.{_≤_};
@@ -164,10 +165,12 @@ fn outside(events: &[u8]) -> EventFile
 pub fn read_events(schema: Schema, events: &[u8], out: &mut [u8]) -> EventFile
     ensures { λ r. ⌜ EventsMean (meaning schema) (now (events .entry)) (now (out .entry)) (now (out .exit)) r ⌝ }
 {
-    let layout = examine(schema);
-    if !layout.inside {
+    let found = live_rows(schema);
+    if !found.inside {
         return outside(events);
     }
+    let live = found.live;
+    let heads = heads(schema, live);
     let mut types = [0u8; LEVELS];
     let mut sets = [StateSet::NONE.0; LEVELS];
     let mut w = BEGINNING;
@@ -176,9 +179,9 @@ pub fn read_events(schema: Schema, events: &[u8], out: &mut [u8]) -> EventFile
         let place = w.at;
         let depth = w.depth;
         w = turn(
-            &layout.entries,
-            &layout.begins,
-            &layout.heads,
+            &found.entries,
+            &found.begins,
+            &heads,
             schema.tags,
             events,
             &mut types,

@@ -2,8 +2,7 @@
 mod calls;
 mod coming;
 mod event_file;
-mod examined;
-mod layout;
+mod heads;
 mod lent;
 mod levels;
 mod own_steps;

@@ -4,7 +4,7 @@ use crate::coming::Least;
 use crate::coming::NONE_YET;
 use crate::coming::coming_of;
 use crate::coming::join;
-use crate::examined::bears_in;
+use crate::heads::bears_in;
 use schema::STEPS;
 use schema::Schema;
 use schema::Span;

@@ -3,10 +3,10 @@
 use crate::calls::EventAnswer;
 use crate::coming::Coming;
 use crate::coming::coming_rows;
-use crate::layout::HEADS;
-use crate::layout::head_accepting;
-use crate::layout::head_root;
-use crate::layout::head_tag;
+use crate::heads::HEADS;
+use crate::heads::head_accepting;
+use crate::heads::head_root;
+use crate::heads::head_tag;
 use crate::value::LEVELS;
 use schema::BEGINS;
 use schema::STEPS;
@@ -21,7 +21,7 @@ ghost use Prim.Native.Nat.{_+_, _≤_, _<_};
 ghost use lib.ListN.{set};
 ghost use Rattle.sdtd.specs.Limits.{mostTags, mostLevels};
 ghost use Rattle.reading.specs.Questions.{setsAfter};
-ghost use Rattle.reading.specs.Layout.{opensUnder};
+ghost use Rattle.reading.specs.Heads.{opensUnder};
 ghost use Rattle.reading.specs.Steps.{stepTables, readingOf, nextOf, comingFirst, comingAt, innerByRows, openBy, openByRows};
 ghost use Rattle.reading.specs.Steps.{Closes, closeStepIn, Finishes, Steady, InnerFits};
 

@@ -11,7 +11,7 @@ use lib.Seq.{getD-set-same, getD-set-other}
 use Rattle.sdtd.specs.Limits.{mostTypes, mostStates, mostSteps}
 use Rattle.sdtd.proofs.Basics.{getD-member}
 use Rattle.schema.specs.Rows.{mostRows, InRow}
-use Rattle.schema.specs.RowMaking.{RowTables, rowTables, addRow, rowBy, addRows}
+use Rattle.schema.specs.RowMaking.{RowTables, noRows, addRow, rowBy, addRows}
 use Rattle.schema.proofs.PuttingLaws.{put-long, put-before, put-there, fromOn, from-split}
 use Rattle.schema.proofs.RowTurns.{row-most}
 use Rattle.schema.proofs.FirstTables.{same-everywhere}
@@ -25,10 +25,6 @@ pub record Laid (row : ℕ → List ℕ) (n : ℕ) (t : RowTables) : Type 0 wher
   pub past : (i : ℕ) → n < i → getD (t .begins) i 0 ≡ 0
   pub holds : (i k : ℕ) → i < n → k < length (row i) → getD (t .entries) (getD (t .begins) i 0 + k) 0 ≡ getD (row i) k 0
   pub most : getD (t .begins) n 0 ≤ mostSteps
-
--- tables of zeros
-abbrev pub noRows : RowTables
-noRows = rowTables (replicate mostSteps 0) (replicate (suc mostRows) 0)
 
 module _ (row : ℕ → List ℕ) where
   laid-first : Laid row 0 noRows

@@ -3,11 +3,11 @@ use mathlib.Core.Bool.{Bool, cond, _&&_}
 use mathlib.Core.List.{List, [], _∷_}
 use Prim.Native.Nat.{ℕ, zero, suc, _+_, _%_}
 use lib.Dec.{eqb, ltb}
-use lib.ListN.{length, getD, set, take}
-use Rattle.sdtd.specs.Limits.{mostTypes}
+use lib.ListN.{length, getD, set, take, replicate}
+use Rattle.sdtd.specs.Limits.{mostTypes, mostSteps}
 use Rattle.sdtd.specs.Schema.{Step}
 use Rattle.schema.specs.States.{member, bearsIn}
-use Rattle.schema.specs.Rows.{entry, fromIn}
+use Rattle.schema.specs.Rows.{entry, fromIn, mostRows}
 
 -- numbers put into a table from the place `at` on
 unfoldable pub putAll : List ℕ → ℕ → List ℕ → List ℕ
@@ -43,6 +43,10 @@ pub record RowTables : Type 0 where
 
 abbrev pub rowTables : List ℕ → List ℕ → RowTables
 rowTables entries begins = record { entries = entries; begins = begins }
+
+-- tables of zeros
+abbrev pub noRows : RowTables
+noRows = rowTables (replicate mostSteps 0) (replicate (suc mostRows) 0)
 
 -- the row i, put where the rows before it end
 unfoldable pub addRow : List ℕ → ℕ → RowTables → RowTables

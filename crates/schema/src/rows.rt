@@ -21,19 +21,13 @@ ghost use Rattle.sdtd.specs.Schema.{WithinLimits};
 ghost use Rattle.schema.specs.Value.{stepsOf, meaning};
 ghost use Rattle.schema.specs.Trimming.{LiveExactly, BearsExactly};
 ghost use Rattle.schema.specs.Rows.{mostRows, RowsMean};
-ghost use Rattle.schema.specs.RowMaking.{putAll, countsBy, countedStep, picked, counted as countedBy, rowTables, addRow, rowBy, addRows};
+ghost use Rattle.schema.specs.RowMaking.{putAll, countsBy, countedStep, picked, counted as countedBy, rowTables, noRows, addRow, rowBy, addRows};
 
 // A row for each state of each type.
 pub const ROWS: usize = TYPES * STATES as usize;
 
 // Where each row begins, and where the last ends.
 pub const BEGINS: usize = ROWS + 1;
-
-// The entries of all rows, and where each row begins.
-pub(crate) struct Rows {
-    pub(crate) entries: [u32; STEPS],
-    pub(crate) begins: [u16; BEGINS],
-}
 
 // Does a step by the type j to the state q count, where `own` are the live states of the type that has it?
 // Inside the limits the remainder changes nothing: a type is below TYPES.
@@ -184,13 +178,18 @@ fn type_rows<'a>(
     }
 }
 
-// The rows of a schema inside the limits, by tables of exactly the types that bear a tree and exactly the live states.
-pub(crate) fn make_rows(schema: Schema, bears: [u32; TYPES], live: [u32; TYPES]) -> Rows
-    requires { ⌜ WithinLimits (meaning schema) × BearsExactly (meaning schema) bears × LiveExactly (meaning schema) live ⌝ }
-    ensures { λ r. ⌜ RowsMean (meaning schema) (r .entries) (r .begins) ⌝ }
+// The rows of a schema inside the limits, by tables of exactly the types that bear a tree and exactly the live states, into tables of zeros.
+pub(crate) fn make_rows<'a>(
+    schema: Schema,
+    bears: [u32; TYPES],
+    live: [u32; TYPES],
+    entries: &'a mut [u32; STEPS],
+    begins: &'a mut [u16; BEGINS],
+)
+    requires { ⌜ WithinLimits (meaning schema) × BearsExactly (meaning schema) bears × LiveExactly (meaning schema) live
+        × (rowTables (now entries) (now begins) ≡ noRows) ⌝ }
+    ensures { λ _. ⌜ RowsMean (meaning schema) (now (entries .exit)) (now (begins .exit)) ⌝ }
 {
-    let mut entries = [0u32; STEPS];
-    let mut begins = [0u16; BEGINS];
     let mut kept = [0u32; STEPS];
     let steps = schema.steps;
     let states = schema.states;
@@ -211,9 +210,8 @@ pub(crate) fn make_rows(schema: Schema, bears: [u32; TYPES], live: [u32; TYPES])
             &bears,
             own,
         );
-        type_rows(&mut entries, &mut begins, a, &kept, count, states[a]);
+        type_rows(entries, begins, a, &kept, count, states[a]);
         start += n;
         a += 1;
     }
-    Rows { entries, begins }
 }

@@ -204,9 +204,9 @@ pub fn live_rows(schema: Schema) -> LiveRows
             begins: [0; BEGINS],
         };
     }
-    let rows = make_rows(schema, live, live);
-    let entries = rows.entries;
-    let begins = rows.begins;
+    let mut entries = [0u32; STEPS];
+    let mut begins = [0u16; BEGINS];
+    make_rows(schema, live, live, &mut entries, &mut begins);
     LiveRows {
         inside: true,
         live,
@@ -254,9 +254,9 @@ fn trim_inside(schema: Schema) -> Trimming
         root,
     );
     let bears = bearing_types(live);
-    let rows = make_rows(schema, live, live);
-    let entries = rows.entries;
-    let begins = rows.begins;
+    let mut entries = [0u32; STEPS];
+    let mut begins = [0u16; BEGINS];
+    make_rows(schema, live, live, &mut entries, &mut begins);
     Trimming {
         inside: true,
         live,

@@ -11,10 +11,10 @@ use Rattle.schema.specs.Value.{meaning}
 use Rattle.schema.specs.declared.value.Schema.{Schema}
 use Rattle.schema.proofs.FirstTables.{Fits}
 use Rattle.schema.proofs.LimitLaws.{passed, failed}
-use Rattle.reading.specs.declared.layout.Layout.{Layout}
-use Rattle.reading.specs.Examined.{LaidOut}
+use Rattle.schema.proofs.TablesExact.{bears-in}
+use Rattle.reading.specs.Steps.{stepTables}
 use Rattle.reading.specs.Turns.{walkedOf}
-use Rattle.reading.proofs.StepLaws.{stands-fit}
+use Rattle.reading.proofs.StepLaws.{TablesMean, stands-fit}
 use Rattle.reading.proofs.StepSound.{TurnSound}
 use Rattle.reading.proofs.TurnLaws.{turn-sound, toGo, turn-less}
 use Rattle.reading.proofs.LayLaws.{LaidSound, first-laid, out-long, lay-none, lay-type, full-means, last-means, outside-means}
@@ -22,18 +22,15 @@ use Rattle.reading.proofs.event_file.read_events.Statement.{statement}
 use Rattle.reading.proofs.event_file.read_events.Tie as tie
 
 abbrev Inv-loop : tie.InvT-loop
-Inv-loop schema events out₀ layout types₀ sets₀ w₀ count₀ out types sets w count =
+Inv-loop schema events out₀ found heads types₀ sets₀ w₀ count₀ out types sets w count =
     LaidSound (meaning schema) events out₀ (walkedOf w types sets) count out
 
 abbrev μ-loop : tie.MeasureT-loop
-μ-loop schema events out₀ layout types₀ sets₀ w₀ count₀ out types sets w count = toGo events (walkedOf w types sets)
+μ-loop schema events out₀ found heads types₀ sets₀ w₀ count₀ out types sets w count = toGo events (walkedOf w types sets)
 
--- the schema, and how it is laid out
-abbrev schema : tie.After-examine Inv-loop μ-loop → Schema
+-- the schema
+abbrev schema : tie.After-live-rows Inv-loop μ-loop → Schema
 schema c = c .before .before .before .args .schema
-
-abbrev layout : tie.After-examine Inv-loop μ-loop → Layout
-layout c = c .examine .result
 
 -- the value's entries fit their types
 fits : (c : tie.Start Inv-loop μ-loop) → Fits (c .args .schema)
@@ -43,10 +40,16 @@ fits c =
 
 -- past the test the schema is inside the limits
 within : (c : tie.Else1 Inv-loop μ-loop) → WithinLimits (meaning (schema (c .before)))
-within c = passed (layout (c .before) .inside) (c .if1 .left) (c .before .examine .ensures .inside)
+within c = passed (c .before .live-rows .result .inside) (c .if1 .left) (c .before .live-rows .ensures .inside)
 
-laid-out : (c : tie.Else1 Inv-loop μ-loop) → LaidOut (schema (c .before)) (layout (c .before))
-laid-out c = c .before .examine .ensures .laid-out (within c)
+-- the rows and the heads are the schema's
+tables : (c : tie.After-heads Inv-loop μ-loop)
+    → let e = c .before .before in
+    TablesMean (schema (e .before))
+    (stepTables (e .before .live-rows .result .entries) (e .before .live-rows .result .begins) (c .heads .result) (schema (e .before) .tags))
+tables c =
+    let e = c .before .before in
+    record { rows = e .before .live-rows .ensures .rows (within e); heads = c .heads .ensures; tags = refl }
 
 -- where the loop's test held, before a call of a turn
 abbrev in-loop : tie.After-sets Inv-loop μ-loop → tie.In-loop Inv-loop μ-loop
@@ -55,16 +58,16 @@ in-loop c = c .before .before .before .before .before .before
 -- what is known after a turn
 turned : (t : tie.After-turn Inv-loop μ-loop)
     → let l = in-loop (t .before) .before in
-    TurnSound (meaning (schema (l .before .before))) (l .before .before .before .before .before .args .events .now) (l .loop .inv .calls)
+    TurnSound (meaning (schema (l .before .before .before .before))) (l .before .before .before .before .before .before .before .args .events .now) (l .loop .inv .calls)
     (walkedOf (l .loop .w) (l .loop .types) (l .loop .sets))
     (walkedOf (t .turn .result) (t .turn .last .1 .1 .1 .1 .1 .0) (t .turn .last .1 .1 .1 .1 .1 .1 .0))
 turned t =
     let i = in-loop (t .before) in
     let l = i .before in
-    turn-sound (fits (l .before .before .before .before .before)) (laid-out (l .before)) (l .loop .inv .sound) (i .loop-test .taken) (t .turn .ensures)
+    turn-sound (fits (l .before .before .before .before .before .before .before)) (tables (l .before)) (l .loop .inv .sound) (i .loop-test .taken) (t .turn .ensures)
 
-examine-requires : tie.Need-examine-requires Inv-loop μ-loop
-examine-requires c κs = search needs
+live-rows-requires : tie.Need-live-rows-requires Inv-loop μ-loop
+live-rows-requires c κs = search needs
 
 outside-requires : tie.Need-outside-requires Inv-loop μ-loop
 outside-requires c κs = search needs
@@ -72,16 +75,22 @@ outside-requires c κs = search needs
 returns : tie.Need-returns Inv-loop μ-loop
 returns c =
     let e = c .before .before in
-    outside-means (failed (layout e .inside) (c .before .if1 .taken) (e .examine .ensures .inside)) _ _ _ (c .outside .ensures .0)
+    outside-means (failed (e .live-rows .result .inside) (c .before .if1 .taken) (e .live-rows .ensures .inside)) _ _ _ (c .outside .ensures .0)
     (c .outside .ensures .1) (c .outside .ensures .2)
 
+heads-requires : tie.Need-heads-requires Inv-loop μ-loop
+heads-requires c κs =
+    let e = c .before in
+    let k = e .before .live-rows in
+    (within e, bears-in _ (k .result .live) (k .ensures .live (within e)))
+
 loop-holds : tie.Need-loop-holds Inv-loop μ-loop
-loop-holds c = first-laid (within c) _ _ 19
+loop-holds c = first-laid (within (c .before .before)) _ _ 19
 
 turn-requires : tie.Need-turn-requires Inv-loop μ-loop
 turn-requires c κs =
     let l = in-loop c .before in
-    stands-fit (fits (l .before .before .before .before .before)) (l .loop .inv .sound .reading .within) (laid-out (l .before))
+    stands-fit (fits (l .before .before .before .before .before .before .before)) (l .loop .inv .sound .reading .within) (tables (l .before))
 
 same-length : tie.Need-same-length Inv-loop μ-loop
 same-length c = out-long (in-loop (c .before .before .before .before) .before .loop .inv)
@@ -102,7 +111,11 @@ slice-write-out : tie.Need-slice-write-out Inv-loop μ-loop
 slice-write-out c = search needs
 
 add-count : tie.Need-add-count Inv-loop μ-loop
-add-count c = search needs
+add-count c =
+    let l = in-loop (c .before .before .before .before) .before in
+    let start = l .before .before .before .before .before .before .before in
+    let long = out-long (l .loop .inv) in
+    record { fits = omega (arith, c .if3 .left, start .good .1 .1 .0) }
 
 loop-less : tie.Need-loop-less Inv-loop μ-loop
 loop-less c =
@@ -136,9 +149,10 @@ read-events-spec =
     (tie.spec
     Inv-loop
     μ-loop
-    examine-requires
+    live-rows-requires
     outside-requires
     returns
+    heads-requires
     loop-holds
     turn-requires
     same-length

@@ -10,7 +10,7 @@ use Rattle.sdtd.specs.Limits.{mostTypes}
 use Rattle.sdtd.specs.Numbered.{typeNo}
 use Rattle.schema.specs.States.{noStates}
 use Rattle.reading.specs.declared.coming.Coming.the-variants.{Nothing, OfType}
-use Rattle.reading.specs.Layout.{headRoot, opensUnder}
+use Rattle.reading.specs.Heads.{headRoot, opensUnder}
 use Rattle.reading.proofs.steps.opens_under.Statement.{statement}
 use Rattle.reading.proofs.steps.opens_under.Tie as tie
 

@@ -20,12 +20,12 @@ use Rattle.schema.proofs.rows.make_rows.Statement.{statement}
 use Rattle.schema.proofs.rows.make_rows.Tie as tie
 
 abbrev Inv-loop : tie.InvT-loop
-Inv-loop schema bears live entries₀ begins₀ kept₀ steps states types start₀ a₀ entries begins kept start a =
+Inv-loop entries₀ begins₀ schema bears live kept₀ steps states types start₀ a₀ entries begins kept start a =
     (a ≤ types) × (start ≡ offset (schema .steps) a) × (length kept ≡ mostSteps)
     × RowsAdded (rowAt schema bears live) (mostStates * a) start (rowTables entries begins)
 
 abbrev μ-loop : tie.MeasureT-loop
-μ-loop schema bears live entries₀ begins₀ kept₀ steps states types start₀ a₀ entries begins kept start a = types - a
+μ-loop entries₀ begins₀ schema bears live kept₀ steps states types start₀ a₀ entries begins kept start a = types - a
 
 -- the value's entries fit their types
 fits : (c : tie.Start Inv-loop μ-loop) → Fits (c .args .t1)
@@ -47,7 +47,7 @@ cast-types : tie.Need-cast-types Inv-loop μ-loop
 cast-types c = search needs
 
 loop-holds : tie.Need-loop-holds Inv-loop μ-loop
-loop-holds c = (omega arith, refl, length-replicate {A = ℕ} mostSteps 0, added-first _)
+loop-holds c = (omega arith, refl, length-replicate {A = ℕ} mostSteps 0, rw (c .before .before .pre .3) (added-first _))
 
 mul-n : tie.Need-mul-n Inv-loop μ-loop
 mul-n c = search needs

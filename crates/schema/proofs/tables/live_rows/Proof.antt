@@ -22,19 +22,20 @@ returns c =
 
 make-rows-requires : tie.Need-make-rows-requires
 make-rows-requires c κs =
-    let e = c .before .before .before .live .ensures in
-    let within = passed (c .before .before .before .live .result .inside) (c .if1 .left) (e .inside) in
-    (within, bears-in _ (c .before .before .before .live .result .live) (e .live within), e .live within)
+    let k = c .before .before in
+    let e = k .before .before .before .live .ensures in
+    let within = passed (k .before .before .before .live .result .inside) (k .if1 .left) (e .inside) in
+    (within, bears-in _ (k .before .before .before .live .result .live) (e .live within), e .live within, refl)
 
 returns-2 : tie.Need-returns-2
 returns-2 c =
-    let k = c .before .before in
-    let e = k .before .before .before .before .live .ensures in
-    let within = passed (k .before .before .before .before .live .result .inside) (k .before .if1 .left) (e .inside) in
+    let k = c .before .before .before in
+    let e = k .before .before .before .live .ensures in
+    let within = passed (k .before .before .before .live .result .inside) (k .if1 .left) (e .inside) in
     record {
       inside = (λ t. within, λ w. tt);
       live = e .live;
-      rows = λ w. k .make-rows .ensures;
+      rows = λ w. c .make-rows .ensures;
       outside = λ n. absurd (n within);
     }
 

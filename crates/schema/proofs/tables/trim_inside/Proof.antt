@@ -1,4 +1,5 @@
 -- `schema::tables::trim_inside` meets its contract: the tables that the rounds settle at are exactly the definitions.
+use mathlib.Core.Path.{refl}
 use Prim.Native.Nat.{ℕ}
 use borrow.Author.Needs.{needs}
 use lib.ListN.{getD}
@@ -51,7 +52,9 @@ live-found c =
     (c .before .before .before .before .before .before .before .before .before .before .before .before .before .before .live-states .ensures)
 
 make-rows-requires : tie.Need-make-rows-requires
-make-rows-requires c κs = (start c .pre, bears-in _ (c .before .before .before .before .before .before .before .before .before .before .before .before .before .before .live-states .result) (live-found c), live-found c)
+make-rows-requires c κs =
+    let b = c .before .before in
+    (start b .pre, bears-in _ (b .before .before .before .before .before .before .before .before .before .before .before .before .before .before .live-states .result) (live-found b), live-found b, refl)
 
 returns : tie.Need-returns
 returns c =
@@ -62,7 +65,7 @@ returns c =
           (b .before .before .before .before .before .before .before .before .before .before .before .before .before .before .live-states .ensures)
           (b .before .before .before .before .before .before .before .forward-states .ensures)
           (b .before .reached-types .ensures)
-          (c .before .before .make-rows .ensures)),
+          (c .make-rows .ensures)),
     )
 
 pub trim-inside-spec : {M : Type 1} → statement M

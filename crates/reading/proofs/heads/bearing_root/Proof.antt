@@ -1,9 +1,9 @@
--- `reading::examined::bearing_root` meets its contract.
+-- `reading::heads::bearing_root` meets its contract.
 use mathlib.Core.Path.{sym, _∙_}
 use borrow.Author.Needs.{needs}
 use borrow.Author.Tests.{not-true, not-false}
-use Rattle.reading.proofs.examined.bearing_root.Statement.{statement}
-use Rattle.reading.proofs.examined.bearing_root.Tie as tie
+use Rattle.reading.proofs.heads.bearing_root.Statement.{statement}
+use Rattle.reading.proofs.heads.bearing_root.Tie as tie
 
 is-root-requires : tie.Need-is-root-requires
 is-root-requires c κs = search needs

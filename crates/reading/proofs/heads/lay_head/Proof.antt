@@ -1,8 +1,8 @@
--- `reading::examined::lay_head` meets its contract.
+-- `reading::heads::lay_head` meets its contract.
 use borrow.Author.Needs.{needs}
-use Rattle.reading.specs.Layout.{setHead}
-use Rattle.reading.proofs.examined.lay_head.Statement.{statement}
-use Rattle.reading.proofs.examined.lay_head.Tie as tie
+use Rattle.reading.specs.Heads.{setHead}
+use Rattle.reading.proofs.heads.lay_head.Statement.{statement}
+use Rattle.reading.proofs.heads.lay_head.Tie as tie
 
 cast-heads : tie.Need-cast-heads
 cast-heads c = search needs

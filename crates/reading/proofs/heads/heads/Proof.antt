@@ -1,4 +1,4 @@
--- `reading::examined::heads` meets its contract.
+-- `reading::heads::heads` meets its contract.
 use mathlib.Core.Path.{_≡_, sym, _∙_}
 use mathlib.Core.Bool.{Bool, _&&_}
 use mathlib.Core.Logic.{_↔_}
@@ -20,11 +20,11 @@ use Rattle.schema.specs.Trimming.{BearsExactly}
 use Rattle.schema.specs.declared.value.Schema.{Schema}
 use Rattle.schema.proofs.LimitLaws.{within-room}
 use Rattle.schema.proofs.FirstTables.{root-is}
-use Rattle.reading.specs.Layout.{setHead, addRoot}
+use Rattle.reading.specs.Heads.{setHead, addRoot}
 use Rattle.reading.proofs.LevelLaws.{tag-below}
 use Rattle.reading.proofs.RootMeans.{HeadsBelow, heads-none, heads-laid, heads-more, heads-all}
-use Rattle.reading.proofs.examined.heads.Statement.{statement}
-use Rattle.reading.proofs.examined.heads.Tie as tie
+use Rattle.reading.proofs.heads.heads.Statement.{statement}
+use Rattle.reading.proofs.heads.heads.Tie as tie
 
 module _ (v : Schema) (within : WithinLimits (meaning v)) (bears : List ℕ) (table : BearsExactly (meaning v) bears) where
   -- the test tells the root types that bear a tree

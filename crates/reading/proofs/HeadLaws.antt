@@ -6,7 +6,7 @@ use Prim.Native.Nat.{ℕ, _<_}
 use native.Mathlib.Omega.{arith}
 use lib.ListN.{length, getD, set, length-set}
 use lib.Seq.{getD-set-same, getD-set-other}
-use Rattle.reading.specs.Layout.{headTag, headAccepting, setHead}
+use Rattle.reading.specs.Heads.{headTag, headAccepting, setHead}
 
 module _ (heads : List ℕ) (a tag accepting : ℕ) where
   pub head-long : length (setHead heads a tag accepting) ≡ length heads

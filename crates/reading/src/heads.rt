@@ -1,15 +1,8 @@
-// A schema examined and laid out, once for all the events of a file.
-use crate::layout::HEADS;
-use crate::layout::Layout;
-use crate::layout::head_accepting;
-use crate::layout::head_root;
-use crate::layout::head_tag;
-use schema::BEGINS;
-use schema::STEPS;
+// The table of heads: what the steps of a reading look up by a type or a tag.
 use schema::Schema;
 use schema::StateSet;
+use schema::TAGS;
 use schema::TYPES;
-use schema::live_rows;
 use sdtd::Tag;
 use sdtd::TypeNo;
 ghost use mathlib.Core.Path.{_≡_};
@@ -21,8 +14,34 @@ ghost use Rattle.sdtd.specs.Schema.{WithinLimits};
 ghost use Rattle.schema.specs.States.{bearsIn};
 ghost use Rattle.schema.specs.Value.{meaning};
 ghost use Rattle.schema.specs.Trimming.{BearsExactly};
-ghost use Rattle.reading.specs.Layout.{setHead, addRoot};
-ghost use Rattle.reading.specs.Examined.{HeadsMean, Examined};
+ghost use Rattle.reading.specs.Heads.{headTag, headAccepting, headRoot, setHead, addRoot, HeadsMean};
+
+// Two numbers for each type, its tag and its accepting states; then one for each tag, 0 where no root opens under it, else one more than the
+// type that does.
+pub(crate) const HEADS: usize = 2 * TYPES + TAGS as usize;
+
+// Where the numbers of the type a stand.
+pub(crate) fn head_tag(a: usize) -> usize
+    requires { ⌜ a < mostTypes ⌝ }
+    ensures { λ r. ⌜ r ≡ headTag a ⌝ }
+{
+    2 * a
+}
+
+pub(crate) fn head_accepting(a: usize) -> usize
+    requires { ⌜ a < mostTypes ⌝ }
+    ensures { λ r. ⌜ r ≡ headAccepting a ⌝ }
+{
+    2 * a + 1
+}
+
+// Where the number of the tag g stands.
+pub(crate) fn head_root(g: Tag) -> usize
+    requires { ⌜ g .0 < mostTags ⌝ }
+    ensures { λ r. ⌜ r ≡ headRoot (g .0) ⌝ }
+{
+    2 * TYPES + g.0 as usize
+}
 
 // Does the table of sets say that the type a bears a tree?
 pub(crate) fn bears_in(table: &[u32; TYPES], a: usize) -> bool
@@ -90,29 +109,4 @@ pub(crate) fn heads(schema: Schema, bears: [u32; TYPES]) -> [u32; HEADS]
         a += 1;
     }
     all
-}
-
-// The schema examined.
-pub(crate) fn examine(schema: Schema) -> Layout
-    ensures { λ r. ⌜ Examined schema r ⌝ }
-{
-    let found = live_rows(schema);
-    if !found.inside {
-        return Layout {
-            inside: false,
-            entries: [0; STEPS],
-            begins: [0; BEGINS],
-            heads: [0; HEADS],
-        };
-    }
-    let live = found.live;
-    let heads = heads(schema, live);
-    let entries = found.entries;
-    let begins = found.begins;
-    Layout {
-        inside: true,
-        entries,
-        begins,
-        heads,
-    }
 }

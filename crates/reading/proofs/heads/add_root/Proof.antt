@@ -1,4 +1,4 @@
--- `reading::examined::add_root` meets its contract.
+-- `reading::heads::add_root` meets its contract.
 use mathlib.Core.Path.{_≡_}
 use mathlib.Core.Bool.{Bool, true, false}
 use mathlib.Core.Logic.{_≢_}
@@ -7,9 +7,9 @@ use Prim.Native.Nat.{ℕ, _+_}
 use borrow.Author.Tests.{not-true, not-false, eq-eqb, ne-eqb}
 use borrow.Author.Needs.{needs}
 use lib.ListN.{getD, set}
-use Rattle.reading.specs.Layout.{headRoot, addRoot}
-use Rattle.reading.proofs.examined.add_root.Statement.{statement}
-use Rattle.reading.proofs.examined.add_root.Tie as tie
+use Rattle.reading.specs.Heads.{headRoot, addRoot}
+use Rattle.reading.proofs.heads.add_root.Statement.{statement}
+use Rattle.reading.proofs.heads.add_root.Tie as tie
 
 -- the ways through it: no such root; one, where nothing opens under its tag yet; and one after another
 module _ (heads : List ℕ) (g a : ℕ) (b : Bool) where

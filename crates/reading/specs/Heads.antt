@@ -1,12 +1,19 @@
--- The table of heads, which the private steps look at: where each number stands, and what is read there.
+-- The table of heads, which the private steps look at: where each number stands, what is read there, and what it means.
+use mathlib.Core.Path.{_≡_}
 use mathlib.Core.Bool.{Bool, cond, _&&_}
 use mathlib.Core.List.{List}
-use Prim.Native.Nat.{ℕ, _+_, _-_, _*_, _%_}
+use Prim.Native.Nat.{ℕ, _+_, _-_, _*_, _%_, _≤_, _<_}
 use lib.Dec.{eqb}
 use lib.ListN.{getD, set}
 use Rattle.sdtd.specs.Limits.{mostTags, mostTypes}
 use Rattle.sdtd.specs.Numbered.{typeNo}
+use Rattle.sdtd.specs.Schema.{Schema as Meaning}
+use Rattle.sdtd.specs.Schema.{tagOf}
+use Rattle.sdtd.specs.Tree.{IsRoot}
+use Rattle.sdtd.specs.Trim.{Bears}
 use Rattle.schema.specs.States.{noStates}
+use Rattle.schema.specs.Value.{meaning}
+use Rattle.schema.specs.declared.value.Schema.{Schema}
 use Rattle.reading.specs.declared.coming.Coming.{Coming}
 use Rattle.reading.specs.declared.coming.Coming.the-variants.{Nothing, OfType}
 
@@ -40,3 +47,20 @@ opensUnder heads g =
 -- the type a opens under the tag g, if it may and nothing does yet
 unfoldable pub addRoot : List ℕ → ℕ → ℕ → Bool → List ℕ
 addRoot heads g a may = cond (may && eqb (getD heads (headRoot g) 0) 0) (set heads (headRoot g) (a + 1)) heads
+
+-- a tree-bearing root type of the tag g
+pub record RootOf (S : Meaning) (g j : ℕ) : Type 0 where
+  pub root : IsRoot S j
+  pub bears : Bears S j
+  pub tag : tagOf S j ≡ g
+
+-- the smallest of them, or that there is none
+abbrev pub OpensMeans : Meaning → ℕ → Coming → Type 0
+OpensMeans S g Nothing = (j : ℕ) → ¬ RootOf S g j
+OpensMeans S g (OfType j kept) = RootOf S g (j .0) × ((k : ℕ) → RootOf S g k → j .0 ≤ k)
+
+-- what the heads say of each type, and what opens under each tag
+pub record HeadsMean (v : Schema) (heads : List ℕ) : Type 0 where
+  pub tag : (a : ℕ) → a < v .types → tagOfHead heads a ≡ getD (v .tag) a 0
+  pub accepting : (a : ℕ) → a < v .types → acceptingOfHead heads a ≡ getD (v .accepting) a 0
+  pub opens : (g : ℕ) → g < mostTags → OpensMeans (meaning v) g (opensUnder heads g)
