@@ -102,18 +102,22 @@ fn join_entry(e: Entry, g: Tag, best: Least) -> Least
     join(best, e.by(), e.to())
 }
 
-// The entries under the tag g from start up to end, after what came so far.
+// The entries under the tag g from start up to end, after what came so far. The two numbers of what came are kept apart, so that each stays in
+// a register.
 fn join_row(entries: &[u32; STEPS], start: usize, end: usize, g: Tag, best: Least) -> Least
     requires { ⌜ end ≤ mostSteps ⌝ }
     ensures { λ r. ⌜ r ≡ joins (rowMoves (now (entries .entry)) (g .0) start end) best ⌝ }
 {
-    let mut least = best;
+    let mut of = best.of;
+    let mut kept = best.kept;
     let mut i = start;
     while i < end {
-        least = join_entry(Entry(entries[i]), g, least);
+        let next = join_entry(Entry(entries[i]), g, Least { of, kept });
+        of = next.of;
+        kept = next.kept;
         i += 1;
     }
-    least
+    Least { of, kept }
 }
 
 // The row i, if the lowest bit of `left` is set.
@@ -145,14 +149,17 @@ pub(crate) fn coming_rows<'a>(
     requires { ⌜ (a .0 < mostTypes) × ((k : ℕ) → getD (now begins) k 0 ≤ mostSteps) ⌝ }
     ensures { λ r. ⌜ r ≡ comingBy (movesByRows (now (entries .entry)) (now (begins .entry)) (a .0) states (g .0)) ⌝ }
 {
-    let mut best = NONE_YET;
+    let mut of = NONE_YET.of;
+    let mut kept = NONE_YET.kept;
     let first = STATES as usize * a.0 as usize;
     let mut left = states;
     let mut p = 0;
     while left != 0 {
-        best = join_state(entries, begins, first + p, left, g, best);
+        let next = join_state(entries, begins, first + p, left, g, Least { of, kept });
+        of = next.of;
+        kept = next.kept;
         left /= 2;
         p += 1;
     }
-    coming_of(best)
+    coming_of(Least { of, kept })
 }

@@ -56,14 +56,14 @@ done entries begins states g first p left x y e z h =
     sym (joins-nothing (moves entries begins states g first) (mostStates - p) p x (λ k l. rw (none-left states p left e z k l))) ∙ h
 
 abbrev Inv-loop : tie.InvT-loop
-Inv-loop entries begins states g best₀ first left₀ p₀ best left p =
+Inv-loop entries begins states g of₀ kept₀ first left₀ p₀ of kept left p =
     (p ≤ mostStates) × (left ≡ states / 2 ^ p) × (states < 2 ^ mostStates) × (first + mostStates ≤ mostRows)
     × ((k : ℕ) → getD begins k 0 ≤ mostSteps)
-    × (joins (gathered (moves entries begins states (g .0) first) p (mostStates - p)) best
+    × (joins (gathered (moves entries begins states (g .0) first) p (mostStates - p)) (record { of = of; kept = kept })
     ≡ joins (gathered (moves entries begins states (g .0) first) 0 mostStates) noneYet)
 
 abbrev μ-loop : tie.MeasureT-loop
-μ-loop entries begins states g best₀ first left₀ p₀ best left p = left
+μ-loop entries begins states g of₀ kept₀ first left₀ p₀ of kept left p = left
 
 cast-first : tie.Need-cast-first Inv-loop μ-loop
 cast-first c = search needs
@@ -76,8 +76,9 @@ mul-first c = search needs
 
 loop-holds : tie.Need-loop-holds Inv-loop μ-loop
 loop-holds c =
-    let below : Fits w32 (c .before .args .states) = search needs in
-    (omega arith, sym (div-one _), below .fits, omega arith, c .before .pre .1, refl)
+    let start = c .before .before in
+    let below : Fits w32 (start .args .states) = search needs in
+    (omega arith, sym (div-one _), below .fits, omega arith, start .pre .1, refl)
 
 add-join-state : tie.Need-add-join-state Inv-loop μ-loop
 add-join-state c = search needs
@@ -96,12 +97,12 @@ loop-less c = search needs
 
 loop-again : tie.Need-loop-again Inv-loop μ-loop
 loop-again c =
-    let i = c .before in
+    let i = c .before .before in
     let l = i .before in
-    let a = l .before .before .args in
+    let a = l .before .before .before .args in
     let v = l .loop .inv in
     let p = left-below _ _ _ (v .1) (v .2) (v .0) (i .loop-test .taken) in
-    (omega arith, halved _ _ _ (v .1), v .2, v .3, v .4, turn (a .entries .now) (a .begins .now) (a .states) (a .g .0) (mostStates * a .a .0) (l .loop .p) (l .loop .left) (l .loop .best) _ _ (v .1) p (c .join-state .ensures) (v .5))
+    (omega arith, halved _ _ _ (v .1), v .2, v .3, v .4, turn (a .entries .now) (a .begins .now) (a .states) (a .g .0) (mostStates * a .a .0) (l .loop .p) (l .loop .left) (record { of = l .loop .of; kept = l .loop .kept }) _ _ (v .1) p (c .before .join-state .ensures) (v .5))
 
 coming-of-requires : tie.Need-coming-of-requires Inv-loop μ-loop
 coming-of-requires c κs = search needs
@@ -109,7 +110,7 @@ coming-of-requires c κs = search needs
 returns : tie.Need-returns Inv-loop μ-loop
 returns c =
     let l = c .before .before in
-    let a = l .before .before .args in
+    let a = l .before .before .before .args in
     let v = l .loop .inv in
     c .coming-of .ensures ∙ ap comingOf (done (a .entries .now) (a .begins .now) (a .states) (a .g .0) (mostStates * a .a .0) (l .loop .p) (l .loop .left) _ _ (v .1) (c .before .loop-test .left) (v .5))
 

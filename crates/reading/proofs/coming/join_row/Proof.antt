@@ -16,20 +16,22 @@ abbrev moves : List ℕ → ℕ → ℕ → List Move
 moves entries g i = entryMoves g (getD entries i 0)
 
 abbrev Inv-loop : tie.InvT-loop
-Inv-loop entries start end g least₀ i₀ least i =
-    (end ≤ mostSteps) × (joins (gathered (moves entries (g .0)) i (end - i)) least ≡ joins (rowMoves entries (g .0) start end) least₀)
+Inv-loop entries start end g of₀ kept₀ i₀ of kept i =
+    (end ≤ mostSteps)
+    × (joins (gathered (moves entries (g .0)) i (end - i)) (record { of = of; kept = kept })
+    ≡ joins (rowMoves entries (g .0) start end) (record { of = of₀; kept = kept₀ }))
 
 abbrev μ-loop : tie.MeasureT-loop
-μ-loop entries start end g least₀ i₀ least i = end - i
+μ-loop entries start end g of₀ kept₀ i₀ of kept i = end - i
 
 loop-holds : tie.Need-loop-holds Inv-loop μ-loop
 loop-holds c = (omega arith, refl)
 
-mul-t9 : tie.Need-mul-t9 Inv-loop μ-loop
-mul-t9 c = search needs
+mul-t11 : tie.Need-mul-t11 Inv-loop μ-loop
+mul-t11 c = search needs
 
-element-copy-out-t12 : tie.Need-element-copy-out-t12 Inv-loop μ-loop
-element-copy-out-t12 c = search needs
+element-copy-out-t14 : tie.Need-element-copy-out-t14 Inv-loop μ-loop
+element-copy-out-t14 c = search needs
 
 join-entry-requires : tie.Need-join-entry-requires Inv-loop μ-loop
 join-entry-requires c κs = search needs
@@ -42,15 +44,15 @@ loop-less c = search needs
 
 loop-again : tie.Need-loop-again Inv-loop μ-loop
 loop-again c =
-    let i = c .before .before in
+    let i = c .before .before .before in
     let l = i .before in
-    let a = l .before .args in
-    (omega arith, joins-turn (moves (a .entries .now) (a .g .0)) _ _ _ _ _ (i .loop-test .taken) (c .join-entry .ensures) (l .loop .inv .1))
+    let a = l .before .before .args in
+    (omega arith, joins-turn (moves (a .entries .now) (a .g .0)) _ _ _ _ _ (i .loop-test .taken) (c .before .join-entry .ensures) (l .loop .inv .1))
 
 returns : tie.Need-returns Inv-loop μ-loop
 returns c =
     let l = c .before in
-    let a = l .before .args in
+    let a = l .before .before .args in
     joins-done (moves (a .entries .now) (a .g .0)) _ _ _ _ (c .loop-test .left) (l .loop .inv .1)
 
 pub join-row-spec : {M : Type 1} → statement M
@@ -60,8 +62,8 @@ join-row-spec =
     Inv-loop
     μ-loop
     loop-holds
-    mul-t9
-    element-copy-out-t12
+    mul-t11
+    element-copy-out-t14
     join-entry-requires
     add-i
     loop-less
