@@ -5,6 +5,7 @@ use mathlib.Core.Bool.{Bool, true, false, _||_}
 use mathlib.Core.List.{List, [], _∷_, _++_, List·Memᴰ, List·Memᴰ·head, List·Memᴰ·tail, List·Memᴰ·cases-cons, List·Memᴰ·not-nil}
 use mathlib.Core.List.{List·Memᴰ·append-cases, List·Memᴰ·eq-of-singleton, Memᴰ·append-left, Memᴰ·append-right}
 use Prim.Native.Nat.{ℕ, zero, suc, _+_, _-_, _^_, _≤_, _<_}
+use native.Mathlib.Nat.{add-zero, zero-add}
 use native.Mathlib.Decide.{ℕ-discrete}
 use native.Mathlib.Numerals.{add-one}
 use native.Mathlib.Omega.{arith}
@@ -13,25 +14,24 @@ use Rattle.sdtd.specs.Limits.{mostStates}
 use Rattle.sdtd.proofs.Basics.{cond-either}
 use Rattle.schema.specs.States.{member, insert, noStates}
 use Rattle.schema.proofs.Bits.{member-none, insert-below, member-insert}
-use Rattle.reading.specs.declared.coming.Least.{Least}
-use Rattle.reading.specs.Coming.{least, noneYet, join, Move, move, joins, gathered, moveWhere}
+use Rattle.reading.specs.Coming.{Least, least, noneYet, join, Move, move, joins, gathered, moveWhere}
 
 -- c has the smallest type of P, and the states that P has with it; none are kept where P has nothing
 pub record Smallest (P : ℕ → ℕ → Type 0) (c : Least) : Type 0 where
   pub kept-below : c .kept < 2 ^ mostStates
   pub none : c .kept ≡ noStates → (j q : ℕ) → ¬ P j q
-  pub some : c .kept ≢ noStates → (q : ℕ) × P (c .of .0) q
-  pub least : (j q : ℕ) → P j q → c .of .0 ≤ j
-  pub keeps : (q : ℕ) → T (member q (c .kept)) ↔ P (c .of .0) q
+  pub some : c .kept ≢ noStates → (q : ℕ) × P (c .of) q
+  pub least : (j q : ℕ) → P j q → c .of ≤ j
+  pub keeps : (q : ℕ) → T (member q (c .kept)) ↔ P (c .of) q
 
 pub smallest-same : {P Q : ℕ → ℕ → Type 0} {c : Least} → ((j q : ℕ) → P j q ↔ Q j q) → Smallest P c → Smallest Q c
 smallest-same {c = c} same s =
     record {
       kept-below = s .kept-below;
       none = λ e j q p. s .none e j q (same j q .1 p);
-      some = λ n. let p = s .some n in (p .0, same (c .of .0) (p .0) .0 (p .1));
+      some = λ n. let p = s .some n in (p .0, same (c .of) (p .0) .0 (p .1));
       least = λ j q p. s .least j q (same j q .1 p);
-      keeps = λ q. (λ m. same (c .of .0) q .0 (s .keeps q .0 m), λ p. s .keeps q .1 (same (c .of .0) q .1 p));
+      keeps = λ q. (λ m. same (c .of) q .0 (s .keeps q .0 m), λ p. s .keeps q .1 (same (c .of) q .1 p));
     }
 
 -- P, and the type j with the state q
@@ -59,7 +59,7 @@ module _ (P : ℕ → ℕ → Type 0) (c : Least) (j q : ℕ) (state : q < mostS
       }
 
   -- a larger type changes nothing
-  join-larger : c .kept ≢ noStates → c .of .0 < j → Smallest (With P j q) c
+  join-larger : c .kept ≢ noStates → c .of < j → Smallest (With P j q) c
   join-larger n l =
       record {
         kept-below = s .kept-below;
@@ -70,7 +70,7 @@ module _ (P : ℕ → ℕ → Type 0) (c : Least) (j q : ℕ) (state : q < mostS
       }
 
   -- the same type adds the state
-  join-same : c .of .0 ≡ j → Smallest (With P j q) (least j (insert q (c .kept)))
+  join-same : c .of ≡ j → Smallest (With P j q) (least j (insert q (c .kept)))
   join-same e =
       let insertion : (p : ℕ) → T (member p (insert q (c .kept))) ↔ (T (member p (c .kept)) ⊎ ((p ≡ q) × (q < mostStates))) =
       λ p. member-insert q p (c .kept) (s .kept-below) in
@@ -90,24 +90,24 @@ module _ (P : ℕ → ℕ → Type 0) (c : Least) (j q : ℕ) (state : q < mostS
   join-smallest : Smallest (With P j q) (join c j q)
   unfolding join
   join-smallest =
-      cond-either (Smallest (With P j q)) (eqb j (c .of .0)) (λ h. join-same (sym (eqb→eq j (c .of .0) h)))
-      (λ n. cond-either (Smallest (With P j q)) (eqb (c .kept) noStates || ltb j (c .of .0)) (λ h. join-first (larger h))
+      cond-either (Smallest (With P j q)) (eqb j (c .of)) (λ h. join-same (sym (eqb→eq j (c .of) h)))
+      (λ n. cond-either (Smallest (With P j q)) (eqb (c .kept) noStates || ltb j (c .of)) (λ h. join-first (larger h))
       (λ m. join-larger (λ e. m (rw e tt)) (above n m)))
     where
       -- nothing came yet, or a larger type
-      larger : T (eqb (c .kept) noStates || ltb j (c .of .0)) → (k p : ℕ) → P k p → j < k
+      larger : T (eqb (c .kept) noStates || ltb j (c .of)) → (k p : ℕ) → P k p → j < k
       larger h k p w =
-          ⊎-elim (λ e. absurd (s .none (eqb→eq (c .kept) noStates e) k p w)) (λ l. omega (arith, ltb→lt j (c .of .0) l, s .least k p w))
-          (or-cases (eqb (c .kept) noStates) (ltb j (c .of .0)) h)
+          ⊎-elim (λ e. absurd (s .none (eqb→eq (c .kept) noStates e) k p w)) (λ l. omega (arith, ltb→lt j (c .of) l, s .least k p w))
+          (or-cases (eqb (c .kept) noStates) (ltb j (c .of)) h)
         where
           or-cases : (a b : Bool) → T (a || b) → T a ⊎ T b
           or-cases true b h = inl tt
           or-cases false b h = inr h
 
-      above : (T (eqb j (c .of .0)) → ⊥) → (T (eqb (c .kept) noStates || ltb j (c .of .0)) → ⊥) → c .of .0 < j
+      above : (T (eqb j (c .of)) → ⊥) → (T (eqb (c .kept) noStates || ltb j (c .of)) → ⊥) → c .of < j
       above n m =
-          let d : ¬ (j ≡ c .of .0) = λ e. n (rw e (eqb-refl (c .of .0))) in
-          let l : ¬ (j < c .of .0) = λ h. m (or-right (eqb (c .kept) noStates) (ltb j (c .of .0)) (lt→ltb j (c .of .0) h)) in
+          let d : ¬ (j ≡ c .of) = λ e. n (rw e (eqb-refl (c .of))) in
+          let l : ¬ (j < c .of) = λ h. m (or-right (eqb (c .kept) noStates) (ltb j (c .of)) (lt→ltb j (c .of) h)) in
           omega arith
         where
           or-right : (a b : Bool) → T b → T (a || b)
@@ -175,11 +175,14 @@ module _ (f : ℕ → List Move) (i end : ℕ) where
   unfolding gathered joins
   joins-done x y l h = let q : end - i ≡ 0 = omega arith in rw q at h
 
--- none is left either where no place has a move
-pub joins-nothing : (f : ℕ → List Move) (n i : ℕ) (x : Least) → ((k : ℕ) → i ≤ k → f k ≡ []) → joins (gathered f i n) x ≡ x
-unfolding gathered joins
-joins-nothing f zero i x none = refl
-joins-nothing f (suc n) i x none = rw (none i (omega arith)) (joins-nothing f n (suc i) x (λ k l. none k (omega arith)))
+-- places with no move are passed over
+pub gathered-past : (f : ℕ → List Move) (n m i : ℕ) → ((k : ℕ) → i ≤ k → k < i + n → f k ≡ []) → gathered f i (n + m) ≡ gathered f (i + n) m
+unfolding gathered
+gathered-past f zero m i none = rw (add-zero i, zero-add m)
+gathered-past f (suc n) m i none =
+    let q : suc n + m ≡ suc (n + m) = omega arith in
+    let e : i + suc n ≡ suc i + n = omega arith in
+    rw (q, e, none i (omega arith) (omega arith)) (gathered-past f n m (suc i) (λ k l h. none k (omega arith) (omega arith)))
 
 -- a move of those gathered, and the place that has it
 pub record MoveAt (f : ℕ → List Move) (i n : ℕ) (m : Move) : Type 0 where

@@ -3,7 +3,7 @@ use mathlib.Core.Path.{_≡_, refl, sym, subst, _∙_}
 use mathlib.Core.Logic.{_↔_}
 use mathlib.Core.Bool.{Bool, true, false, cond, _&&_}
 use mathlib.Core.List.{List, [], List·Memᴰ, List·Memᴰ·not-nil}
-use Prim.Native.Nat.{ℕ, suc, _+_, _-_, _/_, _%_, _^_, _≤_, _<_}
+use Prim.Native.Nat.{ℕ, suc, _+_, _-_, _%_, _≤_, _<_}
 use native.Mathlib.Omega.{arith}
 use lib.Dec.{T, eqb, eqb→eq, eqb-refl}
 use lib.ListN.{getD}
@@ -24,10 +24,9 @@ use Rattle.schema.proofs.FirstTables.{Fits, own-step, own-steps}
 use Rattle.schema.proofs.TablesExact.{bears-in}
 use Rattle.schema.proofs.RowLaws.{Says, counted-from, row-says, row-has}
 use Rattle.reading.specs.declared.value.Reading.{Reading}
-use Rattle.reading.specs.declared.coming.Least.{Least}
 use Rattle.reading.specs.Levels.{Within, innerType, innerSet}
 use Rattle.reading.specs.Questions.{LeadsTo, CanOpen}
-use Rattle.reading.specs.Coming.{noneYet, Move, move, joins, comingOf, comingBy, entryMoves, stateMoves, stepTaken, stepMoves}
+use Rattle.reading.specs.Coming.{Least, noneYet, Move, move, joins, comingOf, comingBy, entryMoves, rowMoves, stepTaken, stepMoves}
 use Rattle.reading.specs.Steps.{innerByRows, innerBySteps}
 use Rattle.reading.proofs.LevelLaws.{inner-below}
 use Rattle.reading.proofs.ComingMeans.{ComesNext, ComingMeans}
@@ -50,7 +49,7 @@ smallest-means S r g c d s =
     opened : {j : ℕ} → CanOpen S r g j → (q : ℕ) × Opens S r g j q
     opened o = let w = o .some-open d in (w .0, record { bears = o .bears; tag = o .tag; leads = w .1 })
 
-    comes : {q : ℕ} → Opens S r g (c .of .0) q → ComesNext S r g (c .of .0) (c .kept)
+    comes : {q : ℕ} → Opens S r g (c .of) q → ComesNext S r g (c .of) (c .kept)
     comes {q} o =
         record {
           can-open = record { bears = o .bears; tag = o .tag; some-open = λ h. (q, o .leads); none-open = λ z. absurd (omega arith) };
@@ -82,7 +81,7 @@ chosen-mem false m ms = (λ w. absurd (List·Memᴰ·not-nil w), λ w. absurd (w
 module _ {S : Meaning} (within : WithinLimits S) {entries begins : List ℕ} (rows : RowsMean S entries begins) (r : Reading) (g : ℕ) where
   -- the moves at the state p of the innermost type, and at the place i of the entries
   abbrev atState : ℕ → List Move
-  atState p = stateMoves entries begins g (innerSet r / 2 ^ p) (rowPlace (innerType r) p)
+  atState p = cond (member p (innerSet r)) (rowMoves entries begins g (rowPlace (innerType r) p)) []
 
   abbrev atEntry : ℕ → List Move
   atEntry i = entryMoves g (getD entries i 0)

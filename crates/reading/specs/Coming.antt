@@ -1,7 +1,8 @@
 -- What the private steps of the calls compute: the type that comes next inside an element, and the check of the open levels.
-use mathlib.Core.Bool.{Bool, cond, _&&_, _||_}
+use mathlib.Core.Path.{_≡_}
+use mathlib.Core.Bool.{Bool, false, cond, _&&_, _||_}
 use mathlib.Core.List.{List, [], _∷_, _++_}
-use Prim.Native.Nat.{ℕ, zero, suc, _-_, _/_, _%_, _^_, _≤_, _<_}
+use Prim.Native.Nat.{ℕ, zero, suc, _-_, _%_, _≤_, _<_}
 use lib.Dec.{T, eqb, ltb}
 use lib.ListN.{getD}
 use Rattle.sdtd.specs.Limits.{mostTypes, mostStates, mostLevels}
@@ -14,11 +15,14 @@ use Rattle.schema.specs.declared.value.Schema.{Schema}
 use Rattle.reading.specs.declared.value.Reading.{Reading}
 use Rattle.reading.specs.declared.coming.Coming.{Coming}
 use Rattle.reading.specs.declared.coming.Coming.the-variants.{Nothing, OfType}
-use Rattle.reading.specs.declared.coming.Least.{Least}
 
--- a type and the states that it leads to; where none is kept, no type came yet
+-- what came so far: the smallest type, and the states that it leads to; where none is kept, no type came yet
+pub record Least : Type 0 where
+  pub of : ℕ
+  pub kept : ℕ
+
 abbrev pub least : ℕ → ℕ → Least
-least of kept = record { of = typeNo of; kept = kept }
+least of kept = record { of = of; kept = kept }
 
 abbrev pub noneYet : Least
 noneYet = least 0 noStates
@@ -26,8 +30,8 @@ noneYet = least 0 noStates
 -- a step by j to q: the same type adds the state, the first and a smaller one replace what came so far
 unfoldable pub join : Least → ℕ → ℕ → Least
 join c j q =
-    cond (eqb j (c .of .0)) (least j (insert q (c .kept)))
-    (cond (eqb (c .kept) noStates || ltb j (c .of .0)) (least j (insert q noStates)) c)
+    cond (eqb j (c .of)) (least j (insert q (c .kept)))
+    (cond (eqb (c .kept) noStates || ltb j (c .of)) (least j (insert q noStates)) c)
 
 -- a move: the type that it is by, and the state that it leads to
 pub record Move : Type 0 where
@@ -44,7 +48,7 @@ joins (m ∷ ms) c = joins ms (join c (m .by) (m .to))
 
 -- what the smallest type is, if one came
 unfoldable pub comingOf : Least → Coming
-comingOf c = cond (eqb (c .kept) noStates) Nothing (OfType (c .of) (c .kept))
+comingOf c = cond (eqb (c .kept) noStates) Nothing (OfType (typeNo (c .of)) (c .kept))
 
 -- what comes next by the moves
 abbrev pub comingBy : List Move → Coming
@@ -63,17 +67,23 @@ moveWhere b j q = cond b (move j q ∷ []) []
 abbrev pub entryMoves : ℕ → ℕ → List Move
 entryMoves g e = moveWhere (eqb (tagIn e) g) (byIn e) (toIn e)
 
--- those of the entries from start up to end
-abbrev pub rowMoves : List ℕ → ℕ → ℕ → ℕ → List Move
-rowMoves entries g start end = gathered (λ i. entryMoves g (getD entries i 0)) start (end - start)
+-- those of the entries from start up to end, and those of the row i
+abbrev pub movesUpTo : List ℕ → ℕ → ℕ → ℕ → List Move
+movesUpTo entries g start end = gathered (λ i. entryMoves g (getD entries i 0)) start (end - start)
 
--- those of the row i, where the lowest digit of `left` is 1
-abbrev pub stateMoves : List ℕ → List ℕ → ℕ → ℕ → ℕ → List Move
-stateMoves entries begins g left i = cond (eqb (left % 2) 1) (rowMoves entries g (getD begins i 0) (getD begins (suc i) 0)) []
+abbrev pub rowMoves : List ℕ → List ℕ → ℕ → ℕ → List Move
+rowMoves entries begins g i = movesUpTo entries g (getD begins i 0) (getD begins (suc i) 0)
 
 -- the moves under the tag g from the states of the set, by the rows of the type a
 abbrev pub movesByRows : List ℕ → List ℕ → ℕ → ℕ → ℕ → List Move
-movesByRows entries begins a states g = gathered (λ p. stateMoves entries begins g (states / 2 ^ p) (rowPlace a p)) 0 mostStates
+movesByRows entries begins a states g =
+    gathered (λ p. cond (member p states) (rowMoves entries begins g (rowPlace a p)) []) 0 mostStates
+
+-- q is the lowest state of the set
+pub record Lowest (set q : ℕ) : Type 0 where
+  pub state : q < mostStates
+  pub here : T (member q set)
+  pub least : (s : ℕ) → s < q → member s set ≡ false
 
 -- the step s is taken under the tag g: its type has the tag and bears a tree, it leads from a state of the set, and into one of the live
 -- states `own`

@@ -8,13 +8,14 @@ use sdtd::Tag;
 use sdtd::TypeNo;
 ghost use mathlib.Core.Path.{_≡_};
 ghost use mathlib.Core.Bool.{cond, not, _&&_};
-ghost use Prim.Native.Nat.{ℕ, _≤_, _<_};
+ghost use mathlib.Core.Logic.{_≢_};
+ghost use Prim.Native.Nat.{ℕ, _/_, _^_, _≤_, _<_};
 ghost use lib.Dec.{eqb, ltb};
 ghost use lib.ListN.{getD};
-ghost use Rattle.sdtd.specs.Limits.{mostTypes, mostSteps};
+ghost use Rattle.sdtd.specs.Limits.{mostTypes, mostStates, mostSteps};
 ghost use Rattle.schema.specs.States.{noStates};
 ghost use Rattle.schema.specs.Rows.{mostRows};
-ghost use Rattle.reading.specs.Coming.{joins, entryMoves, rowMoves, stateMoves, movesByRows, comingOf, comingBy};
+ghost use Rattle.reading.specs.Coming.{least, joins, entryMoves, movesUpTo, rowMoves, movesByRows, comingOf, comingBy, Lowest};
 ghost use Rattle.reading.specs.Coming.{join as joined};
 
 // What comes next under a tag: nothing, or a type and the states that it leads to.
@@ -23,66 +24,55 @@ pub(crate) enum Coming {
     OfType(TypeNo, u32),
 }
 
-// The smallest type among the steps so far, and the states that it leads to; where none is kept, no type came yet.
-pub(crate) struct Least {
-    pub of: TypeNo,
-    pub kept: u32,
-}
-
-pub(crate) const NONE_YET: Least = Least {
-    of: TypeNo(0),
-    kept: StateSet::NONE.0,
-};
+// What came so far is held in two numbers: the smallest type among the steps so far, and the states that it leads to; where none is kept, no
+// type came yet. In a struct the two would be put together and taken apart at each step.
 
 // Does a smaller type than j stand there already? That it is the same type is asked first, which most steps answer.
-fn smaller_there(best: Least, j: TypeNo) -> bool
-    ensures { λ r. ⌜ r ≡ (not (eqb (j .0) (best .of .0)) && (not (eqb (best .kept) noStates) && ltb (best .of .0) (j .0))) ⌝ }
+fn smaller_there(of: TypeNo, kept: u32, j: TypeNo) -> bool
+    ensures { λ r. ⌜ r ≡ (not (eqb (j .0) (of .0)) && (not (eqb kept noStates) && ltb (of .0) (j .0))) ⌝ }
 {
-    let of = best.of;
     if j.same(of) {
         return false;
     }
-    if best.kept == StateSet::NONE.0 {
+    if kept == StateSet::NONE.0 {
         return false;
     }
     of.before(j)
 }
 
 // The states kept for j so far.
-fn kept_for(best: Least, j: TypeNo) -> u32
-    ensures { λ r. ⌜ r ≡ cond (eqb (j .0) (best .of .0)) (best .kept) noStates ⌝ }
+fn kept_for(of: TypeNo, kept: u32, j: TypeNo) -> u32
+    ensures { λ r. ⌜ r ≡ cond (eqb (j .0) (of .0)) kept noStates ⌝ }
 {
-    let of = best.of;
     if j.same(of) {
-        return best.kept;
+        return kept;
     }
     StateSet::NONE.0
 }
 
 // A step by j to q, beside what came so far: the same type adds the state; the first type or a smaller one replaces what came; a larger one
 // changes nothing.
-pub(crate) fn join(best: Least, j: TypeNo, q: u8) -> Least
-    ensures { λ r. ⌜ r ≡ joined best (j .0) q ⌝ }
+pub(crate) fn join<'a>(of: &'a mut u8, kept: &'a mut u32, j: TypeNo, q: u8)
+    ensures { λ _. ⌜ least (now (of .exit)) (now (kept .exit)) ≡ joined (least (now (of .entry)) (now (kept .entry))) (j .0) q ⌝ }
 {
-    if smaller_there(best, j) {
-        return best;
+    let was = TypeNo(*of);
+    let had = *kept;
+    if smaller_there(was, had, j) {
+        return;
     }
-    let more = StateSet(kept_for(best, j)).with(q);
-    Least {
-        of: j,
-        kept: more.0,
-    }
+    let more = StateSet(kept_for(was, had, j)).with(q);
+    *of = j.0;
+    *kept = more.0;
 }
 
 // The smallest type of all, if one came.
-pub(crate) fn coming_of(least: Least) -> Coming
-    ensures { λ r. ⌜ r ≡ comingOf least ⌝ }
+pub(crate) fn coming_of(of: TypeNo, kept: u32) -> Coming
+    ensures { λ r. ⌜ r ≡ comingOf (least (of .0) kept) ⌝ }
 {
-    if least.kept == StateSet::NONE.0 {
+    if kept == StateSet::NONE.0 {
         return Coming::Nothing;
     }
-    let of = least.of;
-    Coming::OfType(of, least.kept)
+    Coming::OfType(of, kept)
 }
 
 // A table's entry as a place: a parameter is known to fit its type, and an element behind a reference is not.
@@ -93,52 +83,68 @@ fn place(n: u16) -> usize
 }
 
 // An entry, if it is under the tag g, after what came so far.
-fn join_entry(e: Entry, g: Tag, best: Least) -> Least
-    ensures { λ r. ⌜ r ≡ joins (entryMoves (g .0) (e .0)) best ⌝ }
+fn join_entry<'a>(e: Entry, g: Tag, of: &'a mut u8, kept: &'a mut u32)
+    ensures { λ _. ⌜ least (now (of .exit)) (now (kept .exit)) ≡ joins (entryMoves (g .0) (e .0)) (least (now (of .entry)) (now (kept .entry))) ⌝ }
 {
     if !e.tag().same(g) {
-        return best;
+        return;
     }
-    join(best, e.by(), e.to())
+    join(of, kept, e.by(), e.to());
 }
 
-// The entries under the tag g from start up to end, after what came so far. The two numbers of what came are kept apart, so that each stays in
-// a register.
-fn join_row(entries: &[u32; STEPS], start: usize, end: usize, g: Tag, best: Least) -> Least
+// The entries under the tag g from start up to end, after what came so far.
+fn join_entries<'a>(
+    entries: &'a [u32; STEPS],
+    start: usize,
+    end: usize,
+    g: Tag,
+    of: &'a mut u8,
+    kept: &'a mut u32,
+)
     requires { ⌜ end ≤ mostSteps ⌝ }
-    ensures { λ r. ⌜ r ≡ joins (rowMoves (now (entries .entry)) (g .0) start end) best ⌝ }
+    ensures { λ _. ⌜ least (now (of .exit)) (now (kept .exit))
+        ≡ joins (movesUpTo (now (entries .entry)) (g .0) start end) (least (now (of .entry)) (now (kept .entry))) ⌝ }
 {
-    let mut of = best.of;
-    let mut kept = best.kept;
     let mut i = start;
     while i < end {
-        let next = join_entry(Entry(entries[i]), g, Least { of, kept });
-        of = next.of;
-        kept = next.kept;
+        join_entry(Entry(entries[i]), g, of, kept);
         i += 1;
     }
-    Least { of, kept }
 }
 
-// The row i, if the lowest bit of `left` is set.
-fn join_state<'a>(
+// The row i, after what came so far.
+fn join_row<'a>(
     entries: &'a [u32; STEPS],
     begins: &'a [u16; BEGINS],
     i: usize,
-    left: u32,
     g: Tag,
-    best: Least,
-) -> Least
+    of: &'a mut u8,
+    kept: &'a mut u32,
+)
     requires { ⌜ (i < mostRows) × ((k : ℕ) → getD (now begins) k 0 ≤ mostSteps) ⌝ }
-    ensures { λ r. ⌜ r ≡ joins (stateMoves (now (entries .entry)) (now (begins .entry)) (g .0) left i) best ⌝ }
+    ensures { λ _. ⌜ least (now (of .exit)) (now (kept .exit))
+        ≡ joins (rowMoves (now (entries .entry)) (now (begins .entry)) (g .0) i) (least (now (of .entry)) (now (kept .entry))) ⌝ }
 {
-    if left % 2 == 0 {
-        return best;
-    }
-    join_row(entries, place(begins[i]), place(begins[i + 1]), g, best)
+    join_entries(entries, place(begins[i]), place(begins[i + 1]), g, of, kept);
 }
 
-// What comes next under the tag g from the states of the set, by the rows of the type a.
+// The lowest state of a set that has one.
+fn lowest(set: u32) -> u32
+    requires { ⌜ set ≢ noStates ⌝ }
+    ensures { λ r. ⌜ Lowest set r ⌝ }
+{
+    u32::trailing_zeros(set)
+}
+
+// The states past q, counted from the one after it.
+fn past(set: u32, q: u32) -> u32
+    requires { ⌜ q < mostStates ⌝ }
+    ensures { λ r. ⌜ r ≡ set / 2 ^ q / 2 ⌝ }
+{
+    (set >> q) / 2
+}
+
+// What comes next under the tag g from the states of the set, by the rows of the type a. In `left` are those from p on, counted from p.
 pub(crate) fn coming_rows<'a>(
     entries: &'a [u32; STEPS],
     begins: &'a [u16; BEGINS],
@@ -149,17 +155,17 @@ pub(crate) fn coming_rows<'a>(
     requires { ⌜ (a .0 < mostTypes) × ((k : ℕ) → getD (now begins) k 0 ≤ mostSteps) ⌝ }
     ensures { λ r. ⌜ r ≡ comingBy (movesByRows (now (entries .entry)) (now (begins .entry)) (a .0) states (g .0)) ⌝ }
 {
-    let mut of = NONE_YET.of;
-    let mut kept = NONE_YET.kept;
     let first = STATES as usize * a.0 as usize;
+    let mut of = 0;
+    let mut kept = StateSet::NONE.0;
     let mut left = states;
     let mut p = 0;
     while left != 0 {
-        let next = join_state(entries, begins, first + p, left, g, Least { of, kept });
-        of = next.of;
-        kept = next.kept;
-        left /= 2;
+        let q = lowest(left);
+        p += q as usize;
+        join_row(entries, begins, first + p, g, &mut of, &mut kept);
+        left = past(left, q);
         p += 1;
     }
-    coming_of(Least { of, kept })
+    coming_of(TypeNo(of), kept)
 }

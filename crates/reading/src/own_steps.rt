@@ -1,7 +1,5 @@
 // What comes next inside an element by its type's own steps, where a schema is asked for one opening only.
 use crate::coming::Coming;
-use crate::coming::Least;
-use crate::coming::NONE_YET;
 use crate::coming::coming_of;
 use crate::coming::join;
 use crate::heads::bears_in;
@@ -18,7 +16,7 @@ ghost use lib.ListN.{getD};
 ghost use Rattle.sdtd.specs.Limits.{mostTypes, mostSteps};
 ghost use Rattle.sdtd.specs.Schema.{step};
 ghost use Rattle.schema.specs.Value.{offset, stepAt};
-ghost use Rattle.reading.specs.Coming.{joins, gathered, stepTaken, stepMoves, movesBySteps, comingBy};
+ghost use Rattle.reading.specs.Coming.{least, joins, gathered, stepTaken, stepMoves, movesBySteps, comingBy};
 
 // Under which tag a step is asked for, from which states, and into which live states of its type.
 struct Asked {
@@ -60,14 +58,17 @@ fn join_step<'a>(
     p: u8,
     j: TypeNo,
     q: u8,
-    best: Least,
-) -> Least
-    ensures { λ r. ⌜ r ≡ joins (stepMoves (now (tag .entry)) (now (live .entry)) (asked .own) (asked .states) (asked .g .0) (step p (j .0) q)) best ⌝ }
+    of: &'a mut u8,
+    kept: &'a mut u32,
+)
+    ensures { λ _. ⌜ least (now (of .exit)) (now (kept .exit))
+        ≡ joins (stepMoves (now (tag .entry)) (now (live .entry)) (asked .own) (asked .states) (asked .g .0) (step p (j .0) q))
+        (least (now (of .entry)) (now (kept .entry))) ⌝ }
 {
     if !step_taken(tag, live, asked, p, j, q) {
-        return best;
+        return;
     }
-    join(best, j, q)
+    join(of, kept, j, q);
 }
 
 // What comes next by the steps of the span.
@@ -84,14 +85,24 @@ fn coming_span<'a>(
     ensures { λ r. ⌜ r ≡ comingBy (gathered (λ i. stepMoves (now (tag .entry)) (now (live .entry)) (asked .own) (asked .states) (asked .g .0)
         (stepAt (now (from .entry)) (now (by .entry)) (now (to .entry)) i)) (span .start) (span .n)) ⌝ }
 {
-    let mut best = NONE_YET;
+    let mut of = 0;
+    let mut kept = StateSet::NONE.0;
     let end = span.start + span.n;
     let mut i = span.start;
     while i < end {
-        best = join_step(tag, live, asked, from[i], TypeNo(by[i]), to[i], best);
+        join_step(
+            tag,
+            live,
+            asked,
+            from[i],
+            TypeNo(by[i]),
+            to[i],
+            &mut of,
+            &mut kept,
+        );
         i += 1;
     }
-    coming_of(best)
+    coming_of(TypeNo(of), kept)
 }
 
 // The place of the first step of the type a.

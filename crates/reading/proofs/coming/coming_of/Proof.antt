@@ -10,7 +10,7 @@ returns c = rw (eq-eqb _ 0 (c .if1 .taken))
 
 returns-2 : tie.Need-returns-2
 unfolding comingOf
-returns-2 c = rw (ne-eqb _ 0 (c .before .if1 .left))
+returns-2 c = rw (ne-eqb _ 0 (c .if1 .left))
 
 pub coming-of-spec : {M : Type 1} → statement M
 coming-of-spec = tie.close (tie.spec returns returns-2)

@@ -4,12 +4,11 @@ use mathlib.Core.Bool.{Bool, true, false, true≢false, cond, not, _&&_, _||_}
 use Prim.Native.Nat.{ℕ, _<_}
 use native.Mathlib.Decide.{decLe}
 use native.Mathlib.Omega.{arith}
-use lib.Dec.{eqb, ltb}
-use borrow.Author.Needs.{needs}
 use borrow.Author.Tests.{eq-eqb, ltb-true, ltb-false, lt-ltb, le-ltb}
+use borrow.Author.Needs.{needs}
+use lib.Dec.{eqb, ltb}
 use Rattle.schema.specs.States.{insert, noStates}
-use Rattle.reading.specs.declared.coming.Least.{Least}
-use Rattle.reading.specs.Coming.{least, join}
+use Rattle.reading.specs.Coming.{Least, least, join}
 use Rattle.reading.proofs.coming.join.Statement.{statement}
 use Rattle.reading.proofs.coming.join.Tie as tie
 
@@ -33,31 +32,31 @@ grows-by c j q false false l true f e = refl
 grows-by c j q false false l false f e = absurd (true≢false (sym (f refl e)))
 
 module _ (c : Least) (j q : ℕ) where
-  stays : smaller (eqb j (c .of .0)) (eqb (c .kept) noStates) (ltb (c .of .0) j) ≡ true → c ≡ join c j q
+  stays : smaller (eqb j (c .of)) (eqb (c .kept) noStates) (ltb (c .of) j) ≡ true → c ≡ join c j q
   unfolding join
   stays e =
-      stays-by c j q (eqb j (c .of .0)) (eqb (c .kept) noStates) (ltb (c .of .0) j) (ltb j (c .of .0))
-      (λ l. let below = ltb-true (c .of .0) j l in le-ltb j (c .of .0) (omega arith)) e
+      stays-by c j q (eqb j (c .of)) (eqb (c .kept) noStates) (ltb (c .of) j) (ltb j (c .of))
+      (λ l. let below = ltb-true (c .of) j l in le-ltb j (c .of) (omega arith)) e
 
-  larger : eqb j (c .of .0) ≡ false → ltb (c .of .0) j ≡ false → j < c .of .0
+  larger : eqb j (c .of) ≡ false → ltb (c .of) j ≡ false → j < c .of
   larger a l =
-      elim (decLe (c .of .0) j) [
-        | yes h ↦ let least = ltb-false (c .of .0) j l in absurd (true≢false (sym (eq-eqb j (c .of .0) (omega arith)) ∙ a))
+      elim (decLe (c .of) j) [
+        | yes h ↦ let least = ltb-false (c .of) j l in absurd (true≢false (sym (eq-eqb j (c .of) (omega arith)) ∙ a))
         | no h ↦ omega arith
       ]
 
-  grows : smaller (eqb j (c .of .0)) (eqb (c .kept) noStates) (ltb (c .of .0) j) ≡ false
-      → least j (insert q (cond (eqb j (c .of .0)) (c .kept) noStates)) ≡ join c j q
+  grows : smaller (eqb j (c .of)) (eqb (c .kept) noStates) (ltb (c .of) j) ≡ false
+      → least j (insert q (cond (eqb j (c .of)) (c .kept) noStates)) ≡ join c j q
   unfolding join
   grows e =
-      grows-by c j q (eqb j (c .of .0)) (eqb (c .kept) noStates) (ltb (c .of .0) j) (ltb j (c .of .0))
-      (λ a l. lt-ltb j (c .of .0) (larger a l)) e
+      grows-by c j q (eqb j (c .of)) (eqb (c .kept) noStates) (ltb (c .of) j) (ltb j (c .of))
+      (λ a l. lt-ltb j (c .of) (larger a l)) e
 
 smaller-there-requires : tie.Need-smaller-there-requires
 smaller-there-requires c κs = search needs
 
 returns : tie.Need-returns
-returns c = stays _ _ _ (sym (c .before .smaller-there .ensures) ∙ c .if1 .taken)
+returns c = stays (least _ _) _ _ (sym (c .before .smaller-there .ensures) ∙ c .if1 .taken)
 
 kept-for-requires : tie.Need-kept-for-requires
 kept-for-requires c κs = search needs
@@ -69,7 +68,8 @@ returns-2 : tie.Need-returns-2
 returns-2 c =
     let k = c .before in
     let e = k .before in
-    rw (c .with .ensures, k .kept-for .ensures) (grows _ _ _ (sym (e .before .smaller-there .ensures) ∙ e .if1 .left))
+    rw (c .with .ensures, k .kept-for .ensures) (grows (least _ _) _ _ (sym (e .before .smaller-there .ensures) ∙ e .if1 .left))
 
 pub join-spec : {M : Type 1} → statement M
-join-spec = tie.close (tie.spec smaller-there-requires returns kept-for-requires with-requires returns-2)
+join-spec =
+    tie.close (tie.spec smaller-there-requires returns kept-for-requires with-requires returns-2)

@@ -32,7 +32,7 @@ unfolding joins
 returns-2 c =
     let t = c .before in
     let b = t .before in
-    let e = b .before in
+    let e = b .before .before .before in
     let s = e .before in
     rw (← s .before .tag .ensures, sym (s .same .ensures) ∙ not-false _ (e .if1 .left), ← b .by .ensures, ← t .to .ensures) (c .join .ensures)
 

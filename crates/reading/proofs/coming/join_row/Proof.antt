@@ -1,71 +1,62 @@
--- `reading::coming::join_row` meets its contract. The loop's invariant: the entries from i on, over what came so far, give what all of them give.
-use mathlib.Core.Path.{_≡_, refl}
+-- `reading::coming::join_row` meets its contract.
+use mathlib.Core.Path.{_≡_}
 use mathlib.Core.List.{List}
-use Prim.Native.Nat.{ℕ, _-_, _≤_}
-use native.Mathlib.Omega.{arith}
+use Prim.Native.Nat.{ℕ, suc, _+_}
+use native.Mathlib.Numerals.{add-one}
 use borrow.Author.Needs.{needs}
 use lib.ListN.{getD}
-use Rattle.sdtd.specs.Limits.{mostSteps}
-use Rattle.reading.specs.Coming.{Move, joins, gathered, entryMoves, rowMoves}
-use Rattle.reading.proofs.ComingLaws.{joins-turn, joins-done}
+use Rattle.reading.specs.Coming.{Least, joins, movesUpTo, rowMoves}
 use Rattle.reading.proofs.coming.join_row.Statement.{statement}
 use Rattle.reading.proofs.coming.join_row.Tie as tie
 
--- the moves at the place i
-abbrev moves : List ℕ → ℕ → ℕ → List Move
-moves entries g i = entryMoves g (getD entries i 0)
+-- the row's entries stand from where it begins up to where the next does
+row-joined : (entries begins : List ℕ) (g i : ℕ) (x y : Least) (s e : ℕ) → s ≡ getD begins i 0 → e ≡ getD begins (i + 1) 0
+    → y ≡ joins (movesUpTo entries g s e) x → y ≡ joins (rowMoves entries begins g i) x
+row-joined entries begins g i x y s e se ee h =
+    let next : e ≡ getD begins (suc i) 0 = rw (add-one i) at ee in
+    rw (← se, ← next) h
 
-abbrev Inv-loop : tie.InvT-loop
-Inv-loop entries start end g of₀ kept₀ i₀ of kept i =
-    (end ≤ mostSteps)
-    × (joins (gathered (moves entries (g .0)) i (end - i)) (record { of = of; kept = kept })
-    ≡ joins (rowMoves entries (g .0) start end) (record { of = of₀; kept = kept₀ }))
+mul-place : tie.Need-mul-place
+mul-place c = search needs
 
-abbrev μ-loop : tie.MeasureT-loop
-μ-loop entries start end g of₀ kept₀ i₀ of kept i = end - i
+element-copy-out-place : tie.Need-element-copy-out-place
+element-copy-out-place c = search needs
 
-loop-holds : tie.Need-loop-holds Inv-loop μ-loop
-loop-holds c = (omega arith, refl)
+place-requires : tie.Need-place-requires
+place-requires c κs = search needs
 
-mul-t11 : tie.Need-mul-t11 Inv-loop μ-loop
-mul-t11 c = search needs
+add-place : tie.Need-add-place
+add-place c = search needs
 
-element-copy-out-t14 : tie.Need-element-copy-out-t14 Inv-loop μ-loop
-element-copy-out-t14 c = search needs
+mul-place-2 : tie.Need-mul-place-2
+mul-place-2 c = search needs
 
-join-entry-requires : tie.Need-join-entry-requires Inv-loop μ-loop
-join-entry-requires c κs = search needs
+element-copy-out-place-2 : tie.Need-element-copy-out-place-2
+element-copy-out-place-2 c = search needs
 
-add-i : tie.Need-add-i Inv-loop μ-loop
-add-i c = search needs
+place-requires-2 : tie.Need-place-requires-2
+place-requires-2 c κs = search needs
 
-loop-less : tie.Need-loop-less Inv-loop μ-loop
-loop-less c = search needs
+join-entries-requires : tie.Need-join-entries-requires
+join-entries-requires c κs = rw (c .before .before .place2 .ensures) (c .before .before .before .before .before .before .pre .1 _)
 
-loop-again : tie.Need-loop-again Inv-loop μ-loop
-loop-again c =
-    let i = c .before .before .before in
-    let l = i .before in
-    let a = l .before .before .args in
-    (omega arith, joins-turn (moves (a .entries .now) (a .g .0)) _ _ _ _ _ (i .loop-test .taken) (c .before .join-entry .ensures) (l .loop .inv .1))
-
-returns : tie.Need-returns Inv-loop μ-loop
+returns : tie.Need-returns
 returns c =
-    let l = c .before in
-    let a = l .before .before .args in
-    joins-done (moves (a .entries .now) (a .g .0)) _ _ _ _ (c .loop-test .left) (l .loop .inv .1)
+    let f = c .before .before .before in
+    let s = f .before .before in
+    let a = s .before .before .args in
+    row-joined (a .entries .now) (a .begins .now) _ _ _ _ _ _ (s .place .ensures) (f .place2 .ensures) (c .join-entries .ensures)
 
 pub join-row-spec : {M : Type 1} → statement M
 join-row-spec =
     tie.close
     (tie.spec
-    Inv-loop
-    μ-loop
-    loop-holds
-    mul-t11
-    element-copy-out-t14
-    join-entry-requires
-    add-i
-    loop-less
-    loop-again
+    mul-place
+    element-copy-out-place
+    place-requires
+    add-place
+    mul-place-2
+    element-copy-out-place-2
+    place-requires-2
+    join-entries-requires
     returns)

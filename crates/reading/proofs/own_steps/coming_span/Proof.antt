@@ -7,7 +7,7 @@ use borrow.Author.Needs.{needs}
 use Rattle.sdtd.specs.Limits.{mostSteps}
 use Rattle.schema.specs.Value.{stepAt}
 use Rattle.reading.specs.declared.own_steps.Asked.{Asked}
-use Rattle.reading.specs.Coming.{noneYet, Move, joins, comingOf, gathered, stepMoves}
+use Rattle.reading.specs.Coming.{least, noneYet, Move, joins, comingOf, gathered, stepMoves}
 use Rattle.reading.proofs.ComingLaws.{joins-turn, joins-done}
 use Rattle.reading.proofs.own_steps.coming_span.Statement.{statement}
 use Rattle.reading.proofs.own_steps.coming_span.Tie as tie
@@ -17,12 +17,13 @@ abbrev moves : List ℕ → List ℕ → List ℕ → List ℕ → List ℕ → 
 moves from by to tag live asked i = stepMoves tag live (asked .own) (asked .states) (asked .g .0) (stepAt from by to i)
 
 abbrev Inv-loop : tie.InvT-loop
-Inv-loop from by to tag live asked best₀ end i₀ best i =
+Inv-loop from by to tag live asked of₀ kept₀ end i₀ of kept i =
     (end ≤ mostSteps)
-    × (joins (gathered (moves from by to tag live asked) i (end - i)) best ≡ joins (gathered (moves from by to tag live asked) i₀ (end - i₀)) noneYet)
+    × (joins (gathered (moves from by to tag live asked) i (end - i)) (least of kept)
+    ≡ joins (gathered (moves from by to tag live asked) i₀ (end - i₀)) noneYet)
 
 abbrev μ-loop : tie.MeasureT-loop
-μ-loop from by to tag live asked best₀ end i₀ best i = end - i
+μ-loop from by to tag live asked of₀ kept₀ end i₀ of kept i = end - i
 
 add-end : tie.Need-add-end Inv-loop μ-loop
 add-end c = search needs
@@ -33,8 +34,8 @@ loop-holds c = (omega arith, refl)
 element-copy-out-join-step : tie.Need-element-copy-out-join-step Inv-loop μ-loop
 element-copy-out-join-step c = search needs
 
-element-copy-out-t18 : tie.Need-element-copy-out-t18 Inv-loop μ-loop
-element-copy-out-t18 c = search needs
+element-copy-out-t20 : tie.Need-element-copy-out-t20 Inv-loop μ-loop
+element-copy-out-t20 c = search needs
 
 element-copy-out-join-step-2 : tie.Need-element-copy-out-join-step-2 Inv-loop μ-loop
 element-copy-out-join-step-2 c = search needs
@@ -50,7 +51,7 @@ loop-less c = search needs
 
 loop-again : tie.Need-loop-again Inv-loop μ-loop
 loop-again c =
-    let i = c .before .before .before .before in
+    let i = c .before .before .before .before .before .before in
     let l = i .before in
     let a = l .before .before .args in
     (omega arith, joins-turn (moves (a .from .now) (a .by .now) (a .to .now) (a .tag .now) (a .live .now) (a .asked)) _ _ _ _ _ (i .loop-test .taken) (c .join-step .ensures) (l .loop .inv .1))
@@ -75,7 +76,7 @@ coming-span-spec =
     add-end
     loop-holds
     element-copy-out-join-step
-    element-copy-out-t18
+    element-copy-out-t20
     element-copy-out-join-step-2
     join-step-requires
     add-i

@@ -19,7 +19,7 @@ join-requires c κs = search needs
 returns-2 : tie.Need-returns-2
 unfolding joins
 returns-2 c =
-    let e = c .before in
+    let e = c .before .before .before in
     rw (sym (e .before .step-taken .ensures) ∙ not-false _ (e .if1 .left)) (c .join .ensures)
 
 pub join-step-spec : {M : Type 1} → statement M
