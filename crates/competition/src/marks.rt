@@ -117,7 +117,7 @@ pub(crate) struct PairsMarked {
 }
 
 // One step of the search: the pairs that follow the one at the place `at` of the queue, by the rows of its two states. Which are reached goes
-// in and comes back.
+// in and comes back. Where all pairs are reached, none is left to follow.
 pub(crate) fn search_step(
     reached: [bool; PAIRS],
     queue: &mut [u32; PAIRS],
@@ -131,6 +131,9 @@ pub(crate) fn search_step(
     ensures { λ r. ⌜ marks (r .reached) (now (queue .exit)) (r .count)
         ≡ markRows (now (entries .entry)) left right at (marks reached (now (queue .entry)) count) ⌝ }
 {
+    if PAIRS <= count {
+        return PairsMarked { reached, count };
+    }
     let mut marked = reached;
     let queued = mark_rows(&mut marked, queue, count, entries, left, right, at);
     PairsMarked {
