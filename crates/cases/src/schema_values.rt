@@ -68,17 +68,21 @@ fn show_marked(marked: [bool; TYPES]) {
     }
 }
 
-// The entries of a row: of each the two states, the type and its tag.
+// An entry's two states, its type and the type's tag.
+fn show_entry(entry: Entry) {
+    let by = entry.by();
+    let tag = entry.tag();
+    next_number(wide(entry.from()));
+    next_number(wide(entry.to()));
+    next_number(wide(by.0));
+    next_number(wide(tag.0));
+}
+
+// The entries of a row.
 fn show_row(entries: [u32; STEPS], start: usize, end: usize) {
     let mut k = start;
     while k < STEPS && k < end {
-        let entry = Entry(entries[k]);
-        let by = entry.by();
-        let tag = entry.tag();
-        next_number(wide(entry.from()));
-        next_number(wide(entry.to()));
-        next_number(wide(by.0));
-        next_number(wide(tag.0));
+        show_entry(Entry(entries[k]));
         k += 1;
     }
 }
