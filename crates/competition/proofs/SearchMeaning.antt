@@ -1,5 +1,5 @@
 -- What the search of one type after another means for the schema.
-use mathlib.Core.Path.{_≡_, refl, sym}
+use mathlib.Core.Path.{_≡_, refl}
 use mathlib.Core.Logic.{_↔_}
 use mathlib.Core.Bool.{false}
 use mathlib.Core.List.{List, _++_}
@@ -8,30 +8,33 @@ use native.Mathlib.Decide.{decLt}
 use native.Mathlib.Omega.{arith}
 use lib.Dec.{T}
 use lib.ListN.{length, getD, drop}
-use Rattle.sdtd.specs.Schema.{Schema, WithinLimits}
+use Rattle.sdtd.specs.Schema.{WithinLimits}
 use Rattle.sdtd.specs.Trim.{Useful}
 use Rattle.sdtd.specs.Competition.{Compete, CompeteIn, Competition, witnessBytes}
 use Rattle.sdtd.proofs.Basics.{and-parts, and-both}
 use Rattle.schema.specs.Value.{meaning}
 use Rattle.schema.specs.Trimming.{Exact}
-use Rattle.schema.specs.declared.value.Schema.{Schema as Value}
-use Rattle.schema.specs.declared.tables.Trimming.{Trimming}
-use Rattle.schema.proofs.Values.{types-count}
 use Rattle.competition.specs.Marks.{wordTo}
-use Rattle.competition.specs.Queue.{isUseful, CompetingIn, RestrainedIn, TablesMean}
+use Rattle.competition.specs.Queue.{isUseful, CompetingIn, RestrainedIn}
 use Rattle.competition.specs.Search.{Written}
 use Rattle.competition.specs.Witness.{wordPlace}
+use Rattle.schema.specs.declared.value.Schema.{Schema}
+use Rattle.schema.specs.declared.tables.Trimming.{Trimming}
 use Rattle.competition.specs.declared.search.TypeTables.{TypeTables}
+use Rattle.schema.proofs.Values.{types-count}
 use Rattle.competition.proofs.Compete.{CompeteEither, trail-competes, closed-restrained, outside-restrained}
 
-module _
-    (S : Schema) (t : TypeTables) (entries begins : List ℕ) (within : WithinLimits S) (exact : TablesMean S t entries begins) where
+-- the tables of a schema and its trimming
+abbrev pub tablesOf : Schema → Trimming → TypeTables
+tablesOf v t = record { reached = t .reached; bears = t .bears; types = v .types }
+
+module _ (v : Schema) (t : Trimming) (within : WithinLimits (meaning v)) (exact : Exact (meaning v) t) where
   -- nothing was found in the type a
   abbrev NoneFound : ℕ → Type 0
-  NoneFound a = RestrainedIn entries begins t a
+  NoneFound a = RestrainedIn (t .entries) (t .begins) (tablesOf v t) a
 
   -- the tables say which types are useful
-  is-useful : (a : ℕ) → T (isUseful t a) ↔ Useful S a
+  is-useful : (a : ℕ) → T (isUseful (tablesOf v t) a) ↔ Useful (meaning v) a
   is-useful a = (
     λ u.
         let p = and-parts (getD (t .reached) a false) (getD (t .bears) a false) u in
@@ -40,24 +43,24 @@ module _
   )
 
   -- no two types compete in a type whose search found nothing
-  restrained : (a : ℕ) → NoneFound a → ¬ CompeteIn S a
+  restrained : (a : ℕ) → NoneFound a → ¬ CompeteIn (meaning v) a
   restrained a r k =
       let c = k .compete in
       closed-restrained within (exact .rows) a (r (is-useful a .1 (c .reached, c .bears)) .1) k
 
   -- the search found nothing in any type
-  pub none-compete : ((a : ℕ) → a < t .types → NoneFound a) → ¬ Competition S
-  none-compete r k = by-type (decLt (k .type) (t .types))
+  pub none-compete : ((a : ℕ) → a < v .types → NoneFound a) → ¬ Competition (meaning v)
+  none-compete r k = by-type (decLt (k .type) (v .types))
     where
-      by-type : Dec (k .type < t .types) → ⊥
+      by-type : Dec (k .type < v .types) → ⊥
       by-type (yes l) = restrained (k .type) (r (k .type) l) (k .compete-in)
-      by-type (no n) = outside-restrained (omega (arith, exact .types)) (k .compete-in)
+      by-type (no n) = outside-restrained (omega (arith, types-count v)) (k .compete-in)
 
   -- the smaller and the larger of the two types compete
-  in-order : {a j k : ℕ} {w : List ℕ} → CompeteEither S a w j k → Compete S a w (min j k) (max j k)
+  in-order : {a j k : ℕ} {w : List ℕ} → CompeteEither (meaning v) a w j k → Compete (meaning v) a w (min j k) (max j k)
   in-order {a} {j} {k} {w} c = by-order (decLt j k)
     where
-      by-order : Dec (j < k) → Compete S a w (min j k) (max j k)
+      by-order : Dec (j < k) → Compete (meaning v) a w (min j k) (max j k)
       by-order (yes l) =
           let e : min j k ≡ j = omega arith in
           let f : max j k ≡ k = omega arith in
@@ -68,12 +71,12 @@ module _
           rw (e, f) (c .falling (omega (arith, c .different)))
 
   -- The search found rivals in the type a, and nothing in any smaller type.
-  module _ (a at j k : ℕ) (queue : List ℕ) (in-type : CompetingIn entries begins t a queue at j k)
+  module _ (a at j k : ℕ) (queue : List ℕ) (in-type : CompetingIn (t .entries) (t .begins) (tablesOf v t) a queue at j k)
       (smaller : (c : ℕ) → c < a → NoneFound c) where
-    competing : CompeteEither S a (wordTo at queue at) j k
+    competing : CompeteEither (meaning v) a (wordTo at queue at) j k
     competing = trail-competes within (exact .rows) a (is-useful a .0 (in-type .useful)) (in-type .to-rivals)
 
-    smallest : (c : ℕ) → CompeteIn S c → a ≤ c
+    smallest : (c : ℕ) → CompeteIn (meaning v) c → a ≤ c
     smallest c x = by-order (decLt c a)
       where
         by-order : Dec (c < a) → a ≤ c
@@ -82,7 +85,7 @@ module _
 
     pub competing-written : (was is : List ℕ)
         → is ≡ witnessBytes a (min j k) (max j k) (wordTo at queue at) ++ drop (wordPlace + length (wordTo at queue at)) was
-        → Written S was is
+        → Written (meaning v) was is
     competing-written was is e =
         let w = wordTo at queue at in
         let n : wordPlace + length w ≡ length (witnessBytes a (min j k) (max j k) w) = omega arith in
@@ -101,8 +104,3 @@ module _
               };
           filled = rw n at e;
         }
-
--- the tables and rows of a trimming
-pub tables-mean : (v : Value) (t : Trimming) → Exact (meaning v) t
-    → TablesMean (meaning v) (record { reached = t .reached; bears = t .bears; types = v .types }) (t .entries) (t .begins)
-tables-mean v t e = record { reached = e .reached; bears = e .bears; types = sym (types-count v); rows = e .rows }

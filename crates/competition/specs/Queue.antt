@@ -1,17 +1,14 @@
 -- What the private search answers. Of one type: a queue of pairs found, each from an earlier one, with rivals at the last; or a set of pairs
 -- that is closed and has no rivals.
 use mathlib.Core.Path.{_≡_}
-use mathlib.Core.Logic.{_↔_}
 use mathlib.Core.Bool.{Bool, true, false, _&&_}
 use mathlib.Core.List.{List}
 use Prim.Native.Nat.{ℕ, _<_, _≤_}
 use lib.Dec.{T}
-use lib.ListN.{length, getD}
+use lib.ListN.{getD}
 use Rattle.sdtd.specs.Limits.{mostPairs}
 use Rattle.sdtd.specs.Schema.{Schema}
-use Rattle.sdtd.specs.Trim.{Bears, Reached}
 use Rattle.sdtd.specs.Competition.{pairNumber, Competition}
-use Rattle.schema.specs.Rows.{RowsMean}
 use Rattle.competition.specs.Rows.{rowOf, Leading}
 use Rattle.competition.specs.Marks.{firstOf, secondOf, byOf, parentOf, Linked}
 use Rattle.competition.specs.Rivals.{AreRivals}
@@ -75,13 +72,6 @@ CompetingMeans entries begins t queue (In a at j k) =
     × CompetingIn entries begins t (a .0) queue at (j .0) (k .0)
     × ((c : ℕ) → c < a .0 → RestrainedIn entries begins t c)
 CompetingMeans entries begins t queue NoneIn = (c : ℕ) → c < t .types → RestrainedIn entries begins t c
-
--- the tables say which types of the schema are reached and bear a tree, and the rows are the schema's
-pub record TablesMean (S : Schema) (t : TypeTables) (entries begins : List ℕ) : Type 0 where
-  pub reached : (a : ℕ) → T (getD (t .reached) a false) ↔ Reached S a
-  pub bears : (a : ℕ) → T (getD (t .bears) a false) ↔ Bears S a
-  pub types : t .types ≡ length (S .blocks)
-  pub rows : RowsMean S entries begins
 
 -- the whole search: two types compete, and the buffer has a witness; or there is no competition, and the buffer is as it was
 abbrev pub CompetesMeans : Schema → List ℕ → List ℕ → Bool → Type 0

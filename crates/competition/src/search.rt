@@ -12,17 +12,18 @@ use schema::BEGINS;
 use schema::STEPS;
 use schema::Schema;
 use schema::TYPES;
+use schema::Trimming;
 use schema::trim;
 use sdtd::TypeNo;
 use sdtd::Verdict;
-ghost use mathlib.Core.Path.{_≡_};
 ghost use Prim.Native.Nat.{_<_, _≤_};
 ghost use lib.ListN.{length};
 ghost use Rattle.sdtd.specs.Limits.{mostTypes, leastWitness};
 ghost use Rattle.sdtd.specs.Schema.{WithinLimits};
+ghost use Rattle.schema.specs.Trimming.{Exact};
 ghost use Rattle.schema.specs.Value.{meaning};
 ghost use Rattle.competition.specs.Rows.{RowsInside};
-ghost use Rattle.competition.specs.Queue.{PairFoundMeans, SearchedAt, CompetingMeans, CompetesMeans, TablesMean};
+ghost use Rattle.competition.specs.Queue.{PairFoundMeans, SearchedAt, CompetingMeans, CompetesMeans};
 ghost use Rattle.competition.specs.Search.{SearchMeans, JudgeMeans};
 
 // What the search of a schema answers.
@@ -134,32 +135,21 @@ fn first_competing<'a>(
     Competing::NoneIn
 }
 
-// The tables that say which types are searched.
-fn tables_of(reached: [bool; TYPES], bears: [bool; TYPES], types: u8) -> TypeTables
-    ensures { λ r. ⌜ r ≡ record { reached = reached; bears = bears; types = types } ⌝ }
-{
-    TypeTables {
-        reached,
-        bears,
-        types: types as usize,
-    }
-}
-
-// The search of a schema inside the limits by its tables and rows: do two types compete? If so, the smallest type in which two compete, the two
-// and a word after which they do go to the witness buffer.
-fn competes<'a>(
-    schema: Schema,
-    entries: &'a [u32; STEPS],
-    begins: &'a [u16; BEGINS],
-    tables: TypeTables,
-    witness: &mut [u8],
-) -> bool
-    requires { ⌜ WithinLimits (meaning schema) × TablesMean (meaning schema) tables (now entries) (now begins)
-        × (leastWitness ≤ length (now witness)) ⌝ }
+// The search of a schema inside the limits by its trimming: do two types compete? If so, the smallest type in which two compete, the two and
+// a word after which they do go to the witness buffer.
+fn competes(schema: Schema, trimming: Trimming, witness: &mut [u8]) -> bool
+    requires { ⌜ WithinLimits (meaning schema) × Exact (meaning schema) trimming × (leastWitness ≤ length (now witness)) ⌝ }
     ensures { λ r. ⌜ CompetesMeans (meaning schema) (now (witness .entry)) (now (witness .exit)) r ⌝ }
 {
+    let reached = trimming.reached;
+    let bears = trimming.bears;
+    let tables = TypeTables {
+        reached,
+        bears,
+        types: schema.types as usize,
+    };
     let mut queue = [0u32; PAIRS];
-    let competing = first_competing(entries, begins, tables, &mut queue);
+    let competing = first_competing(&trimming.entries, &trimming.begins, tables, &mut queue);
     if let Competing::In(a, at, j, k) = competing {
         write_rivals(witness, a, j, k, &queue, at);
         return true;
@@ -178,10 +168,7 @@ pub fn competition(schema: Schema, witness: &mut [u8]) -> Searched
     if !trimming.inside {
         return Searched::OutsideLimits;
     }
-    let reached = trimming.reached;
-    let bears = trimming.bears;
-    let tables = tables_of(reached, bears, schema.types);
-    if competes(schema, &trimming.entries, &trimming.begins, tables, witness) {
+    if competes(schema, trimming, witness) {
         return Searched::Competes;
     }
     Searched::Restrained
@@ -202,10 +189,7 @@ pub fn judge(schema: Schema, witness: &mut [u8]) -> Verdict
     if !trimming.bears[root] {
         return Verdict::RefusedAt(8, 0);
     }
-    let reached = trimming.reached;
-    let bears = trimming.bears;
-    let tables = tables_of(reached, bears, schema.types);
-    if competes(schema, &trimming.entries, &trimming.begins, tables, witness) {
+    if competes(schema, trimming, witness) {
         return Verdict::RefusedAt(9, 0);
     }
     Verdict::Fine

@@ -4,7 +4,6 @@ use borrow.Author.Needs.{needs}
 use Rattle.sdtd.specs.Schema.{WithinLimits}
 use Rattle.schema.specs.Value.{meaning}
 use Rattle.schema.proofs.LimitLaws.{passed, failed}
-use Rattle.competition.proofs.SearchMeaning.{tables-mean}
 use Rattle.competition.proofs.Answers.{short-searched, outside-searched, competing-searched, restrained-searched}
 use Rattle.competition.proofs.search.competition.Statement.{statement}
 use Rattle.competition.proofs.search.competition.Tie as tie
@@ -17,24 +16,19 @@ trim-requires c κs = search needs
 
 returns-2 : tie.Need-returns-2
 returns-2 c =
-    let t = c .before .trim in
+    let t = c .before .before .trim in
     outside-searched _ _ (omega arith) (failed (t .result .inside) (c .if2 .taken) (t .ensures .inside))
 
 -- the schema is inside the limits where it is searched
-within : (c : tie.Else2) → WithinLimits (meaning (c .before .before .before .before .args .schema))
+within : (c : tie.Else2) → WithinLimits (meaning (c .before .before .before .before .before .args .schema))
 within c =
-    let t = c .before .trim in
+    let t = c .before .before .trim in
     passed (t .result .inside) (c .if2 .left) (t .ensures .inside)
-
-tables-of-requires : tie.Need-tables-of-requires
-tables-of-requires c κs = search needs
 
 competes-requires : tie.Need-competes-requires
 competes-requires c κs =
-    let e = c .before .before .before .before .before .before .before in
-    let w = within e in
-    let t = e .before .trim in
-    (w, rw (c .before .before .before .before .tables-of .ensures) (tables-mean _ (t .result) (t .ensures .exact w)), omega arith)
+    let w = within (c .before) in
+    (w, c .before .before .before .trim .ensures .exact w, omega arith)
 
 same-length : tie.Need-same-length
 same-length c = search needs
@@ -42,7 +36,7 @@ same-length c = search needs
 returns-3 : tie.Need-returns-3
 returns-3 c =
     let s = c .before .before .before in
-    competing-searched _ _ (omega arith) (within (s .before .before .before .before .before .before .before .before)) (rw (c .if3 .taken) at (s .competes .ensures))
+    competing-searched _ _ (omega arith) (within (s .before .before)) (rw (c .if3 .taken) at (s .competes .ensures))
 
 same-length-2 : tie.Need-same-length-2
 same-length-2 c = search needs
@@ -50,7 +44,7 @@ same-length-2 c = search needs
 returns-4 : tie.Need-returns-4
 returns-4 c =
     let s = c .before .before .before in
-    restrained-searched _ _ (omega arith) (within (s .before .before .before .before .before .before .before .before)) (rw (c .if3 .left) at (s .competes .ensures))
+    restrained-searched _ _ (omega arith) (within (s .before .before)) (rw (c .if3 .left) at (s .competes .ensures))
 
 pub competition-spec : {M : Type 1} → statement M
 competition-spec =
@@ -59,7 +53,6 @@ competition-spec =
     returns
     trim-requires
     returns-2
-    tables-of-requires
     competes-requires
     same-length
     returns-3

@@ -13,7 +13,6 @@ use Rattle.schema.specs.Trimming.{Exact}
 use Rattle.schema.specs.declared.value.Schema.{Schema}
 use Rattle.schema.specs.declared.tables.Trimming.{Trimming}
 use Rattle.schema.proofs.LimitLaws.{within-room, passed, failed}
-use Rattle.competition.proofs.SearchMeaning.{tables-mean}
 use Rattle.competition.proofs.Answers.{short-judged, outside-judged, treeless-judged, competing-judged, restrained-judged}
 use Rattle.competition.proofs.search.judge.Statement.{statement}
 use Rattle.competition.proofs.search.judge.Tie as tie
@@ -66,14 +65,10 @@ bears c =
     let t = e .before .trim in
     root-bears _ (t .result) (t .ensures .exact (within e)) (c .if3 .left)
 
-tables-of-requires : tie.Need-tables-of-requires
-tables-of-requires c κs = search needs
-
 competes-requires : tie.Need-competes-requires
 competes-requires c κs =
-    let e = c .before .before .before .before .before .before .before .before .before .before in
-    let t = e .before .trim in
-    (within e, rw (c .before .before .before .before .tables-of .ensures) (tables-mean _ (t .result) (t .ensures .exact (within e))), omega arith)
+    let e = c .before .before .before .before in
+    (within e, e .before .trim .ensures .exact (within e), omega arith)
 
 same-length : tie.Need-same-length
 same-length c = search needs
@@ -81,7 +76,7 @@ same-length c = search needs
 returns-4 : tie.Need-returns-4
 returns-4 c =
     let s = c .before .before .before in
-    let e = s .before .before .before .before .before .before .before .before in
+    let e = s .before .before in
     competing-judged _ _ (omega arith) (within (e .before .before .before)) (bears e) (rw (c .if4 .taken) at (s .competes .ensures))
 
 same-length-2 : tie.Need-same-length-2
@@ -90,7 +85,7 @@ same-length-2 c = search needs
 returns-5 : tie.Need-returns-5
 returns-5 c =
     let s = c .before .before .before in
-    let e = s .before .before .before .before .before .before .before .before in
+    let e = s .before .before in
     restrained-judged _ _ (omega arith) (within (e .before .before .before)) (bears e) (rw (c .if4 .left) at (s .competes .ensures))
 
 pub judge-spec : {M : Type 1} → statement M
@@ -103,7 +98,6 @@ judge-spec =
     cast-root
     element-copy-out-if3
     returns-3
-    tables-of-requires
     competes-requires
     same-length
     returns-4
