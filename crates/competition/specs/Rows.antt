@@ -3,7 +3,6 @@ use mathlib.Core.Path.{_≡_}
 use mathlib.Core.List.{List}
 use Prim.Native.Nat.{ℕ, suc, _≤_, _<_}
 use lib.ListN.{getD}
-use Rattle.sdtd.specs.Limits.{mostSteps}
 use Rattle.schema.specs.Rows.{toIn, byIn, rowPlace}
 use Rattle.competition.specs.declared.rows.Row.{Row}
 
@@ -14,10 +13,6 @@ rowFrom s t = record { start = s; end = t }
 -- the row of the state p of the type a
 abbrev pub rowOf : List ℕ → ℕ → ℕ → Row
 rowOf begins a p = rowFrom (getD begins (rowPlace a p) 0) (getD begins (suc (rowPlace a p)) 0)
-
--- each row ends inside the table of entries
-abbrev pub RowsInside : List ℕ → Type 0
-RowsInside begins = (i : ℕ) → getD begins i 0 ≤ mostSteps
 
 -- the entry e stands in the row
 pub record Stands (entries : List ℕ) (row : Row) (e : ℕ) : Type 0 where

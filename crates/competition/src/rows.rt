@@ -5,7 +5,8 @@ use sdtd::TypeNo;
 ghost use mathlib.Core.Path.{_≡_};
 ghost use Prim.Native.Nat.{_<_, _≤_};
 ghost use Rattle.sdtd.specs.Limits.{mostTypes, mostStates, mostSteps};
-ghost use Rattle.competition.specs.Rows.{rowOf, RowsInside};
+ghost use Rattle.schema.specs.Rows.{RowsInside};
+ghost use Rattle.competition.specs.Rows.{rowOf};
 
 // The entries from the place `start` up to the place `end`.
 pub(crate) struct Row {

@@ -22,7 +22,7 @@ ghost use Rattle.sdtd.specs.Limits.{mostTypes, leastWitness};
 ghost use Rattle.sdtd.specs.Schema.{WithinLimits};
 ghost use Rattle.schema.specs.Trimming.{Exact};
 ghost use Rattle.schema.specs.Value.{meaning};
-ghost use Rattle.competition.specs.Rows.{RowsInside};
+ghost use Rattle.schema.specs.Rows.{RowsInside};
 ghost use Rattle.competition.specs.Queue.{PairFoundMeans, SearchedAt, CompetingMeans, CompetesMeans};
 ghost use Rattle.competition.specs.Search.{SearchMeans, JudgeMeans};
 

@@ -1,4 +1,4 @@
--- The steps over an examined schema answer what the calls promise.
+-- The steps over the rows and heads of a schema answer what the calls promise.
 use mathlib.Core.Path.{_≡_, refl, sym, _∙_}
 use mathlib.Core.Logic.{_↔_, _⊎_, inl, inr}
 use mathlib.Core.Bool.{Bool, true, false, cond, _&&_}
@@ -30,7 +30,7 @@ use Rattle.reading.specs.Questions.{gives, refuses, questions, TakenBy, 
 use Rattle.reading.specs.Heads.{tagOfHead, acceptingOfHead}
 use Rattle.reading.specs.Coming.{Move, comingBy}
 use Rattle.reading.specs.Heads.{HeadsMean}
-use Rattle.reading.specs.Steps.{StepTables, stepTables, comingAt, openBy, openStep, openByRows, openBySteps, inner, innerOf, closeStep, closeStepIn}
+use Rattle.reading.specs.Steps.{StepTables, comingAt, openBy, openStep, openByRows, openBySteps, inner, innerOf, closeStep, closeStepIn}
 use Rattle.reading.specs.Steps.{finishStep, Steady, InnerFits, OwnFits}
 use Rattle.reading.proofs.LevelLaws.{tags-of, inner-below, inner-most, inner-tag, ends-meets}
 use Rattle.reading.proofs.ComingMeans.{ComingMeans}

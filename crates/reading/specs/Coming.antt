@@ -91,10 +91,11 @@ abbrev pub stepTaken : List ℕ → List ℕ → ℕ → ℕ → ℕ → Step �
 stepTaken tag live own states g s =
     (eqb (getD tag (s .by % mostTypes) 0) g && member (s .from) states) && (bearsIn live (s .by % mostTypes) && member (s .to) own)
 
--- the same moves by the type's own steps: the n from the place i on
+-- the move of the step s, if it is taken
 abbrev pub stepMoves : List ℕ → List ℕ → ℕ → ℕ → ℕ → Step → List Move
 stepMoves tag live own states g s = moveWhere (stepTaken tag live own states g s) (s .by) (s .to)
 
+-- the same moves, by the type's own steps
 abbrev pub movesBySteps : Schema → List ℕ → ℕ → ℕ → ℕ → List Move
 movesBySteps v live a states g =
     gathered (λ i. stepMoves (v .tag) live (getD live a 0) states g (stepAt (v .from) (v .by) (v .to) i)) (offset (v .steps) a)

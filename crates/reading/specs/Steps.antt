@@ -1,4 +1,4 @@
--- What the private steps over a schema laid out and lent levels compute; question 10 is asked before.
+-- What the private steps over the rows and heads of a schema and lent levels compute; question 10 is asked before.
 use mathlib.Core.Path.{_≡_}
 use mathlib.Core.Bool.{Bool, cond, _&&_}
 use mathlib.Core.List.{List}
@@ -7,6 +7,7 @@ use lib.Dec.{eqb, leb}
 use lib.ListN.{getD}
 use Rattle.sdtd.specs.Limits.{mostLevels, mostSteps, mostTypes}
 use Rattle.sdtd.specs.Numbered.{tagNo}
+use Rattle.schema.specs.Rows.{RowsInside}
 use Rattle.schema.specs.States.{meet, noStates}
 use Rattle.schema.specs.Value.{offset}
 use Rattle.schema.specs.declared.value.Schema.{Schema}
@@ -31,7 +32,7 @@ readingOf s types sets = record { depth = s .depth; rooted = s .rooted; finished
 abbrev pub nextOf : Stepped → List ℕ → List ℕ → Next
 nextOf s types sets = gives (s .answer) (readingOf (s .standing) types sets)
 
--- the tables of a schema laid out, and its count of tags
+-- the rows and heads of a schema, and its count of tags
 pub record StepTables : Type 0 where
   pub entries : List ℕ
   pub begins : List ℕ
@@ -111,7 +112,7 @@ pub record Steady (r : Reading) : Type 0 where
 -- the same, and each row ends inside the entries
 pub record InnerFits (begins : List ℕ) (r : Reading) : Type 0 where
   pub steady : Steady r
-  pub rows : (i : ℕ) → getD begins i 0 ≤ mostSteps
+  pub rows : RowsInside begins
 
 -- the same, and the innermost type's own steps lie inside the tables of steps
 pub record OwnFits (v : Schema) (r : Reading) : Type 0 where

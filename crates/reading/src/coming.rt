@@ -9,12 +9,11 @@ use sdtd::TypeNo;
 ghost use mathlib.Core.Path.{_≡_};
 ghost use mathlib.Core.Bool.{cond, not, _&&_};
 ghost use mathlib.Core.Logic.{_≢_};
-ghost use Prim.Native.Nat.{ℕ, _/_, _^_, _≤_, _<_};
+ghost use Prim.Native.Nat.{_/_, _^_, _≤_, _<_};
 ghost use lib.Dec.{eqb, ltb};
-ghost use lib.ListN.{getD};
 ghost use Rattle.sdtd.specs.Limits.{mostTypes, mostStates, mostSteps};
 ghost use Rattle.schema.specs.States.{noStates};
-ghost use Rattle.schema.specs.Rows.{mostRows};
+ghost use Rattle.schema.specs.Rows.{mostRows, RowsInside};
 ghost use Rattle.reading.specs.Coming.{least, joins, entryMoves, movesUpTo, rowMoves, movesByRows, comingOf, comingBy, Lowest};
 ghost use Rattle.reading.specs.Coming.{join as joined};
 
@@ -24,10 +23,8 @@ pub(crate) enum Coming {
     OfType(TypeNo, u32),
 }
 
-// What came so far is held in two numbers: the smallest type among the steps so far, and the states that it leads to; where none is kept, no
-// type came yet. In a struct the two would be put together and taken apart at each step.
-
-// Does a smaller type than j stand there already? That it is the same type is asked first, which most steps answer.
+// Where `of` is the smallest type among the steps so far and `kept` are the states that it leads to (none where no type came yet): is it smaller
+// than j?
 fn smaller_there(of: TypeNo, kept: u32, j: TypeNo) -> bool
     ensures { λ r. ⌜ r ≡ (not (eqb (j .0) (of .0)) && (not (eqb kept noStates) && ltb (of .0) (j .0))) ⌝ }
 {
@@ -121,7 +118,7 @@ fn join_row<'a>(
     of: &'a mut u8,
     kept: &'a mut u32,
 )
-    requires { ⌜ (i < mostRows) × ((k : ℕ) → getD (now begins) k 0 ≤ mostSteps) ⌝ }
+    requires { ⌜ (i < mostRows) × RowsInside (now begins) ⌝ }
     ensures { λ _. ⌜ least (now (of .exit)) (now (kept .exit))
         ≡ joins (rowMoves (now (entries .entry)) (now (begins .entry)) (g .0) i) (least (now (of .entry)) (now (kept .entry))) ⌝ }
 {
@@ -152,7 +149,7 @@ pub(crate) fn coming_rows<'a>(
     states: u32,
     g: Tag,
 ) -> Coming
-    requires { ⌜ (a .0 < mostTypes) × ((k : ℕ) → getD (now begins) k 0 ≤ mostSteps) ⌝ }
+    requires { ⌜ (a .0 < mostTypes) × RowsInside (now begins) ⌝ }
     ensures { λ r. ⌜ r ≡ comingBy (movesByRows (now (entries .entry)) (now (begins .entry)) (a .0) states (g .0)) ⌝ }
 {
     let first = STATES as usize * a.0 as usize;

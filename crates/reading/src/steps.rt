@@ -1,4 +1,4 @@
-// One event at a time over an examined schema, with the levels lent: what the calls of a reading and the event file share. Question 10 is
+// One event at a time over the rows and heads of a schema, with the levels lent: what the calls of a reading and the event file share. Question 10 is
 // asked before.
 use crate::calls::EventAnswer;
 use crate::coming::Coming;

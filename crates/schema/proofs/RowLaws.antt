@@ -8,7 +8,7 @@ use lib.ListN.{length, List·getD-eq-default}
 use Rattle.sdtd.specs.Limits.{mostTags, mostTypes, mostStates}
 use Rattle.sdtd.specs.Schema.{Step, Schema, noBlock, blockOf, tagOf, WithinLimits, step}
 use Rattle.sdtd.proofs.Basics.{getD-member}
-use Rattle.schema.specs.Rows.{Counts, typeRoom, entry, fromIn, toIn, byIn, tagIn, entryOf, rowPlace, InRow, EntryFor, RowsMean}
+use Rattle.schema.specs.Rows.{Counts, entry, fromIn, toIn, byIn, tagIn, entryOf, rowPlace, InRow, RowsMean}
 use Rattle.schema.proofs.LimitLaws.{own-within}
 
 -- an entry gives back what it was made of

@@ -1,9 +1,9 @@
 -- The rows of a schema inside the limits have exactly the steps that count.
 use mathlib.Core.Path.{_≡_, refl, sym, ap, subst, _∙_}
 use mathlib.Core.Logic.{_↔_, ⊎-elim}
-use mathlib.Core.Bool.{Bool, true, false, cond, _&&_}
+use mathlib.Core.Bool.{Bool, true, false, cond}
 use mathlib.Core.List.{List, [], _∷_, List·Memᴰ, List·Memᴰ·head, List·Memᴰ·tail, List·Memᴰ·not-nil, List·Memᴰ·cases-cons}
-use Prim.Native.Nat.{ℕ, zero, suc, _+_, _*_, _/_, _%_, _≤_, _<_}
+use Prim.Native.Nat.{ℕ, _+_, _*_, _/_, _%_, _≤_, _<_}
 use native.Mathlib.Nat.{zero-add}
 use native.Mathlib.Decide.{decLt}
 use native.Mathlib.Omega.{arith}
@@ -13,11 +13,9 @@ use lib.ListN.{length, getD, take}
 use lib.Seq.{ext-getD, getD-take, length-take-le}
 use Rattle.sdtd.specs.Limits.{mostTypes, mostStates, mostSteps}
 use Rattle.sdtd.specs.Schema.{Step, noBlock, blockOf, WithinLimits}
-use Rattle.sdtd.specs.Schema.{Schema as Meaning}
-use Rattle.sdtd.specs.Trim.{Bears}
 use Rattle.sdtd.proofs.Basics.{cond-either, and-parts, and-both, getD-member}
 use Rattle.schema.specs.States.{member, bearsIn}
-use Rattle.schema.specs.Value.{stepsOf, offset, blockAt, meaning}
+use Rattle.schema.specs.Value.{offset, blockAt, meaning}
 use Rattle.schema.specs.Trimming.{LiveExactly, BearsExactly}
 use Rattle.schema.specs.Rows.{Counts, entry, fromIn, entryOf, rowPlace, InRow, EntryFor, RowsMean}
 use Rattle.schema.specs.RowMaking.{putAll, countsBy, entryBy, counted, picked, RowTables, rowBy, addRows}
@@ -25,7 +23,7 @@ use Rattle.schema.specs.declared.value.Schema.{Schema}
 use Rattle.schema.proofs.Values.{steps-count, types-count, tag-of, block-of}
 use Rattle.schema.proofs.LimitLaws.{own-within}
 use Rattle.schema.proofs.SpreadLaws.{own}
-use Rattle.schema.proofs.FirstTables.{Fits, OwnStep, forth, own-steps, own-step}
+use Rattle.schema.proofs.FirstTables.{Fits, forth, own-steps, own-step}
 use Rattle.schema.proofs.PuttingLaws.{put-there, put-long, counted-most, fromOn, from-most}
 use Rattle.schema.proofs.RowLaws.{counted-reads}
 use Rattle.schema.proofs.RowsLaid.{Laid, RowsAdded, laid-rows, laid-means, laid-none, laid-inside}

@@ -1,14 +1,14 @@
 -- Tables of rows, row by row: what stands in them once the first n rows are laid.
-use mathlib.Core.Path.{_≡_, refl, sym, ap, subst, _∙_}
+use mathlib.Core.Path.{_≡_, sym, ap, subst, _∙_}
 use mathlib.Core.Logic.{_↔_}
-use mathlib.Core.List.{List, [], _∷_, List·Memᴰ, List·Memᴰ·head, List·Memᴰ·tail}
-use Prim.Native.Nat.{ℕ, zero, suc, _+_, _*_, _-_, _≤_, _<_}
+use mathlib.Core.List.{List, List·Memᴰ, List·Memᴰ·head, List·Memᴰ·tail}
+use Prim.Native.Nat.{ℕ, zero, suc, _+_, _-_, _≤_, _<_}
 use native.Mathlib.Nat.{le-trans}
 use native.Mathlib.Decide.{decLt, ℕ-discrete}
 use native.Mathlib.Omega.{arith}
-use lib.ListN.{length, getD, take, replicate, length-set, length-replicate}
+use lib.ListN.{length, getD, take, length-set, length-replicate}
 use lib.Seq.{getD-set-same, getD-set-other}
-use Rattle.sdtd.specs.Limits.{mostTypes, mostStates, mostSteps}
+use Rattle.sdtd.specs.Limits.{mostStates, mostSteps}
 use Rattle.sdtd.proofs.Basics.{getD-member}
 use Rattle.schema.specs.Rows.{mostRows, InRow}
 use Rattle.schema.specs.RowMaking.{RowTables, noRows, addRow, rowBy, addRows}

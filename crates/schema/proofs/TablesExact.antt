@@ -15,7 +15,7 @@ use Rattle.sdtd.proofs.Automata.{leads-append, all-append}
 use Rattle.sdtd.proofs.Fixpoint.{LiveClosed, live-closed, live-exact, bears-live, Forward, ReachedClosed, reached-closed, reached-exact}
 use Rattle.schema.specs.States.{member, bearsIn}
 use Rattle.schema.specs.Value.{stepsOf, meaning}
-use Rattle.schema.specs.Trimming.{LiveExactly, Exact}
+use Rattle.schema.specs.Trimming.{LiveExactly, BearsExactly, Exact}
 use Rattle.schema.specs.Rows.{RowsMean}
 use Rattle.schema.specs.Spread.{spreadAll, Settled, stepsIn, reaches, Reaching, first, next, ReachedFrom, firstSets, startStates, bearing}
 use Rattle.schema.specs.declared.value.Schema.{Schema}
@@ -27,7 +27,7 @@ use Rattle.schema.proofs.FirstTables.{start-only, start-in}
 use Rattle.schema.proofs.ReachLaws.{test-says, test-passes}
 
 -- a table of exactly the live states says which types bear a tree
-pub bears-in : (S : Meaning) (table : List ℕ) → LiveExactly S table → (j : ℕ) → T (bearsIn table j) ↔ Bears S j
+pub bears-in : (S : Meaning) (table : List ℕ) → LiveExactly S table → BearsExactly S table
 bears-in S table exact j = (λ m. bears-live .1 (exact j 0 .0 m), λ b. exact j 0 .1 (bears-live .0 b))
 
 -- the two rounds

@@ -8,13 +8,13 @@ use Rattle.sdtd.specs.Limits.{mostTags, mostTypes, mostStates, mostSteps}
 use Rattle.sdtd.specs.Schema.{Step, Schema, blockOf, tagOf}
 use Rattle.sdtd.specs.Trim.{Bears, Live}
 
--- the step s of the type a counts: it is by a tree-bearing type, into a live state
+-- the step s of the type a counts, in rows: it is by a tree-bearing type, into a live state
 pub record Counts (S : Schema) (a : ℕ) (s : Step) : Type 0 where
   pub given : List·Memᴰ s (blockOf S a .steps)
   pub bears : Bears S (s .by)
   pub live : Live S a (s .to)
 
--- an entry has room for so many types: nine bits
+-- an entry has room for so many types
 abbrev pub typeRoom : ℕ
 typeRoom = 512
 
@@ -28,6 +28,7 @@ fromIn e = e % mostStates
 abbrev pub toIn : ℕ → ℕ
 toIn e = e / mostStates % mostStates
 
+-- of an entry that no step has, the remainder
 abbrev pub byIn : ℕ → ℕ
 byIn e = e / (mostStates * mostStates) % mostTypes
 
@@ -60,7 +61,11 @@ pub record EntryFor (S : Schema) (a p e : ℕ) : Type 0 where
   pub from : step .from ≡ p
   pub is : e ≡ entryOf S step
 
--- An entry stands in a row exactly for a step that counts; and each row ends inside the table.
+-- each row begins, and so ends, inside the table of entries
+abbrev pub RowsInside : List ℕ → Type 0
+RowsInside begins = (i : ℕ) → getD begins i 0 ≤ mostSteps
+
+-- An entry stands in a row exactly for a step that counts; and each row lies inside the table.
 pub record RowsMean (S : Schema) (entries begins : List ℕ) : Type 0 where
-  pub inside : (i : ℕ) → getD begins i 0 ≤ mostSteps
+  pub inside : RowsInside begins
   pub exact : (a p e : ℕ) → p < mostStates → InRow entries begins (rowPlace a p) e ↔ EntryFor S a p e

@@ -1,5 +1,5 @@
-// An entry of a row as one number: a step that counts. From the lowest bit on five bits for the state that it leads from, five for the state
-// that it leads to, nine for its type, five for that type's tag.
+// An entry of a row as one number: a step that counts. From the lowest digit on: the state that it leads from, the state that it leads to, its
+// type, that type's tag; two bits are left.
 use crate::value::STATES;
 use crate::value::TAGS;
 use crate::value::TYPES;

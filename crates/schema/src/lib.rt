@@ -1,4 +1,4 @@
-// Schemas as values: the state set, the schema, its limits and its trimming.
+// Schemas as values: the state set, the schema, its limits, its trimming, and its steps in rows.
 mod entry;
 mod limits;
 mod reach;

@@ -41,7 +41,7 @@ pub(crate) fn starts(steps: &[u16; TYPES], types: usize) -> [usize; TYPES]
     starts
 }
 
-// Where the steps of a type stand; inside the limits each is one of the types.
+// Where the steps of a type stand; nothing for a number that is no type.
 pub(crate) fn span_at<'a>(
     steps: &'a [u16; TYPES],
     starts: &'a [usize; TYPES],

@@ -21,12 +21,12 @@ ghost use Rattle.sdtd.specs.Schema.{WithinLimits};
 ghost use Rattle.schema.specs.Value.{stepsOf, meaning};
 ghost use Rattle.schema.specs.Trimming.{LiveExactly, BearsExactly};
 ghost use Rattle.schema.specs.Rows.{mostRows, RowsMean};
-ghost use Rattle.schema.specs.RowMaking.{putAll, countsBy, countedStep, picked, counted as countedBy, rowTables, noRows, addRow, rowBy, addRows};
+ghost use Rattle.schema.specs.RowMaking.{putAll, countsBy, countedStep, picked, counted as countedBy, rowTables, noRows, addRow, addRows};
 
 // A row for each state of each type.
 pub const ROWS: usize = TYPES * STATES as usize;
 
-// Where each row begins, and where the last ends.
+// Where each row begins; it ends where the next begins. Past the rows of the last type all is 0, and no entry stands there.
 pub const BEGINS: usize = ROWS + 1;
 
 // Does a step by the type j to the state q count, where `own` are the live states of the type that has it?

@@ -84,7 +84,7 @@ fn settle_set<'a>(
     }
 }
 
-// One round over the table that tells itself which types bear a tree: the set of each type settles over the type's own steps.
+// One round over a table whose own sets say which types bear a tree: the set of each type settles over the type's own steps.
 pub(crate) fn live_all<'a>(
     from: &'a [u8; STEPS],
     by: &'a [u8; STEPS],

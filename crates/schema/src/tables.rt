@@ -1,4 +1,4 @@
-// Trimming: which states are live, which types bear a tree, which types are reached.
+// Trimming: which states are live, which types bear a tree, which types are reached; and the rows beside them.
 use crate::limits::within;
 use crate::reach::StateTables;
 use crate::reach::TypeSteps;
@@ -25,7 +25,7 @@ ghost use Rattle.schema.specs.Value.{stepsOf, offset, meaning};
 ghost use Rattle.schema.specs.Spread.{spreadAll, Settled, stepsIn, ReachedFrom, firstSets, startStates, bearing};
 ghost use Rattle.schema.specs.Trimming.{Exact, TrimMeans, LiveMeans, LiveRowsMean};
 
-// Whether a schema is inside the limits. Entry a: the live states of the type a as a set, whether it bears a tree, whether it is reached.
+// Whether a schema is inside the limits. At the place a: the live states of the type a as a set, whether it bears a tree, whether it is reached.
 // The steps that count in rows: their entries, and where each row begins.
 #[repr(C)]
 pub struct Trimming {

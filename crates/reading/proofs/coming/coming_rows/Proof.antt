@@ -11,10 +11,10 @@ use lib.ListN.{getD}
 use lib.Pow.{shr-shr, shr-le}
 use mir.Syntax.{w32}
 use mir.Val.{Fits}
-use Rattle.sdtd.specs.Limits.{mostStates, mostSteps}
+use Rattle.sdtd.specs.Limits.{mostStates}
 use Rattle.sdtd.proofs.Basics.{is-true}
 use Rattle.schema.specs.States.{member}
-use Rattle.schema.specs.Rows.{mostRows}
+use Rattle.schema.specs.Rows.{mostRows, RowsInside}
 use Rattle.schema.proofs.Bits.{member-below}
 use Rattle.reading.specs.Coming.{Least, least, noneYet, Move, joins, comingOf, gathered, rowMoves, Lowest}
 use Rattle.reading.proofs.ComingLaws.{joins-turn, gathered-past}
@@ -78,7 +78,7 @@ done entries begins states g first p left x y e z all =
 abbrev Inv-loop : tie.InvT-loop
 Inv-loop entries begins states g first of₀ kept₀ left₀ p₀ of kept left p =
     (p ≤ mostStates) × (left ≡ states / 2 ^ p) × (states < 2 ^ mostStates) × (first + mostStates ≤ mostRows)
-    × ((k : ℕ) → getD begins k 0 ≤ mostSteps)
+    × RowsInside begins
     × (joins (gathered (moves entries begins states (g .0) first) p (mostStates - p)) (least of kept)
     ≡ joins (gathered (moves entries begins states (g .0) first) 0 mostStates) noneYet)
 
