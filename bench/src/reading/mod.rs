@@ -1,6 +1,6 @@
 //! The calls on a reading, by value and lent, and the event file's, beside plain Rust of the same algorithm. A call on a reading takes its schema by
 //! value, and the time has that copy in it, for a call by value the reading's copies too. The event file's is the whole call, the schema's copy and
-//! examination in it.
+//! making of its rows in it.
 mod calls;
 mod cases;
 mod files;
