@@ -15,9 +15,10 @@ use Rattle.schema.specs.RowMaking.{RowTables, picked, addRow, rowBy, add
 use Rattle.schema.proofs.PuttingLaws.{fromOn, from-split, from-most}
 
 module _ (kept : List ℕ) (n states : ℕ) where
-  -- The rows before the state p are made; those left, from the row first + p on, make the whole, and have room.
-  pub record RowsLeft (first p : ℕ) (t whole : RowTables) : Type 0 where
-    pub room : getD (t .begins) (first + p) 0 + fromOn p (take n kept) ≤ mostSteps
+  -- The rows before the state p are made and end at the place `past`; those left, from the row first + p on, make the whole, and have room.
+  pub record RowsLeft (first p past : ℕ) (t whole : RowTables) : Type 0 where
+    pub here : past ≡ getD (t .begins) (first + p) 0
+    pub room : past + fromOn p (take n kept) ≤ mostSteps
     pub long : mostRows < length (t .begins)
     pub left : addRows kept n states (first + p) p (mostStates - p) t ≡ whole
 
@@ -29,20 +30,22 @@ module _ (kept : List ℕ) (n states : ℕ) where
       go true = omega arith
       go false = omega arith
 
-  pub rows-first : (first : ℕ) (t : RowTables) → n ≤ length kept → mostRows < length (t .begins) → getD (t .begins) first 0 + n ≤ mostSteps
-      → RowsLeft first 0 t (addRows kept n states first 0 mostStates t)
-  rows-first first t l h r =
+  pub rows-first : (first at : ℕ) (t : RowTables) → n ≤ length kept → mostRows < length (t .begins) → at ≡ getD (t .begins) first 0
+      → at + n ≤ mostSteps → RowsLeft first 0 at t (addRows kept n states first 0 mostStates t)
+  rows-first first at t l h e r =
       record {
-        room = rw add-zero (omega (arith, r, from-most 0 (take n kept), length-take-le n kept l));
+        here = rw add-zero e;
+        room = omega (arith, r, from-most 0 (take n kept), length-take-le n kept l);
         long = h;
         left = rw add-zero refl;
       }
 
-  module _ {first p : ℕ} {t whole : RowTables} (r : RowsLeft first p t whole) where
-    pub row-room : getD (t .begins) (first + p) 0 + length (rowBy kept n states p) ≤ mostSteps
+  module _ {first p past : ℕ} {t whole : RowTables} (r : RowsLeft first p past t whole) where
+    pub row-room : past + length (rowBy kept n states p) ≤ mostSteps
     row-room = omega (arith, r .room, row-most p, from-split p (take n kept))
 
-    pub rows-next : p < mostStates → first + p < mostRows → RowsLeft first (p + 1) (addRow (rowBy kept n states p) (first + p) t) whole
+    pub rows-next : p < mostStates → first + p < mostRows
+        → RowsLeft first (p + 1) (past + length (rowBy kept n states p)) (addRow (rowBy kept n states p) (first + p) t) whole
     unfolding addRow addRows
     rows-next l h =
         let next : first + (p + 1) ≡ suc (first + p) = omega arith in
@@ -51,7 +54,8 @@ module _ (kept : List ℕ) (n states : ℕ) where
         ≡ getD (t .begins) (first + p) 0 + length (rowBy kept n states p)
         = getD-set-same (t .begins) (suc (first + p)) _ 0 (omega (arith, r .long)) in
         record {
-          room = rw (next, begins, add-one p) (omega (arith, r .room, row-most p, from-split p (take n kept)));
+          here = rw (next, begins, r .here);
+          room = rw (add-one p) (omega (arith, r .room, row-most p, from-split p (take n kept)));
           long = rw length-set (r .long);
           left = rw (next, add-one p) (rw (count, add-one p) at (r .left));
         }
@@ -59,3 +63,6 @@ module _ (kept : List ℕ) (n states : ℕ) where
     pub rows-done : mostStates ≤ p → t ≡ whole
     unfolding addRows
     rows-done l = let z : mostStates - p ≡ 0 = omega arith in rw z at (r .left)
+
+    pub rows-past : p ≡ mostStates → past ≡ getD (t .begins) (first + mostStates) 0
+    rows-past e = rw e at (r .here)

@@ -126,23 +126,25 @@ fn pick<'a>(
     past
 }
 
-// The row of the state p, the row i, from the first n entries kept, put where the rows before it end.
+// The row of the state p, the row i, from the first n entries kept, put where the rows before it end, at the place `at`; and the place past it.
 fn add_row<'a>(
     entries: &'a mut [u32; STEPS],
     begins: &'a mut [u16; BEGINS],
     i: usize,
+    at: usize,
     kept: &'a [u32; STEPS],
     n: usize,
     p: u8,
-)
+) -> usize
     requires { ⌜ (i < mostRows) × (n ≤ mostSteps) × (n ≤ length (now kept))
-        × (getD (now begins) i 0 + length (picked p (take n (now kept))) ≤ mostSteps) ⌝ }
-    ensures { λ _. ⌜ rowTables (now (entries .exit)) (now (begins .exit))
-        ≡ addRow (picked p (take n (now (kept .entry)))) i (rowTables (now (entries .entry)) (now (begins .entry))) ⌝ }
+        × (at ≡ getD (now begins) i 0) × (at + length (picked p (take n (now kept))) ≤ mostSteps) ⌝ }
+    ensures { λ r. ⌜ (rowTables (now (entries .exit)) (now (begins .exit))
+        ≡ addRow (picked p (take n (now (kept .entry)))) i (rowTables (now (entries .entry)) (now (begins .entry))))
+        × (r ≡ at + length (picked p (take n (now (kept .entry))))) ⌝ }
 {
-    let at = begins[i] as usize;
     let past = pick(entries, at, kept, n, p);
     begins[i + 1] = past as u16;
+    past
 }
 
 // How many entries are asked for those from the state p: none, where the type has not so many states.
@@ -155,27 +157,31 @@ fn asked(p: u8, states: u8, n: usize) -> usize
     0
 }
 
-// The rows of the type a, from the first n entries kept.
+// The rows of the type a, from the first n entries kept, the first at the place `at`; and the place past them.
 fn type_rows<'a>(
     entries: &'a mut [u32; STEPS],
     begins: &'a mut [u16; BEGINS],
     a: usize,
+    at: usize,
     kept: &'a [u32; STEPS],
     n: usize,
     states: u8,
-)
+) -> usize
     requires { ⌜ (a < mostTypes) × (n ≤ length (now kept)) × (mostRows < length (now begins))
-        × (getD (now begins) (mostStates * a) 0 + n ≤ mostSteps) ⌝ }
-    ensures { λ _. ⌜ rowTables (now (entries .exit)) (now (begins .exit))
-        ≡ addRows (now (kept .entry)) n states (mostStates * a) 0 mostStates (rowTables (now (entries .entry)) (now (begins .entry))) ⌝ }
+        × (at ≡ getD (now begins) (mostStates * a) 0) × (at + n ≤ mostSteps) ⌝ }
+    ensures { λ r. ⌜ (rowTables (now (entries .exit)) (now (begins .exit))
+        ≡ addRows (now (kept .entry)) n states (mostStates * a) 0 mostStates (rowTables (now (entries .entry)) (now (begins .entry))))
+        × (r ≡ getD (now (begins .exit)) (mostStates * a + mostStates) 0) ⌝ }
 {
     let first = STATES as usize * a;
+    let mut past = at;
     let mut p: u8 = 0;
     while p < STATES {
         let m = asked(p, states, n);
-        add_row(entries, begins, first + p as usize, kept, m, p);
+        past = add_row(entries, begins, first + p as usize, past, kept, m, p);
         p += 1;
     }
+    past
 }
 
 // The rows of a schema inside the limits, by tables of exactly the types that bear a tree and exactly the live states, into tables of zeros.
@@ -194,6 +200,7 @@ pub(crate) fn make_rows<'a>(
     let steps = schema.steps;
     let states = schema.states;
     let types = schema.types as usize;
+    let mut at = 0;
     let mut start = 0;
     let mut a = 0;
     while a < types {
@@ -210,7 +217,7 @@ pub(crate) fn make_rows<'a>(
             &bears,
             own,
         );
-        type_rows(entries, begins, a, &kept, count, states[a]);
+        at = type_rows(entries, begins, a, at, &kept, count, states[a]);
         start += n;
         a += 1;
     }

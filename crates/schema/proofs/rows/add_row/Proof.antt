@@ -1,18 +1,10 @@
 -- The row is put where the one before it ends, and its end is noted.
+use mathlib.Core.Path.{_≡_}
 use native.Mathlib.Numerals.{add-one}
 use borrow.Author.Needs.{needs}
 use Rattle.schema.specs.RowMaking.{addRow}
 use Rattle.schema.proofs.rows.add_row.Statement.{statement}
 use Rattle.schema.proofs.rows.add_row.Tie as tie
-
-mul-at : tie.Need-mul-at
-mul-at c = search needs
-
-element-copy-out-at : tie.Need-element-copy-out-at
-element-copy-out-at c = search needs
-
-cast-at : tie.Need-cast-at
-cast-at c = search needs
 
 pick-requires : tie.Need-pick-requires
 pick-requires c κs = search needs
@@ -31,18 +23,12 @@ element-write-begins c = search needs
 
 returns : tie.Need-returns
 unfolding addRow
-returns c = rw (c .pick .ensures .0, c .pick .ensures .1, add-one)
+returns c =
+    let e = c .pick .ensures in
+    let at = c .before .before .pre .3 in
+    (rw (← at, e .0, e .1, add-one), e .1)
 
 pub add-row-spec : {M : Type 1} → statement M
 add-row-spec =
     tie.close
-    (tie.spec
-    mul-at
-    element-copy-out-at
-    cast-at
-    pick-requires
-    cast-begins
-    add-begins
-    mul-begins
-    element-write-begins
-    returns)
+    (tie.spec pick-requires cast-begins add-begins mul-begins element-write-begins returns)

@@ -19,12 +19,12 @@ use Rattle.schema.proofs.rows.make_rows.Statement.{statement}
 use Rattle.schema.proofs.rows.make_rows.Tie as tie
 
 abbrev Inv-loop : tie.InvT-loop
-Inv-loop entries₀ begins₀ schema bears live kept₀ steps states types start₀ a₀ entries begins kept start a =
+Inv-loop entries₀ begins₀ schema bears live kept₀ steps states types at₀ start₀ a₀ entries begins kept at start a =
     (a ≤ types) × (start ≡ offset (schema .steps) a) × (length kept ≡ mostSteps)
-    × RowsAdded (rowAt schema bears live) (mostStates * a) start (rowTables entries begins)
+    × RowsAdded (rowAt schema bears live) (mostStates * a) start (rowTables entries begins) × (at ≡ getD begins (mostStates * a) 0)
 
 abbrev μ-loop : tie.MeasureT-loop
-μ-loop entries₀ begins₀ schema bears live kept₀ steps states types start₀ a₀ entries begins kept start a = types - a
+μ-loop entries₀ begins₀ schema bears live kept₀ steps states types at₀ start₀ a₀ entries begins kept at start a = types - a
 
 -- the value's entries fit their types
 fits : (c : tie.Start Inv-loop μ-loop) → Fits (c .args .t1)
@@ -46,7 +46,7 @@ cast-types : tie.Need-cast-types Inv-loop μ-loop
 cast-types c = search needs
 
 loop-holds : tie.Need-loop-holds Inv-loop μ-loop
-loop-holds c = (omega arith, refl, length-replicate {A = ℕ} mostSteps 0, rw (c .before .before .pre .3) (added-first _))
+loop-holds c = (omega arith, refl, length-replicate {A = ℕ} mostSteps 0, rw (c .before .before .pre .3) (added-first _), rw (ap (λ t. getD (t .begins) 0 0) (c .before .before .pre .3)))
 
 mul-n : tie.Need-mul-n Inv-loop μ-loop
 mul-n c = search needs
@@ -82,7 +82,7 @@ type-rows-requires c κs =
     let most = fit t in
     let types = room t .types in
     let long : length (c .before .before .before .counted .last .0) ≡ mostSteps = rw (e .0) (put-long _ _ _ ∙ i .2) in
-    (omega arith, omega arith, omega (arith, i .3 .laid .begins-long), omega (arith, i .3 .reach))
+    (omega arith, omega arith, omega (arith, i .3 .laid .begins-long), i .4, omega (arith, i .3 .reach, i .4))
 
 add-start : tie.Need-add-start Inv-loop μ-loop
 add-start c = omega (arith, fit (c .before .before .before .before .before .before .before .before .before .before .before .before))
@@ -109,7 +109,8 @@ loop-again c =
       omega arith,
       offset-more (a .t1 .steps) (k .loop .a) _ (i .1),
       rw (e .0) (put-long _ _ _ ∙ i .2),
-      subst (RowsAdded _ _ _) (sym (c .type-rows .ensures)) (rw (kept, count) added),
+      subst (RowsAdded _ _ _) (sym (c .type-rows .ensures .0)) (rw (kept, count) added),
+      c .type-rows .ensures .1 ∙ ap (λ i. getD (c .type-rows .last .1 .0) i 0) (omega arith),
     )
 
 returns : tie.Need-returns Inv-loop μ-loop
