@@ -1,7 +1,7 @@
 -- What the loops over a row of entries share.
-use mathlib.Core.Path.{_≡_}
+use mathlib.Core.Path.{_≡_, refl, ap, _∙_}
 use mathlib.Core.List.{List}
-use Prim.Native.Nat.{ℕ, suc, _+_, _-_, _<_, _≤_}
+use Prim.Native.Nat.{ℕ, zero, suc, _+_, _-_, _<_, _≤_}
 use native.Mathlib.Numerals.{add-one}
 use native.Mathlib.Omega.{arith}
 use lib.ListN.{getD}
@@ -22,3 +22,10 @@ module _ (mark : ℕ → Marks → Marks) (entries : List ℕ) (s t : ℕ) where
   mark-done m x h i =
       let left : t - s ≡ 0 = omega arith in
       rw left at i
+
+-- marks that no entry changes stay as they are
+pub each-same : (m : Marks) (mark : ℕ → Marks → Marks) → ((e : ℕ) → mark e m ≡ m) → (entries : List ℕ) (s n : ℕ) → markEach mark entries s n m ≡ m
+unfolding markEach
+each-same m mark same entries s zero = refl
+each-same m mark same entries s (suc n) =
+    ap (markEach mark entries (suc s) n) (same (getD entries s 0)) ∙ each-same m mark same entries (suc s) n

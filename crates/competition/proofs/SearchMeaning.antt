@@ -13,6 +13,7 @@ use Rattle.sdtd.specs.Trim.{Useful}
 use Rattle.sdtd.specs.Competition.{Compete, CompeteIn, Competition, witnessBytes}
 use Rattle.sdtd.proofs.Basics.{and-parts, and-both}
 use Rattle.schema.specs.Value.{meaning}
+use Rattle.schema.specs.Rows.{RowsMean}
 use Rattle.schema.specs.Trimming.{Exact}
 use Rattle.competition.specs.Marks.{wordTo}
 use Rattle.competition.specs.Queue.{isUseful, CompetingIn, RestrainedIn}
@@ -28,10 +29,12 @@ use Rattle.competition.proofs.Compete.{CompeteEither, trail-competes, c
 abbrev pub tablesOf : Schema → Trimming → TypeTables
 tablesOf v t = record { reached = t .reached; bears = t .bears; types = v .types }
 
-module _ (v : Schema) (t : Trimming) (within : WithinLimits (meaning v)) (exact : Exact (meaning v) t) where
+module _
+    (v : Schema) (t : Trimming) (entries begins : List ℕ) (within : WithinLimits (meaning v)) (exact : Exact (meaning v) t)
+    (rows : RowsMean (meaning v) entries begins) where
   -- nothing was found in the type a
   abbrev NoneFound : ℕ → Type 0
-  NoneFound a = RestrainedIn (t .entries) (t .begins) (tablesOf v t) a
+  NoneFound a = RestrainedIn entries begins (tablesOf v t) a
 
   -- the tables say which types are useful
   is-useful : (a : ℕ) → T (isUseful (tablesOf v t) a) ↔ Useful (meaning v) a
@@ -46,7 +49,7 @@ module _ (v : Schema) (t : Trimming) (within : WithinLimits (meaning v)) (exact 
   restrained : (a : ℕ) → NoneFound a → ¬ CompeteIn (meaning v) a
   restrained a r k =
       let c = k .compete in
-      closed-restrained within (exact .rows) a (r (is-useful a .1 (c .reached, c .bears)) .1) k
+      closed-restrained within rows a (r (is-useful a .1 (c .reached, c .bears)) .1) k
 
   -- the search found nothing in any type
   pub none-compete : ((a : ℕ) → a < v .types → NoneFound a) → ¬ Competition (meaning v)
@@ -71,10 +74,10 @@ module _ (v : Schema) (t : Trimming) (within : WithinLimits (meaning v)) (exact 
           rw (e, f) (c .falling (omega (arith, c .different)))
 
   -- The search found rivals in the type a, and nothing in any smaller type.
-  module _ (a at j k : ℕ) (queue : List ℕ) (in-type : CompetingIn (t .entries) (t .begins) (tablesOf v t) a queue at j k)
+  module _ (a at j k : ℕ) (queue : List ℕ) (in-type : CompetingIn entries begins (tablesOf v t) a queue at j k)
       (smaller : (c : ℕ) → c < a → NoneFound c) where
     competing : CompeteEither (meaning v) a (wordTo at queue at) j k
-    competing = trail-competes within (exact .rows) a (is-useful a .0 (in-type .useful)) (in-type .to-rivals)
+    competing = trail-competes within rows a (is-useful a .0 (in-type .useful)) (in-type .to-rivals)
 
     smallest : (c : ℕ) → CompeteIn (meaning v) c → a ≤ c
     smallest c x = by-order (decLt c a)

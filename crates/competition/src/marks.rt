@@ -111,14 +111,14 @@ fn mark_rows<'a>(
 }
 
 // Which pairs are reached after a step of the search, and how many stand in the queue.
-pub(crate) struct PairsMarked {
+struct PairsMarked {
     pub reached: [bool; PAIRS],
     pub count: usize,
 }
 
 // One step of the search: the pairs that follow the one at the place `at` of the queue, by the rows of its two states. Which are reached goes
-// in and comes back. Where all pairs are reached, none is left to follow.
-pub(crate) fn search_step(
+// in and comes back.
+fn search_step(
     reached: [bool; PAIRS],
     queue: &mut [u32; PAIRS],
     count: usize,
@@ -131,13 +131,39 @@ pub(crate) fn search_step(
     ensures { λ r. ⌜ marks (r .reached) (now (queue .exit)) (r .count)
         ≡ markRows (now (entries .entry)) left right at (marks reached (now (queue .entry)) count) ⌝ }
 {
-    if PAIRS <= count {
-        return PairsMarked { reached, count };
-    }
     let mut marked = reached;
     let queued = mark_rows(&mut marked, queue, count, entries, left, right, at);
     PairsMarked {
         reached: marked,
         count: queued,
     }
+}
+
+// The step, where there is one to make: not where all pairs are reached, nor where a row has no entry.
+pub(crate) fn search_from<'a>(
+    reached: &'a mut [bool; PAIRS],
+    queue: &'a mut [u32; PAIRS],
+    count: usize,
+    entries: &[u32; STEPS],
+    left: Row,
+    right: Row,
+    at: usize,
+) -> usize
+    requires { ⌜ (left .end ≤ mostSteps) × (right .end ≤ mostSteps) × (at < mostPairs) ⌝ }
+    ensures { λ r. ⌜ marks (now (reached .exit)) (now (queue .exit)) r
+        ≡ markRows (now (entries .entry)) left right at (marks (now (reached .entry)) (now (queue .entry)) count) ⌝ }
+{
+    if PAIRS <= count {
+        return count;
+    }
+    if left.end <= left.start {
+        return count;
+    }
+    if right.end <= right.start {
+        return count;
+    }
+    let marked = search_step(*reached, queue, count, entries, left, right, at);
+    let grown = marked.reached;
+    *reached = grown;
+    marked.count
 }

@@ -1,7 +1,7 @@
 // The search for competition, type by type, breadth first over unordered pairs of states; and the two calls that answer by it.
 use crate::entries::first_of;
 use crate::entries::second_of;
-use crate::marks::search_step;
+use crate::marks::search_from;
 use crate::pairs::PAIRS;
 use crate::rivals::Rivals;
 use crate::rivals::rivals_at;
@@ -22,7 +22,7 @@ ghost use Rattle.sdtd.specs.Limits.{mostTypes, leastWitness};
 ghost use Rattle.sdtd.specs.Schema.{WithinLimits};
 ghost use Rattle.schema.specs.Trimming.{Exact};
 ghost use Rattle.schema.specs.Value.{meaning};
-ghost use Rattle.schema.specs.Rows.{RowsInside};
+ghost use Rattle.schema.specs.Rows.{RowsInside, RowsMean};
 ghost use Rattle.competition.specs.Queue.{PairFoundMeans, SearchedAt, CompetingMeans, CompetesMeans};
 ghost use Rattle.competition.specs.Search.{SearchMeans, JudgeMeans};
 
@@ -76,10 +76,7 @@ fn search_type<'a>(
         if let Rivals::Of(j, k) = rivals {
             return PairFound::At(at, j, k);
         }
-        let marked = search_step(reached, queue, count, entries, left, right, at);
-        let grown = marked.reached;
-        reached = grown;
-        count = marked.count;
+        count = search_from(&mut reached, queue, count, entries, left, right, at);
         at += 1;
     }
     PairFound::Nowhere
@@ -135,10 +132,17 @@ fn first_competing<'a>(
     Competing::NoneIn
 }
 
-// The search of a schema inside the limits by its trimming: do two types compete? If so, the smallest type in which two compete, the two and
-// a word after which they do go to the witness buffer.
-fn competes(schema: Schema, trimming: Trimming, witness: &mut [u8]) -> bool
-    requires { ⌜ WithinLimits (meaning schema) × Exact (meaning schema) trimming × (leastWitness ≤ length (now witness)) ⌝ }
+// The search of a schema inside the limits by its trimming and its rows: do two types compete? If so, the smallest type in which two compete,
+// the two and a word after which they do go to the witness buffer.
+fn competes<'a>(
+    schema: Schema,
+    trimming: Trimming,
+    entries: &'a [u32; STEPS],
+    begins: &'a [u16; BEGINS],
+    witness: &mut [u8],
+) -> bool
+    requires { ⌜ WithinLimits (meaning schema) × Exact (meaning schema) trimming × RowsMean (meaning schema) (now entries) (now begins)
+        × (leastWitness ≤ length (now witness)) ⌝ }
     ensures { λ r. ⌜ CompetesMeans (meaning schema) (now (witness .entry)) (now (witness .exit)) r ⌝ }
 {
     let reached = trimming.reached;
@@ -149,7 +153,7 @@ fn competes(schema: Schema, trimming: Trimming, witness: &mut [u8]) -> bool
         types: schema.types as usize,
     };
     let mut queue = [0u32; PAIRS];
-    let competing = first_competing(&trimming.entries, &trimming.begins, tables, &mut queue);
+    let competing = first_competing(entries, begins, tables, &mut queue);
     if let Competing::In(a, at, j, k) = competing {
         write_rivals(witness, a, j, k, &queue, at);
         return true;
@@ -164,11 +168,13 @@ pub fn competition(schema: Schema, witness: &mut [u8]) -> Searched
     if witness.len() < LEAST_WITNESS {
         return Searched::ShortBuffer;
     }
-    let trimming = trim(schema);
+    let mut entries = [0u32; STEPS];
+    let mut begins = [0u16; BEGINS];
+    let trimming = trim(schema, &mut entries, &mut begins);
     if !trimming.inside {
         return Searched::OutsideLimits;
     }
-    if competes(schema, trimming, witness) {
+    if competes(schema, trimming, &entries, &begins, witness) {
         return Searched::Competes;
     }
     Searched::Restrained
@@ -181,7 +187,9 @@ pub fn judge(schema: Schema, witness: &mut [u8]) -> Verdict
     if witness.len() < LEAST_WITNESS {
         return Verdict::RefusedAt(1, 0);
     }
-    let trimming = trim(schema);
+    let mut entries = [0u32; STEPS];
+    let mut begins = [0u16; BEGINS];
+    let trimming = trim(schema, &mut entries, &mut begins);
     if !trimming.inside {
         return Verdict::RefusedAt(10, 0);
     }
@@ -189,7 +197,7 @@ pub fn judge(schema: Schema, witness: &mut [u8]) -> Verdict
     if !trimming.bears[root] {
         return Verdict::RefusedAt(8, 0);
     }
-    if competes(schema, trimming, witness) {
+    if competes(schema, trimming, &entries, &begins, witness) {
         return Verdict::RefusedAt(9, 0);
     }
     Verdict::Fine

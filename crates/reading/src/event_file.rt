@@ -165,7 +165,9 @@ fn outside(events: &[u8]) -> EventFile
 pub fn read_events(schema: Schema, events: &[u8], out: &mut [u8]) -> EventFile
     ensures { λ r. ⌜ EventsMean (meaning schema) (now (events .entry)) (now (out .entry)) (now (out .exit)) r ⌝ }
 {
-    let found = live_rows(schema);
+    let mut entries = [0u32; STEPS];
+    let mut begins = [0u16; BEGINS];
+    let found = live_rows(schema, &mut entries, &mut begins);
     if !found.inside {
         return outside(events);
     }
@@ -179,8 +181,8 @@ pub fn read_events(schema: Schema, events: &[u8], out: &mut [u8]) -> EventFile
         let place = w.at;
         let depth = w.depth;
         w = turn(
-            &found.entries,
-            &found.begins,
+            &entries,
+            &begins,
             &heads,
             schema.tags,
             events,

@@ -32,6 +32,13 @@ put-before [] at t k l = refl
 put-before (x ∷ xs) at t k l =
     put-before xs (suc at) (set t at x) k (omega arith) ∙ getD-set-other t at k x 0 (λ e. omega arith)
 
+-- what stands past the last place stays
+pub put-past : (xs : List ℕ) (at : ℕ) (t : List ℕ) (k : ℕ) → at + length xs ≤ k → getD (putAll xs at t) k 0 ≡ getD t k 0
+unfolding putAll
+put-past [] at t k l = refl
+put-past (x ∷ xs) at t k l =
+    put-past xs (suc at) (set t at x) k (omega arith) ∙ getD-set-other t at k x 0 (λ e. omega arith)
+
 -- what is put stands there
 pub put-there : (xs : List ℕ) (at : ℕ) (t : List ℕ) (k : ℕ) → at + length xs ≤ length t → k < length xs
     → getD (putAll xs at t) (at + k) 0 ≡ getD xs k 0

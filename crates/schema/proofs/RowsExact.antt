@@ -12,7 +12,7 @@ use lib.Dec.{T, eqb, ltb, eqb→eq, eqb-refl}
 use lib.ListN.{length, getD, take}
 use lib.Seq.{ext-getD, getD-take, length-take-le}
 use Rattle.sdtd.specs.Limits.{mostTypes, mostStates, mostSteps}
-use Rattle.sdtd.specs.Schema.{Step, noBlock, blockOf, WithinLimits}
+use Rattle.sdtd.specs.Schema.{Step, noBlock, blockOf, BlockWithin, WithinLimits}
 use Rattle.sdtd.proofs.Basics.{cond-either, and-parts, and-both, getD-member}
 use Rattle.schema.specs.States.{member, bearsIn}
 use Rattle.schema.specs.Value.{offset, blockAt, meaning}
@@ -115,6 +115,14 @@ row-made v bears live kept a q l e =
     go true = ap (picked q) e
     go false = refl
 
+-- the block of a type is inside the limits
+block-within : (v : Schema) → WithinLimits (meaning v) → (a : ℕ) → a < v .types → BlockWithin (meaning v) (blockOf (meaning v) a)
+block-within v within a l = within .blocks (blockOf (meaning v) a) (getD-member (meaning v .blocks) a noBlock (rw types-count l))
+
+pub states-few : (v : Schema) → WithinLimits (meaning v) → (a : ℕ) → a < v .types → getD (v .states) a 0 ≤ mostStates
+unfolding blockAt
+states-few v within a l = rw (block-of v a l) at (block-within v within a l .states-most)
+
 module _
     {v : Schema} (fits : Fits v) (within : WithinLimits (meaning v)) (bears live : List ℕ)
     (bearing : BearsExactly (meaning v) bears) (table : LiveExactly (meaning v) live) where
@@ -145,9 +153,7 @@ module _
 
     own-from : s .from < getD (v .states) a 0
     unfolding blockAt
-    own-from =
-        let w = within .blocks (blockOf (meaning v) a) (getD-member (meaning v .blocks) a noBlock (rw types-count l)) .steps s m in
-        rw (block-of v a l) at (w .from)
+    own-from = rw (block-of v a l) at (block-within v within a l .steps s m .from)
 
   -- the row of a state has exactly the entries of the steps that count from it
   row-exact : (a p e : ℕ) → a < v .types → List·Memᴰ e (rowFor v bears live a p) ↔ EntryFor (meaning v) a p e
@@ -186,7 +192,7 @@ module _
 
   -- tables with the rows of all types mean what they should
   pub rows-exact : {t : RowTables} → Laid (rowAt v bears live) (mostStates * v .types) t → RowsMean (meaning v) (t .entries) (t .begins)
-  rows-exact {t} laid = record { inside = laid-inside laid; exact = exact }
+  rows-exact {t} laid = record { inside = laid-inside laid; exact = exact; rest = λ k h. laid .rest k (h (mostStates * v .types)) }
     where
       exact : (a p e : ℕ) → p < mostStates → InRow (t .entries) (t .begins) (rowPlace a p) e ↔ EntryFor (meaning v) a p e
       exact a p e h =

@@ -12,11 +12,11 @@ use Rattle.sdtd.specs.Limits.{mostStates, mostSteps}
 use Rattle.sdtd.proofs.Basics.{getD-member}
 use Rattle.schema.specs.Rows.{mostRows, InRow}
 use Rattle.schema.specs.RowMaking.{RowTables, noRows, addRow, rowBy, addRows}
-use Rattle.schema.proofs.PuttingLaws.{put-long, put-before, put-there, fromOn, from-split}
+use Rattle.schema.proofs.PuttingLaws.{put-long, put-before, put-past, put-there, fromOn, from-split}
 use Rattle.schema.proofs.RowTurns.{row-most}
 use Rattle.schema.proofs.FirstTables.{same-everywhere}
 
--- The rows below n stand in the tables one after another, and no further row begins.
+-- The rows below n stand in the tables one after another, no further row begins, and past them are zeros.
 pub record Laid (row : ℕ → List ℕ) (n : ℕ) (t : RowTables) : Type 0 where
   pub entries-long : length (t .entries) ≡ mostSteps
   pub begins-long : length (t .begins) ≡ suc mostRows
@@ -25,6 +25,7 @@ pub record Laid (row : ℕ → List ℕ) (n : ℕ) (t : RowTables) : Type 0 wher
   pub past : (i : ℕ) → n < i → getD (t .begins) i 0 ≡ 0
   pub holds : (i k : ℕ) → i < n → k < length (row i) → getD (t .entries) (getD (t .begins) i 0 + k) 0 ≡ getD (row i) k 0
   pub most : getD (t .begins) n 0 ≤ mostSteps
+  pub rest : (k : ℕ) → getD (t .begins) n 0 ≤ k → getD (t .entries) k 0 ≡ 0
 
 module _ (row : ℕ → List ℕ) where
   laid-first : Laid row 0 noRows
@@ -37,6 +38,7 @@ module _ (row : ℕ → List ℕ) where
         past = λ i l. same-everywhere {A = ℕ} 0 (suc mostRows) i;
         holds = λ i k l. absurd (omega arith);
         most = rw (same-everywhere {A = ℕ} 0 (suc mostRows) 0) (omega arith);
+        rest = λ k l. same-everywhere {A = ℕ} 0 mostSteps k;
       }
 
   module _ {n : ℕ} {t : RowTables} (laid : Laid row n t) (es : List ℕ) (is : es ≡ row n) (few : n < mostRows)
@@ -70,6 +72,10 @@ module _ (row : ℕ → List ℕ) where
           past = λ i l. old-begin i (λ e. omega arith) ∙ laid .past i (omega arith);
           holds = λ i k l h. holds i k l h (ℕ-discrete i n);
           most = rw new-end room;
+          rest =
+              λ k l.
+              let past : getD (t .begins) n 0 + length es ≤ k = rw new-end at l in
+              put-past es (getD (t .begins) n 0) (t .entries) k past ∙ laid .rest k (omega arith);
         }
       where
         next : (i : ℕ) → i < suc n → Dec (i ≡ n)

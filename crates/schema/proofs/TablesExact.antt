@@ -1,12 +1,12 @@
 -- The tables that the rounds of trimming settle at are exactly the definitions.
-use mathlib.Core.Path.{refl, sym, _∙_}
+use mathlib.Core.Path.{_≡_, refl, sym, _∙_}
 use mathlib.Core.Logic.{_↔_}
 use mathlib.Core.Bool.{Bool, true}
 use mathlib.Core.List.{List, [], _∷_, _++_, List·Memᴰ}
 use Prim.Native.Nat.{ℕ, _<_}
 use native.Mathlib.Omega.{arith}
 use lib.Dec.{T}
-use lib.ListN.{getD}
+use lib.ListN.{length, getD}
 use Rattle.sdtd.specs.Limits.{mostTypes}
 use Rattle.sdtd.specs.Schema.{Step, blockOf, WithinLimits, Leads, stay, go}
 use Rattle.sdtd.specs.Schema.{Schema as Meaning}
@@ -16,7 +16,6 @@ use Rattle.sdtd.proofs.Fixpoint.{LiveClosed, live-closed, live-exact, bears-liv
 use Rattle.schema.specs.States.{member, bearsIn}
 use Rattle.schema.specs.Value.{stepsOf, meaning}
 use Rattle.schema.specs.Trimming.{LiveExactly, BearsExactly, Exact}
-use Rattle.schema.specs.Rows.{RowsMean}
 use Rattle.schema.specs.Spread.{spreadAll, Settled, stepsIn, reaches, Reaching, first, next, ReachedFrom, firstSets, startStates, bearing}
 use Rattle.schema.specs.declared.value.Schema.{Schema}
 use Rattle.schema.proofs.Rounds.{bearing-at, start-sets}
@@ -86,8 +85,18 @@ module _
   live-is : (a q : ℕ) → Live (meaning v) a q ↔ T (member q (getD live a 0))
   live-is = live-exact live-rules (live-table .sound)
 
+-- the table that the first loop settles at
+pub live-exactly :
+    {v : Schema} {live : List ℕ} → Fits v → WithinLimits (meaning v)
+    → Settled (λ t. spreadAll (v .steps) (stepsOf (v .from) (v .by) (v .to)) (λ u. u) 0 0 (v .types) t) (firstSets (v .types) (v .accepting)) live
+    → LiveExactly (meaning v) live
+live-exactly fits within l a q = (live-is fits within l a q .1, live-is fits within l a q .0)
+
+module _
+    {v : Schema} (fits : Fits v) (within : WithinLimits (meaning v)) (live : List ℕ) (long : length live ≡ mostTypes)
+    (exactly : LiveExactly (meaning v) live) where
   bears-is : (a : ℕ) → Bears (meaning v) a ↔ T (bearsIn live a)
-  bears-is a = let b = bears-in (meaning v) live (λ c q. (live-is c q .1, live-is c q .0)) a in (b .1, b .0)
+  bears-is a = let b = bears-in (meaning v) live exactly a in (b .1, b .0)
 
   module _ {forward : List ℕ} (onward : Settled (forwardRound v live) startStates forward) where
     forward-first : ForwardTable v startStates
@@ -142,7 +151,7 @@ module _
         let e = own-step fits within a s m .by in
         let c = test-says live (getD forward a 0) (getD live a 0) t in
         let b = bears-is (s .by) .1 (rw e at (c .by)) in
-        rw e (reached-closed .step a s (sound r) m (forward-table .sound a (s .from) (c .from)) b (live-is a (s .to) .1 (c .to)))
+        rw e (reached-closed .step a s (sound r) m (forward-table .sound a (s .from) (c .from)) b (exactly a (s .to) .0 (c .to)))
 
     reaches-own :
         (a : ℕ) (s : Step) → OwnStep v a s → Forward (meaning v) a (s .from) → Bears (meaning v) (s .by) → Live (meaning v) a (s .to)
@@ -152,7 +161,7 @@ module _
         (record {
           from = forward-has a (s .from) (o .type) f;
           by = rw (o .by) (bears-is (s .by) .0 b);
-          to = live-is a (s .to) .0 l;
+          to = exactly a (s .to) .1 l;
         })
 
     closed : ReachedClosed (meaning v) (Reaching (ownSteps v) live forward live (v .root .0))
@@ -165,33 +174,22 @@ module _
               rw (o .by) at (next s r (rw (steps-in fits within a) m) (reaches-own a s o f b l));
         }
 
-    exact :
-        {reached : List Bool} {entries begins : List ℕ} → ReachedFrom (ownSteps v) live forward live (v .root .0) reached
-        → RowsMean (meaning v) entries begins
-        → Exact (meaning v) (record { inside = true; live = live; bears = bearing live; reached = reached; entries = entries; begins = begins })
-    exact marked rows =
+    exact : {reached : List Bool} → ReachedFrom (ownSteps v) live forward live (v .root .0) reached
+        → Exact (meaning v) (record { inside = true; live = live; bears = bearing live; reached = reached })
+    exact marked =
         record {
-          live = λ a q. (live-is a q .1, live-is a q .0);
-          bears = λ a. rw (bearing-at live (live-table .sets .long) a) (bears-is a .1, bears-is a .0);
+          live = exactly;
+          bears = λ a. rw (bearing-at live long a) (bears-is a .1, bears-is a .0);
           reached =
               λ a.
               let e = reached-exact closed (λ b. sound) a in (λ t. e .1 (marked a .0 t), λ r. marked a .1 (e .0 r));
-          rows = rows;
         }
 
--- the tables that the three loops end with
+-- the tables that the next two loops end with
 pub tables-exact :
-    {v : Schema} {live forward : List ℕ} {reached : List Bool} {entries begins : List ℕ} → Fits v → WithinLimits (meaning v)
-    → Settled (λ t. spreadAll (v .steps) (stepsOf (v .from) (v .by) (v .to)) (λ u. u) 0 0 (v .types) t) (firstSets (v .types) (v .accepting)) live
+    {v : Schema} {forward : List ℕ} {reached : List Bool} → Fits v → WithinLimits (meaning v) → (live : List ℕ) → length live ≡ mostTypes
+    → LiveExactly (meaning v) live
     → Settled (λ t. spreadAll (v .steps) (stepsOf (v .to) (v .by) (v .from)) (λ u. live) 0 0 (v .types) t) startStates forward
     → ReachedFrom (stepsIn (v .steps) (stepsOf (v .from) (v .by) (v .to)) (v .types)) live forward live (v .root .0) reached
-    → RowsMean (meaning v) entries begins
-    → Exact (meaning v) (record { inside = true; live = live; bears = bearing live; reached = reached; entries = entries; begins = begins })
-tables-exact fits within l f r rows = exact fits within l f r rows
-
--- the table that the first loop settles at
-pub live-exactly :
-    {v : Schema} {live : List ℕ} → Fits v → WithinLimits (meaning v)
-    → Settled (λ t. spreadAll (v .steps) (stepsOf (v .from) (v .by) (v .to)) (λ u. u) 0 0 (v .types) t) (firstSets (v .types) (v .accepting)) live
-    → LiveExactly (meaning v) live
-live-exactly fits within l a q = (live-is fits within l a q .1, live-is fits within l a q .0)
+    → Exact (meaning v) (record { inside = true; live = live; bears = bearing live; reached = reached })
+tables-exact fits within live long exactly f r = exact fits within live long exactly f r

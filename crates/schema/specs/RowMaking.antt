@@ -61,3 +61,8 @@ rowBy kept n states p = picked p (take (cond (ltb p states) n 0) kept)
 unfoldable pub addRows : List ℕ → ℕ → ℕ → ℕ → ℕ → ℕ → RowTables → RowTables
 addRows kept n states i p zero t = t
 addRows kept n states i p (suc k) t = addRows kept n states (suc i) (suc p) k (addRow (rowBy kept n states p) i t)
+
+-- the k rows from the row i on end at the place `at`
+unfoldable pub endsAt : ℕ → ℕ → ℕ → List ℕ → List ℕ
+endsAt at i zero begins = begins
+endsAt at i (suc k) begins = endsAt at (suc i) k (set begins (suc i) at)

@@ -65,7 +65,8 @@ pub record EntryFor (S : Schema) (a p e : ℕ) : Type 0 where
 abbrev pub RowsInside : List ℕ → Type 0
 RowsInside begins = (i : ℕ) → getD begins i 0 ≤ mostSteps
 
--- An entry stands in a row exactly for a step that counts; and each row lies inside the table.
+-- An entry stands in a row exactly for a step that counts; each row lies inside the table, and past all rows it has zeros.
 pub record RowsMean (S : Schema) (entries begins : List ℕ) : Type 0 where
   pub inside : RowsInside begins
   pub exact : (a p e : ℕ) → p < mostStates → InRow entries begins (rowPlace a p) e ↔ EntryFor S a p e
+  pub rest : (k : ℕ) → ((i : ℕ) → getD begins i 0 ≤ k) → getD entries k 0 ≡ 0

@@ -13,7 +13,6 @@ use Rattle.schema.specs.States.{member, noStates, bearsIn}
 use Rattle.schema.specs.Rows.{mostRows, RowsMean}
 use Rattle.schema.specs.declared.tables.Trimming.{Trimming}
 use Rattle.schema.specs.declared.tables.LiveStates.{LiveStates}
-use Rattle.schema.specs.declared.tables.LiveRows.{LiveRows}
 
 -- the table has exactly the live states
 abbrev pub LiveExactly : Schema → List ℕ → Type 0
@@ -28,7 +27,6 @@ pub record Exact (S : Schema) (t : Trimming) : Type 0 where
   pub live : LiveExactly S (t .live)
   pub bears : (a : ℕ) → T (getD (t .bears) a false) ↔ Bears S a
   pub reached : (a : ℕ) → T (getD (t .reached) a false) ↔ Reached S a
-  pub rows : RowsMean S (t .entries) (t .begins)
 
 -- The schema trimmed by the tables: a type is kept that is in `reached` and `bears`, and of it each step by a type in `bears` between states
 -- in `live`.
@@ -50,8 +48,6 @@ nothing =
       live = replicate mostTypes noStates;
       bears = replicate mostTypes false;
       reached = replicate mostTypes false;
-      entries = replicate mostSteps 0;
-      begins = replicate (suc mostRows) 0;
     }
 
 -- exactly the definitions inside the limits, and nothing outside them
@@ -66,11 +62,7 @@ pub record LiveMeans (S : Schema) (r : LiveStates) : Type 0 where
   pub live : WithinLimits S → LiveExactly S (r .live)
   pub outside : ¬ WithinLimits S → r .live ≡ replicate mostTypes noStates
 
--- the live states and the rows of a schema inside the limits, and nothing outside them
-pub record LiveRowsMean (S : Schema) (r : LiveRows) : Type 0 where
-  pub inside : T (r .inside) ↔ WithinLimits S
-  pub live : WithinLimits S → LiveExactly S (r .live)
-  pub rows : WithinLimits S → RowsMean S (r .entries) (r .begins)
-  pub outside :
-      ¬ WithinLimits S
-      → (r .live ≡ replicate mostTypes noStates) × (r .entries ≡ replicate mostSteps 0) × (r .begins ≡ replicate (suc mostRows) 0)
+-- the tables lent have the rows of a schema inside the limits, and zeros outside them
+pub record RowsLent (S : Schema) (entries begins : List ℕ) : Type 0 where
+  pub rows : WithinLimits S → RowsMean S entries begins
+  pub outside : ¬ WithinLimits S → (entries ≡ replicate mostSteps 0) × (begins ≡ replicate (suc mostRows) 0)

@@ -15,7 +15,6 @@ pub use rows::BEGINS;
 pub use rows::ROWS;
 pub use span::Span;
 pub use state_set::StateSet;
-pub use tables::LiveRows;
 pub use tables::LiveStates;
 pub use tables::Trimming;
 pub use tables::live;

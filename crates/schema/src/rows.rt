@@ -11,17 +11,15 @@ use crate::value::TYPES;
 use sdtd::Tag;
 use sdtd::TypeNo;
 ghost use mathlib.Core.Path.{_≡_};
-ghost use mathlib.Core.Bool.{cond};
 ghost use mathlib.Core.List.{_∷_, []};
-ghost use Prim.Native.Nat.{_+_, _*_, _≤_, _<_};
-ghost use lib.Dec.{ltb};
+ghost use Prim.Native.Nat.{_+_, _-_, _*_, _≤_, _<_};
 ghost use lib.ListN.{length, getD, take};
 ghost use Rattle.sdtd.specs.Limits.{mostTypes, mostStates, mostSteps};
 ghost use Rattle.sdtd.specs.Schema.{WithinLimits};
 ghost use Rattle.schema.specs.Value.{stepsOf, meaning};
 ghost use Rattle.schema.specs.Trimming.{LiveExactly, BearsExactly};
 ghost use Rattle.schema.specs.Rows.{mostRows, RowsMean};
-ghost use Rattle.schema.specs.RowMaking.{putAll, countsBy, countedStep, picked, counted as countedBy, rowTables, noRows, addRow, addRows};
+ghost use Rattle.schema.specs.RowMaking.{putAll, countsBy, countedStep, picked, counted as countedBy, rowTables, noRows, addRow, addRows, endsAt};
 
 // A row for each state of each type.
 pub const ROWS: usize = TYPES * STATES as usize;
@@ -147,17 +145,20 @@ fn add_row<'a>(
     past
 }
 
-// How many entries are asked for those from the state p: none, where the type has not so many states.
-fn asked(p: u8, states: u8, n: usize) -> usize
-    ensures { λ r. ⌜ (r ≡ cond (ltb p states) n 0) × (r ≤ n) ⌝ }
+// The rows from the row i up to the row `end` have no entry: each ends at the place `at`.
+fn empty_rows(begins: &mut [u16; BEGINS], i: usize, end: usize, at: usize)
+    requires { ⌜ (end ≤ mostRows) × (at ≤ mostSteps) ⌝ }
+    ensures { λ _. ⌜ now (begins .exit) ≡ endsAt at i (end - i) (now (begins .entry)) ⌝ }
 {
-    if p < states {
-        return n;
+    let mut n = i;
+    while n < end {
+        begins[n + 1] = at as u16;
+        n += 1;
     }
-    0
 }
 
-// The rows of the type a, from the first n entries kept, the first at the place `at`; and the place past them.
+// The rows of the type a, from the first n entries kept, the first at the place `at`; and the place past them. A type has no entry from a state
+// of `states` or more.
 fn type_rows<'a>(
     entries: &'a mut [u32; STEPS],
     begins: &'a mut [u16; BEGINS],
@@ -168,7 +169,7 @@ fn type_rows<'a>(
     states: u8,
 ) -> usize
     requires { ⌜ (a < mostTypes) × (n ≤ length (now kept)) × (mostRows < length (now begins))
-        × (at ≡ getD (now begins) (mostStates * a) 0) × (at + n ≤ mostSteps) ⌝ }
+        × (at ≡ getD (now begins) (mostStates * a) 0) × (at + n ≤ mostSteps) × (states ≤ mostStates) ⌝ }
     ensures { λ r. ⌜ (rowTables (now (entries .exit)) (now (begins .exit))
         ≡ addRows (now (kept .entry)) n states (mostStates * a) 0 mostStates (rowTables (now (entries .entry)) (now (begins .entry))))
         × (r ≡ getD (now (begins .exit)) (mostStates * a + mostStates) 0) ⌝ }
@@ -176,12 +177,25 @@ fn type_rows<'a>(
     let first = STATES as usize * a;
     let mut past = at;
     let mut p: u8 = 0;
-    while p < STATES {
-        let m = asked(p, states, n);
-        past = add_row(entries, begins, first + p as usize, past, kept, m, p);
+    while p < states {
+        past = add_row(entries, begins, first + p as usize, past, kept, n, p);
         p += 1;
     }
+    empty_rows(
+        begins,
+        first + states as usize,
+        first + STATES as usize,
+        past,
+    );
     past
+}
+
+// Tables of zeros: no row has an entry.
+pub(crate) fn clear_rows<'a>(entries: &'a mut [u32; STEPS], begins: &'a mut [u16; BEGINS])
+    ensures { λ _. ⌜ rowTables (now (entries .exit)) (now (begins .exit)) ≡ noRows ⌝ }
+{
+    *entries = [0; STEPS];
+    *begins = [0; BEGINS];
 }
 
 // The rows of a schema inside the limits, by tables of exactly the types that bear a tree and exactly the live states, into tables of zeros.

@@ -1,4 +1,4 @@
-// Trimming: which states are live, which types bear a tree, which types are reached; and the rows beside them.
+// Trimming: which states are live, which types bear a tree, which types are reached; and the rows, in tables that the caller lends.
 use crate::limits::within;
 use crate::reach::StateTables;
 use crate::reach::TypeSteps;
@@ -6,6 +6,7 @@ use crate::reach::reach_steps;
 use crate::reach::span_at;
 use crate::reach::starts;
 use crate::rows::BEGINS;
+use crate::rows::clear_rows;
 use crate::rows::make_rows;
 use crate::spread::bears_in;
 use crate::spread::live_all;
@@ -23,18 +24,15 @@ ghost use Rattle.sdtd.specs.Limits.{mostTypes, mostSteps};
 ghost use Rattle.sdtd.specs.Schema.{WithinLimits};
 ghost use Rattle.schema.specs.Value.{stepsOf, offset, meaning};
 ghost use Rattle.schema.specs.Spread.{spreadAll, Settled, stepsIn, ReachedFrom, firstSets, startStates, bearing};
-ghost use Rattle.schema.specs.Trimming.{Exact, TrimMeans, LiveMeans, LiveRowsMean};
+ghost use Rattle.schema.specs.Trimming.{LiveExactly, Exact, TrimMeans, LiveMeans, RowsLent};
 
 // Whether a schema is inside the limits. At the place a: the live states of the type a as a set, whether it bears a tree, whether it is reached.
-// The steps that count in rows: their entries, and where each row begins.
 #[repr(C)]
 pub struct Trimming {
     pub inside: bool,
     pub live: [u32; TYPES],
     pub bears: [bool; TYPES],
     pub reached: [bool; TYPES],
-    pub entries: [u32; STEPS],
-    pub begins: [u16; BEGINS],
 }
 
 // The first `types` entries, and nothing in the others.
@@ -181,56 +179,34 @@ pub fn live(schema: Schema) -> LiveStates
     LiveStates { inside: true, live }
 }
 
-// Whether a schema is inside the limits, the live states of each type as a set, and the steps that count in rows: their entries, and where
-// each row begins.
-pub struct LiveRows {
-    pub inside: bool,
-    pub live: [u32; TYPES],
-    pub entries: [u32; STEPS],
-    pub begins: [u16; BEGINS],
-}
-
-// The live states and the rows of a schema inside the limits; nothing for any other.
-pub fn live_rows(schema: Schema) -> LiveRows
-    ensures { λ r. ⌜ LiveRowsMean (meaning schema) r ⌝ }
+// The live states of a schema inside the limits, and its steps that count in rows: their entries, and where each row begins. Nothing for any other.
+pub fn live_rows<'a>(
+    schema: Schema,
+    entries: &'a mut [u32; STEPS],
+    begins: &'a mut [u16; BEGINS],
+) -> LiveStates
+    ensures { λ r. ⌜ LiveMeans (meaning schema) r × RowsLent (meaning schema) (now (entries .exit)) (now (begins .exit)) ⌝ }
 {
+    clear_rows(entries, begins);
     let found = live(schema);
     let live = found.live;
     if !found.inside {
-        return LiveRows {
+        return LiveStates {
             inside: false,
             live,
-            entries: [0; STEPS],
-            begins: [0; BEGINS],
         };
     }
-    let mut entries = [0u32; STEPS];
-    let mut begins = [0u16; BEGINS];
-    make_rows(schema, live, live, &mut entries, &mut begins);
-    LiveRows {
-        inside: true,
-        live,
-        entries,
-        begins,
-    }
+    make_rows(schema, live, live, entries, begins);
+    LiveStates { inside: true, live }
 }
 
-// The tables of a schema inside the limits.
-fn trim_inside(schema: Schema) -> Trimming
-    requires { ⌜ WithinLimits (meaning schema) ⌝ }
+// The tables of a schema inside the limits, by its live states.
+fn trim_inside(schema: Schema, live: [u32; TYPES]) -> Trimming
+    requires { ⌜ WithinLimits (meaning schema) × LiveExactly (meaning schema) live ⌝ }
     ensures { λ r. ⌜ T (r .inside) × Exact (meaning schema) r ⌝ }
 {
     let types = schema.types as usize;
     let root = schema.root;
-    let accepting = schema.accepting;
-    let live = live_states(
-        &schema.from,
-        &schema.by,
-        &schema.to,
-        &schema.steps,
-        types,
-        accepting,
-    );
     let forward = forward_states(
         &schema.from,
         &schema.by,
@@ -254,32 +230,33 @@ fn trim_inside(schema: Schema) -> Trimming
         root,
     );
     let bears = bearing_types(live);
-    let mut entries = [0u32; STEPS];
-    let mut begins = [0u16; BEGINS];
-    make_rows(schema, live, live, &mut entries, &mut begins);
     Trimming {
         inside: true,
         live,
         bears,
         reached,
-        entries,
-        begins,
     }
 }
 
-// The tables of a schema inside the limits; tables of nothing for any other.
-pub fn trim(schema: Schema) -> Trimming
-    ensures { λ r. ⌜ TrimMeans (meaning schema) r ⌝ }
+// The tables of a schema inside the limits, and its rows; tables of nothing for any other.
+pub fn trim<'a>(
+    schema: Schema,
+    entries: &'a mut [u32; STEPS],
+    begins: &'a mut [u16; BEGINS],
+) -> Trimming
+    ensures { λ r. ⌜ TrimMeans (meaning schema) r × RowsLent (meaning schema) (now (entries .exit)) (now (begins .exit)) ⌝ }
 {
-    if !within(schema) {
+    clear_rows(entries, begins);
+    let found = live(schema);
+    let live = found.live;
+    if !found.inside {
         return Trimming {
             inside: false,
-            live: [StateSet::NONE.0; TYPES],
+            live,
             bears: [false; TYPES],
             reached: [false; TYPES],
-            entries: [0; STEPS],
-            begins: [0; BEGINS],
         };
     }
-    trim_inside(schema)
+    make_rows(schema, live, live, entries, begins);
+    trim_inside(schema, live)
 }

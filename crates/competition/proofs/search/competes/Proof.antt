@@ -1,4 +1,4 @@
--- `competition::search::competes` meets its contract: by the tables of the trimming, what the search finds is the smallest type in which two
+-- `competition::search::competes` meets its contract: by the tables of the trimming and the rows, what the search finds is the smallest type in which two
 -- compete, with a word after which they do; or there is none.
 use mathlib.Core.Path.{refl}
 use borrow.Author.Needs.{needs}
@@ -9,15 +9,15 @@ use Rattle.competition.proofs.search.competes.Tie as tie
 
 -- the start of the function, from where it calls the search
 abbrev start : tie.After-queue → tie.Start
-start c = c .before .before .before .before .before .before .before .before
+start c = c .before .before .before .before .before
 
-cast-t14 : tie.Need-cast-t14
-cast-t14 c = search needs
+cast-t15 : tie.Need-cast-t15
+cast-t15 c = search needs
 
 first-competing-requires : tie.Need-first-competing-requires
 first-competing-requires c κs =
     let given = start c .pre in
-    (within-room _ (given .0) .types, given .1 .rows .inside)
+    (within-room _ (given .0) .types, given .2 .inside)
 
 enum-known-competing : tie.Need-enum-known-competing
 enum-known-competing c = search needs
@@ -27,7 +27,7 @@ write-rivals-requires c κs =
     let s = c .before .before .before .before .before in
     let f = rw (c .before .before .before .competing .given .1) at (s .first-competing .ensures) in
     let t = f .1 .to-rivals .trail in
-    (t .place-below, t .linked, start (s .before) .pre .2)
+    (t .place-below, t .linked, start (s .before) .pre .3)
 
 same-length : tie.Need-same-length
 same-length c = search needs
@@ -37,7 +37,7 @@ returns c =
     let s = c .before .before .before .before .before .before .before .before in
     let given = start (s .before) .pre in
     let f = rw (c .before .before .before .before .before .before .competing .given .1) at (s .first-competing .ensures) in
-    competing-written _ _ (given .0) (given .1) _ _ _ _ _ (f .1) (f .2) _ _ (c .before .before .write-rivals .ensures)
+    competing-written _ _ _ _ (given .0) (given .1) (given .2) _ _ _ _ _ (f .1) (f .2) _ _ (c .before .before .write-rivals .ensures)
 
 enum-told : tie.Need-enum-told
 enum-told c = search needs
@@ -46,13 +46,13 @@ returns-2 : tie.Need-returns-2
 returns-2 c =
     let s = c .before .before in
     let given = start (s .before) .pre in
-    (none-compete _ _ (given .0) (given .1) (rw (c .enum-told .given .1) at (s .first-competing .ensures)), refl)
+    (none-compete _ _ _ _ (given .0) (given .1) (given .2) (rw (c .enum-told .given .1) at (s .first-competing .ensures)), refl)
 
 pub competes-spec : {M : Type 1} → statement M
 competes-spec =
     tie.close
     (tie.spec
-    cast-t14
+    cast-t15
     first-competing-requires
     enum-known-competing
     write-rivals-requires

@@ -17,18 +17,19 @@ trim-requires c κs = search needs
 returns-2 : tie.Need-returns-2
 returns-2 c =
     let t = c .before .before .trim in
-    outside-searched _ _ (omega arith) (failed (t .result .inside) (c .if2 .taken) (t .ensures .inside))
+    outside-searched _ _ (omega arith) (failed (t .result .inside) (c .if2 .taken) (t .ensures .0 .inside))
 
 -- the schema is inside the limits where it is searched
-within : (c : tie.Else2) → WithinLimits (meaning (c .before .before .before .before .before .args .schema))
+within : (c : tie.Else2) → WithinLimits (meaning (c .before .before .before .before .before .before .before .args .schema))
 within c =
     let t = c .before .before .trim in
-    passed (t .result .inside) (c .if2 .left) (t .ensures .inside)
+    passed (t .result .inside) (c .if2 .left) (t .ensures .0 .inside)
 
 competes-requires : tie.Need-competes-requires
 competes-requires c κs =
-    let w = within (c .before) in
-    (w, c .before .before .before .trim .ensures .exact w, omega arith)
+    let w = within (c .before .before .before) in
+    let t = c .before .before .before .before .before .trim .ensures in
+    (w, t .0 .exact w, t .1 .rows w, omega arith)
 
 same-length : tie.Need-same-length
 same-length c = search needs
@@ -36,7 +37,7 @@ same-length c = search needs
 returns-3 : tie.Need-returns-3
 returns-3 c =
     let s = c .before .before .before in
-    competing-searched _ _ (omega arith) (within (s .before .before)) (rw (c .if3 .taken) at (s .competes .ensures))
+    competing-searched _ _ (omega arith) (within (s .before .before .before .before)) (rw (c .if3 .taken) at (s .competes .ensures))
 
 same-length-2 : tie.Need-same-length-2
 same-length-2 c = search needs
@@ -44,7 +45,7 @@ same-length-2 c = search needs
 returns-4 : tie.Need-returns-4
 returns-4 c =
     let s = c .before .before .before in
-    restrained-searched _ _ (omega arith) (within (s .before .before)) (rw (c .if3 .left) at (s .competes .ensures))
+    restrained-searched _ _ (omega arith) (within (s .before .before .before .before)) (rw (c .if3 .left) at (s .competes .ensures))
 
 pub competition-spec : {M : Type 1} → statement M
 competition-spec =

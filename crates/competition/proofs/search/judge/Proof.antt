@@ -38,13 +38,13 @@ trim-requires c κs = search needs
 returns-2 : tie.Need-returns-2
 returns-2 c =
     let t = c .before .trim in
-    outside-judged _ _ (omega arith) (failed (t .result .inside) (c .if2 .taken) (t .ensures .inside))
+    outside-judged _ _ (omega arith) (failed (t .result .inside) (c .if2 .taken) (t .ensures .0 .inside))
 
 -- after that the schema is inside the limits
-within : (c : tie.Else2) → WithinLimits (meaning (c .before .before .before .before .args .schema))
+within : (c : tie.Else2) → WithinLimits (meaning (c .before .before .before .before .before .before .args .schema))
 within c =
     let t = c .before .trim in
-    passed (t .result .inside) (c .if2 .left) (t .ensures .inside)
+    passed (t .result .inside) (c .if2 .left) (t .ensures .0 .inside)
 
 cast-root : tie.Need-cast-root
 cast-root c = search needs
@@ -56,19 +56,20 @@ returns-3 : tie.Need-returns-3
 returns-3 c =
     let e = c .before .before .before in
     let t = e .before .trim in
-    treeless-judged _ _ (omega arith) (within e) (root-treeless _ (t .result) (t .ensures .exact (within e)) (c .if3 .taken))
+    treeless-judged _ _ (omega arith) (within e) (root-treeless _ (t .result) (t .ensures .0 .exact (within e)) (c .if3 .taken))
 
 -- and after that the root type bears a tree
-bears : (c : tie.Else3) → RootBears (meaning (c .before .before .before .before .before .before .before .args .schema))
+bears : (c : tie.Else3) → RootBears (meaning (c .before .before .before .before .before .before .before .before .before .args .schema))
 bears c =
     let e = c .before .before .before in
     let t = e .before .trim in
-    root-bears _ (t .result) (t .ensures .exact (within e)) (c .if3 .left)
+    root-bears _ (t .result) (t .ensures .0 .exact (within e)) (c .if3 .left)
 
 competes-requires : tie.Need-competes-requires
 competes-requires c κs =
-    let e = c .before .before .before .before in
-    (within e, e .before .trim .ensures .exact (within e), omega arith)
+    let e = c .before .before .before .before .before .before in
+    let t = e .before .trim .ensures in
+    (within e, t .0 .exact (within e), t .1 .rows (within e), omega arith)
 
 same-length : tie.Need-same-length
 same-length c = search needs
@@ -76,7 +77,7 @@ same-length c = search needs
 returns-4 : tie.Need-returns-4
 returns-4 c =
     let s = c .before .before .before in
-    let e = s .before .before in
+    let e = s .before .before .before .before in
     competing-judged _ _ (omega arith) (within (e .before .before .before)) (bears e) (rw (c .if4 .taken) at (s .competes .ensures))
 
 same-length-2 : tie.Need-same-length-2
@@ -85,7 +86,7 @@ same-length-2 c = search needs
 returns-5 : tie.Need-returns-5
 returns-5 c =
     let s = c .before .before .before in
-    let e = s .before .before in
+    let e = s .before .before .before .before in
     restrained-judged _ _ (omega arith) (within (e .before .before .before)) (bears e) (rw (c .if4 .left) at (s .competes .ensures))
 
 pub judge-spec : {M : Type 1} → statement M

@@ -66,9 +66,9 @@ returns c =
 enum-told : tie.Need-enum-told Inv-loop μ-loop
 enum-told c = c .match .keys2
 
-search-step-requires : tie.Need-search-step-requires Inv-loop μ-loop
-search-step-requires c κs =
-    let r = c .before .before .before in
+search-from-requires : tie.Need-search-from-requires Inv-loop μ-loop
+search-from-requires c κs =
+    let r = c .before .before .before .before in
     let t = r .before .before .before .before .before .before in (
       r .before .before .before .row-of .ensures .1,
       r .before .row-of2 .ensures .1,
@@ -83,7 +83,7 @@ loop-less c = omega arith
 
 loop-again : tie.Need-loop-again Inv-loop μ-loop
 loop-again c =
-    let s = c .before .search-step in
+    let s = c .search-from in
     let r = c .before .before .before .before .before in
     let p = r .before .before .before .before in
     let left = r .before .before .before .row-of .ensures .0 in
@@ -116,7 +116,7 @@ search-type-spec =
     enum-known-rivals
     returns
     enum-told
-    search-step-requires
+    search-from-requires
     add-at
     loop-less
     loop-again

@@ -22,15 +22,25 @@ use Rattle.reading.proofs.event_file.read_events.Statement.{statement}
 use Rattle.reading.proofs.event_file.read_events.Tie as tie
 
 abbrev Inv-loop : tie.InvT-loop
-Inv-loop schema events out₀ found heads types₀ sets₀ w₀ count₀ out types sets w count =
+Inv-loop schema events out₀ entries begins heads types₀ sets₀ w₀ count₀ out types sets w count =
     LaidSound (meaning schema) events out₀ (walkedOf w types sets) count out
 
 abbrev μ-loop : tie.MeasureT-loop
-μ-loop schema events out₀ found heads types₀ sets₀ w₀ count₀ out types sets w count = toGo events (walkedOf w types sets)
+μ-loop schema events out₀ entries begins heads types₀ sets₀ w₀ count₀ out types sets w count = toGo events (walkedOf w types sets)
 
--- the schema
+-- where the function begins, and its schema
+abbrev begin : tie.After-live-rows Inv-loop μ-loop → tie.Start Inv-loop μ-loop
+begin c = c .before .before .before .before .before
+
 abbrev schema : tie.After-live-rows Inv-loop μ-loop → Schema
-schema c = c .before .before .before .args .schema
+schema c = begin c .args .schema
+
+-- the call that made the rows
+abbrev made : tie.Else1 Inv-loop μ-loop → tie.After-live-rows Inv-loop μ-loop
+made c = c .before .before
+
+abbrev made-for : tie.At-loop Inv-loop μ-loop → tie.After-live-rows Inv-loop μ-loop
+made-for l = made (l .before .before .before)
 
 -- the value's entries fit their types
 fits : (c : tie.Start Inv-loop μ-loop) → Fits (c .args .schema)
@@ -39,32 +49,31 @@ fits c =
     record { accepting-long = search needs; steps-long = search needs; accepting-below = λ a. below a .fits }
 
 -- past the test the schema is inside the limits
-within : (c : tie.Else1 Inv-loop μ-loop) → WithinLimits (meaning (schema (c .before)))
-within c = passed (c .before .live-rows .result .inside) (c .if1 .left) (c .before .live-rows .ensures .inside)
+within : (c : tie.Else1 Inv-loop μ-loop) → WithinLimits (meaning (schema (made c)))
+within c = passed (made c .live-rows .result .inside) (c .if1 .left) (made c .live-rows .ensures .0 .inside)
 
 -- the rows and the heads are the schema's
 tables : (c : tie.After-heads Inv-loop μ-loop)
-    → let e = c .before .before in
-    TablesMean (schema (e .before))
-    (stepTables (e .before .live-rows .result .entries) (e .before .live-rows .result .begins) (c .heads .result) (schema (e .before) .tags))
+    → let m = made (c .before .before) in
+    TablesMean (schema m) (stepTables (m .live-rows .last .1 .0) (m .live-rows .last .1 .1 .0) (c .heads .result) (schema m .tags))
 tables c =
     let e = c .before .before in
-    record { rows = e .before .live-rows .ensures .rows (within e); heads = c .heads .ensures; tags = refl }
+    record { rows = made e .live-rows .ensures .1 .rows (within e); heads = c .heads .ensures; tags = refl }
 
 -- where the loop's test held, before a call of a turn
 abbrev in-loop : tie.After-sets Inv-loop μ-loop → tie.In-loop Inv-loop μ-loop
-in-loop c = c .before .before .before .before .before .before
+in-loop c = c .before .before .before .before .before
 
 -- what is known after a turn
 turned : (t : tie.After-turn Inv-loop μ-loop)
     → let l = in-loop (t .before) .before in
-    TurnSound (meaning (schema (l .before .before .before .before))) (l .before .before .before .before .before .before .before .args .events .now) (l .loop .inv .calls)
+    TurnSound (meaning (schema (made-for l))) (begin (made-for l) .args .events .now) (l .loop .inv .calls)
     (walkedOf (l .loop .w) (l .loop .types) (l .loop .sets))
     (walkedOf (t .turn .result) (t .turn .last .1 .1 .1 .1 .1 .0) (t .turn .last .1 .1 .1 .1 .1 .1 .0))
 turned t =
     let i = in-loop (t .before) in
     let l = i .before in
-    turn-sound (fits (l .before .before .before .before .before .before .before)) (tables (l .before)) (l .loop .inv .sound) (i .loop-test .taken) (t .turn .ensures)
+    turn-sound (fits (begin (made-for l))) (tables (l .before)) (l .loop .inv .sound) (i .loop-test .taken) (t .turn .ensures)
 
 live-rows-requires : tie.Need-live-rows-requires Inv-loop μ-loop
 live-rows-requires c κs = search needs
@@ -74,15 +83,15 @@ outside-requires c κs = search needs
 
 returns : tie.Need-returns Inv-loop μ-loop
 returns c =
-    let e = c .before .before in
-    outside-means (failed (e .live-rows .result .inside) (c .before .if1 .taken) (e .live-rows .ensures .inside)) _ _ _ (c .outside .ensures .0)
+    let e = c .before .before .before in
+    outside-means (failed (e .live-rows .result .inside) (c .before .if1 .taken) (e .live-rows .ensures .0 .inside)) _ _ _ (c .outside .ensures .0)
     (c .outside .ensures .1) (c .outside .ensures .2)
 
 heads-requires : tie.Need-heads-requires Inv-loop μ-loop
 heads-requires c κs =
     let e = c .before in
-    let k = e .before .live-rows in
-    (within e, bears-in _ (k .result .live) (k .ensures .live (within e)))
+    let k = made e .live-rows in
+    (within e, bears-in _ (k .result .live) (k .ensures .0 .live (within e)))
 
 loop-holds : tie.Need-loop-holds Inv-loop μ-loop
 loop-holds c = first-laid (within (c .before .before)) _ _ 19
@@ -90,7 +99,7 @@ loop-holds c = first-laid (within (c .before .before)) _ _ 19
 turn-requires : tie.Need-turn-requires Inv-loop μ-loop
 turn-requires c κs =
     let l = in-loop c .before in
-    stands-fit (fits (l .before .before .before .before .before .before .before)) (l .loop .inv .sound .reading .within) (tables (l .before))
+    stands-fit (fits (begin (made-for l))) (l .loop .inv .sound .reading .within) (tables (l .before))
 
 same-length : tie.Need-same-length Inv-loop μ-loop
 same-length c = out-long (in-loop (c .before .before .before .before) .before .loop .inv)
@@ -113,9 +122,8 @@ slice-write-out c = search needs
 add-count : tie.Need-add-count Inv-loop μ-loop
 add-count c =
     let l = in-loop (c .before .before .before .before) .before in
-    let start = l .before .before .before .before .before .before .before in
     let long = out-long (l .loop .inv) in
-    record { fits = omega (arith, c .if3 .left, start .good .1 .1 .0) }
+    record { fits = omega (arith, c .if3 .left, begin (made-for l) .good .1 .1 .0) }
 
 loop-less : tie.Need-loop-less Inv-loop μ-loop
 loop-less c =

@@ -14,7 +14,7 @@ use Rattle.schema.proofs.Rounds.{offset-more, steps-fit}
 use Rattle.schema.proofs.FirstTables.{Fits}
 use Rattle.schema.proofs.PuttingLaws.{put-long}
 use Rattle.schema.proofs.RowsLaid.{RowsAdded, added-first}
-use Rattle.schema.proofs.RowsExact.{typeEntries, entries-from, rowAt, type-few, type-added, rows-exact}
+use Rattle.schema.proofs.RowsExact.{typeEntries, entries-from, rowAt, states-few, type-few, type-added, rows-exact}
 use Rattle.schema.proofs.rows.make_rows.Statement.{statement}
 use Rattle.schema.proofs.rows.make_rows.Tie as tie
 
@@ -82,7 +82,8 @@ type-rows-requires c κs =
     let most = fit t in
     let types = room t .types in
     let long : length (c .before .before .before .counted .last .0) ≡ mostSteps = rw (e .0) (put-long _ _ _ ∙ i .2) in
-    (omega arith, omega arith, omega (arith, i .3 .laid .begins-long), i .4, omega (arith, i .3 .reach, i .4))
+    let states = states-few (a .t1) (k .before .before .before .pre .0) (k .loop .a) (t .loop-test .taken) in
+    (omega arith, omega arith, omega (arith, i .3 .laid .begins-long), i .4, omega (arith, i .3 .reach, i .4), states)
 
 add-start : tie.Need-add-start Inv-loop μ-loop
 add-start c = omega (arith, fit (c .before .before .before .before .before .before .before .before .before .before .before .before))
