@@ -7,6 +7,8 @@ use lib.ListN.{length, getD}
 use Rattle.sdtd.specs.Document.{Event, opening, closing, finish}
 use Rattle.sdtd.specs.declared.Tag.{Tag}
 use Rattle.sdtd.specs.Numbered.{tagNo}
+use Rattle.events.specs.declared.decoder.EventKind.{EventKind}
+use Rattle.events.specs.declared.decoder.EventKind.the-variants.{OpenKind, CloseKind, FinishKind, NoKind}
 use Rattle.events.specs.declared.decoder.FileEvent.{FileEvent}
 use Rattle.events.specs.declared.decoder.FileEvent.the-variants.{Open, Close, Finish, NoEvent}
 
@@ -59,6 +61,13 @@ eventFrom file i b =
 -- none of the three, or where its operand runs past the end.
 abbrev pub eventAt : List ℕ → ℕ → FileEvent
 eventAt file i = cond (leb (i + 1) (length file)) (eventFrom file i (getD file i 0)) NoEvent
+
+-- what an event is, without its tag; or that there is none
+abbrev pub kindOf : FileEvent → EventKind
+kindOf (Open g) = OpenKind
+kindOf (Close g) = CloseKind
+kindOf Finish = FinishKind
+kindOf NoEvent = NoKind
 
 -- "gives one event after another": where a walker stands after the event at the place i; where there is none, it stays
 abbrev pub placeAfter : List ℕ → ℕ → ℕ

@@ -1,7 +1,9 @@
 // Events of the event file.
 use sdtd::Tag;
 ghost use mathlib.Core.Path.{_≡_};
-ghost use Rattle.events.specs.Events.{eventAt, placeAfter};
+ghost use Prim.Native.Nat.{_+_};
+ghost use lib.ListN.{getD};
+ghost use Rattle.events.specs.Events.{eventAt, kindOf, placeAfter};
 
 // the bytes of an event with a tag
 pub const WITH_TAG: usize = 2;
@@ -16,39 +18,72 @@ pub enum FileEvent {
     NoEvent,
 }
 
-// The event at a place of the file.
-pub(crate) fn event_at(events: &[u8], at: usize) -> FileEvent
-    ensures { λ r. ⌜ r ≡ eventAt (now (events .entry)) at ⌝ }
+// What an event is, without its tag; or that there is none.
+pub enum EventKind {
+    OpenKind,
+    CloseKind,
+    FinishKind,
+    NoKind,
+}
+
+// The kind of the event at a place of the file.
+pub fn kind_at(events: &[u8], at: usize) -> EventKind
+    ensures { λ r. ⌜ r ≡ kindOf (eventAt (now (events .entry)) at) ⌝ }
 {
     if events.len() <= at {
-        return FileEvent::NoEvent;
+        return EventKind::NoKind;
     }
     let left = events.len() - at;
     let b = events[at];
     if b == 0x2f {
-        return FileEvent::Finish;
+        return EventKind::FinishKind;
     }
     if left < WITH_TAG {
-        return FileEvent::NoEvent;
+        return EventKind::NoKind;
     }
-    let tag = Tag(events[at + 1]);
     if b == 0x21 {
-        return FileEvent::Open(tag);
+        return EventKind::OpenKind;
     }
     if b == 0x22 {
-        return FileEvent::Close(tag);
+        return EventKind::CloseKind;
     }
-    FileEvent::NoEvent
+    EventKind::NoKind
+}
+
+// The byte past a place of the file, as a tag; 0 where the file ends before it. An event with a tag has it there.
+pub fn tag_at(events: &[u8], at: usize) -> Tag
+    ensures { λ r. ⌜ r .0 ≡ getD (now (events .entry)) (at + 1) 0 ⌝ }
+{
+    if events.len() <= at {
+        return Tag(0);
+    }
+    let left = events.len() - at;
+    if left < WITH_TAG {
+        return Tag(0);
+    }
+    Tag(events[at + 1])
+}
+
+// The event at a place of the file.
+pub(crate) fn event_at(events: &[u8], at: usize) -> FileEvent
+    ensures { λ r. ⌜ r ≡ eventAt (now (events .entry)) at ⌝ }
+{
+    match kind_at(events, at) {
+        EventKind::OpenKind => FileEvent::Open(tag_at(events, at)),
+        EventKind::CloseKind => FileEvent::Close(tag_at(events, at)),
+        EventKind::FinishKind => FileEvent::Finish,
+        EventKind::NoKind => FileEvent::NoEvent,
+    }
 }
 
 // The place past the event at a place, or the same place where there is none.
 pub(crate) fn place_after(events: &[u8], at: usize) -> usize
     ensures { λ r. ⌜ r ≡ placeAfter (now (events .entry)) at ⌝ }
 {
-    match event_at(events, at) {
-        FileEvent::Open(_) => at + WITH_TAG,
-        FileEvent::Close(_) => at + WITH_TAG,
-        FileEvent::Finish => at + ALONE,
-        FileEvent::NoEvent => at,
+    match kind_at(events, at) {
+        EventKind::OpenKind => at + WITH_TAG,
+        EventKind::CloseKind => at + WITH_TAG,
+        EventKind::FinishKind => at + ALONE,
+        EventKind::NoKind => at,
     }
 }

@@ -4,8 +4,11 @@ mod outline;
 mod walker;
 
 pub use decoder::ALONE;
+pub use decoder::EventKind;
 pub use decoder::FileEvent;
 pub use decoder::WITH_TAG;
+pub use decoder::kind_at;
+pub use decoder::tag_at;
 pub use outline::Cursor;
 pub use outline::NextOpening;
 pub use outline::next_opening;

@@ -1,18 +1,20 @@
--- The ways through a turn: what each computes, by the event found and what its step did.
-use mathlib.Core.Path.{_≡_, sym, ap, _∙_}
+-- The ways through a turn: what each computes, by the kind of the event found and what its step did.
+use mathlib.Core.Path.{_≡_, refl, ap, _∙_}
 use mathlib.Core.List.{List}
 use Prim.Native.Nat.{ℕ, _+_}
-use lib.ListN.{length}
+use lib.ListN.{length, getD}
 use Rattle.sdtd.specs.declared.Tag.{Tag}
 use Rattle.reading.specs.declared.value.Reading.{Reading}
 use Rattle.reading.specs.declared.calls.EventAnswer.{EventAnswer}
 use Rattle.reading.specs.declared.calls.EventAnswer.the-variants.{Refused}
 use Rattle.reading.specs.declared.calls.Next.{Next}
-use Rattle.events.specs.declared.decoder.FileEvent.{FileEvent}
-use Rattle.events.specs.declared.decoder.FileEvent.the-variants.{Open, Close, Finish, NoEvent}
+use Rattle.events.specs.declared.decoder.EventKind.{EventKind}
+use Rattle.events.specs.declared.decoder.EventKind.the-variants.{OpenKind, CloseKind, FinishKind, NoKind}
+use Rattle.events.specs.declared.decoder.FileEvent.the-variants.{Open, Close, Finish}
 use Rattle.reading.specs.declared.event_file.Walking.{Walking}
 use Rattle.reading.specs.declared.steps.Stepped.{Stepped}
-use Rattle.events.specs.Events.{size, eventAt}
+use Rattle.events.specs.Events.{size, eventAt, kindOf}
+use Rattle.events.proofs.EventLaws.{ofKind, tagAt, matched-kind}
 use Rattle.reading.specs.Steps.{StepTables, readingOf, nextOf, openByRows, closeStepIn, Finishes}
 use Rattle.reading.specs.Turns.{Walked, standingOf, walkedOf, stop, turnBy, turnTo, AfterStep, EndsHere, turnOn, turnOf}
 
@@ -27,25 +29,27 @@ stepped : (w : Walking) (types sets : List ℕ) (s : Stepped) (past : ℕ) (type
 stepped w types sets s past types′ sets′ r x a e =
     a types sets types′ sets′ ∙ ap (λ (y : Next). turnTo (walkedOf w types sets) past y) e
 
-module _ (t : StepTables) (file : List ℕ) (w : Walking) (types sets : List ℕ) {e : FileEvent} (stands : e ≡ eventAt file (w .at)) where
-  -- the turn is that of the case matched
-  matched : (d : FileEvent) → e ≡ d → turnOn t (length file) (walkedOf w types sets) d ≡ turnOf t file (walkedOf w types sets)
+module _ (t : StepTables) (file : List ℕ) (w : Walking) (types sets : List ℕ) {k : EventKind} (found : k ≡ kindOf (eventAt file (w .at))) where
+  -- the turn is that of the kind matched, with the byte past the place for its tag
+  matched : (d : EventKind) → k ≡ d → (g : Tag) → g .0 ≡ getD file (w .at + 1) 0
+      → turnOn t (length file) (walkedOf w types sets) (ofKind d g) ≡ turnOf t file (walkedOf w types sets)
   unfolding turnOf
-  matched d case = ap (turnOn t (length file) (walkedOf w types sets)) (sym case ∙ stands)
+  matched d case g tag = ap (turnOn t (length file) (walkedOf w types sets)) (matched-kind file (w .at) found case g tag)
 
-  module _ (s : Stepped) (types′ sets′ : List ℕ) (r : Walking) where
-    pub turn-open : (g : Tag) → e ≡ Open g → nextOf s types′ sets′ ≡ openByRows t (readingOf (standingOf w) types sets) (g .0)
+  module _ (s : Stepped) (types′ sets′ : List ℕ) (r : Walking) (g : Tag) (tag : g .0 ≡ getD file (w .at + 1) 0) where
+    pub turn-open : k ≡ OpenKind → nextOf s types′ sets′ ≡ openByRows t (readingOf (standingOf w) types sets) (g .0)
         → AfterStep w s (w .at + size (Open g)) r → walkedOf r types′ sets′ ≡ turnOf t file (walkedOf w types sets)
-    turn-open g case step after = stepped w types sets s _ types′ sets′ r _ after step ∙ matched (Open g) case
+    turn-open case step after = stepped w types sets s _ types′ sets′ r _ after step ∙ matched OpenKind case g tag
 
-    pub turn-close : (g : Tag) → e ≡ Close g → nextOf s types′ sets′ ≡ closeStepIn (t .heads) (t .tags) (readingOf (standingOf w) types sets) (g .0)
+    pub turn-close : k ≡ CloseKind → nextOf s types′ sets′ ≡ closeStepIn (t .heads) (t .tags) (readingOf (standingOf w) types sets) (g .0)
         → AfterStep w s (w .at + size (Close g)) r → walkedOf r types′ sets′ ≡ turnOf t file (walkedOf w types sets)
-    turn-close g case step after = stepped w types sets s _ types′ sets′ r _ after step ∙ matched (Close g) case
+    turn-close case step after = stepped w types sets s _ types′ sets′ r _ after step ∙ matched CloseKind case g tag
 
-  pub turn-finish : (s : Stepped) (r : Walking) → e ≡ Finish → Finishes (standingOf w) s → AfterStep w s (w .at + size Finish) r
+  pub turn-finish : (s : Stepped) (r : Walking) → k ≡ FinishKind → Finishes (standingOf w) s → AfterStep w s (w .at + size Finish) r
       → walkedOf r types sets ≡ turnOf t file (walkedOf w types sets)
-  turn-finish s r case step after = stepped w types sets s _ types sets r _ after (step types sets) ∙ matched Finish case
+  turn-finish s r case step after =
+      stepped w types sets s _ types sets r _ after (step types sets) ∙ matched FinishKind case (tagAt file (w .at)) refl
 
-  pub turn-ends : (r : Walking) → e ≡ NoEvent → EndsHere (length file) w r
+  pub turn-ends : (r : Walking) → k ≡ NoKind → EndsHere (length file) w r
       → walkedOf r types sets ≡ turnOf t file (walkedOf w types sets)
-  turn-ends r case after = after types sets ∙ matched NoEvent case
+  turn-ends r case after = after types sets ∙ matched NoKind case (tagAt file (w .at)) refl

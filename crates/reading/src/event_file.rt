@@ -9,9 +9,10 @@ use crate::steps::step_finish;
 use crate::steps::step_open;
 use crate::value::LEVELS;
 use events::ALONE;
-use events::FileEvent;
+use events::EventKind;
 use events::WITH_TAG;
-use events::walk_to;
+use events::kind_at;
+use events::tag_at;
 use schema::BEGINS;
 use schema::STEPS;
 use schema::Schema;
@@ -122,22 +123,22 @@ fn turn<'a>(
         rooted: w.rooted,
         finished: w.finished,
     };
-    let passed = walk_to(events, w.at);
-    let event = passed.event;
-    match event {
-        FileEvent::Open(g) => {
+    match kind_at(events, w.at) {
+        EventKind::OpenKind => {
+            let g = tag_at(events, w.at);
             let s = step_open(entries, begins, heads, tags, types, sets, standing, g);
             after_step(w, s, w.at + WITH_TAG)
         }
-        FileEvent::Close(g) => {
+        EventKind::CloseKind => {
+            let g = tag_at(events, w.at);
             let s = step_close_in(heads, tags, types, sets, standing, g);
             after_step(w, s, w.at + WITH_TAG)
         }
-        FileEvent::Finish => {
+        EventKind::FinishKind => {
             let s = step_finish(standing);
             after_step(w, s, w.at + ALONE)
         }
-        FileEvent::NoEvent => at_no_event(events.len(), w),
+        EventKind::NoKind => at_no_event(events.len(), w),
     }
 }
 
@@ -145,10 +146,8 @@ fn turn<'a>(
 fn outside(events: &[u8]) -> EventFile
     ensures { λ r. ⌜ (r .number ≡ outsideNumber (eventAt (now (events .entry)) 0)) × (r .place ≡ 0) × (r .count ≡ 0) ⌝ }
 {
-    let passed = walk_to(events, 0);
-    let event = passed.event;
-    match event {
-        FileEvent::NoEvent => EventFile {
+    match kind_at(events, 0) {
+        EventKind::NoKind => EventFile {
             number: 19,
             place: 0,
             count: 0,

@@ -1,104 +1,69 @@
--- `events::decoder::event_at` meets its contract: by the first byte, and by whether the file has the operand.
-use mathlib.Core.Path.{_≡_, refl, sym, _∙_}
-use mathlib.Core.Bool.{Bool, true, false, cond}
-use mathlib.Core.List.{List}
-use Prim.Native.Nat.{ℕ, _+_, _≤_, _<_}
-use native.Mathlib.Omega.{arith}
+-- `events::decoder::event_at` meets its contract: the event is that of its kind, with the byte past the place for its tag.
+use mathlib.Core.Path.{refl}
 use borrow.Author.Needs.{needs}
-use borrow.Author.Tests.{le-leb, lt-leb, ne-eqb}
-use lib.Dec.{eqb, leb}
-use lib.ListN.{length, getD}
-use Rattle.events.specs.Events.{eventFrom, eventAt}
-use Rattle.events.specs.declared.decoder.FileEvent.{FileEvent}
-use Rattle.events.specs.declared.decoder.FileEvent.the-variants.{NoEvent}
+use Rattle.events.proofs.EventLaws.{tagAt, matched-kind}
 use Rattle.events.proofs.decoder.event_at.Statement.{statement}
 use Rattle.events.proofs.decoder.event_at.Tie as tie
 
-same : (t : Bool) (e : FileEvent) → cond t e e ≡ e
-same true e = refl
-same false e = refl
+kind-at-requires : tie.Need-kind-at-requires
+kind-at-requires c κs = search needs
 
-module _ (file : List ℕ) (i : ℕ) where
-  none : length file ≤ i → NoEvent ≡ eventAt file i
-  none h = rw (lt-leb (i + 1) (length file) (omega arith))
+enum-told : tie.Need-enum-told
+enum-told c = search needs
 
-  -- an event is what its first byte says
-  begins : (b : ℕ) (e : FileEvent) → getD file i 0 ≡ b → i < length file → eventFrom file i b ≡ e → e ≡ eventAt file i
-  begins b e f h q = rw (le-leb (i + 1) (length file) (omega arith), f) (sym q)
+tag-at-requires : tie.Need-tag-at-requires
+tag-at-requires c κs = search needs
 
-  -- an event of n bytes, all inside the file
-  long : (b n : ℕ) (e : FileEvent) → getD file i 0 ≡ b → i < length file → i + n ≤ length file
-      → eventFrom file i b ≡ cond (leb (i + n) (length file)) e NoEvent → e ≡ eventAt file i
-  long b n e f h l q = begins b e f h (q ∙ rw (le-leb (i + n) (length file) l))
+enum-told-2 : tie.Need-enum-told-2
+enum-told-2 c = search needs
 
-  -- only a finish has no second byte
-  short : (b : ℕ) → ¬ (b ≡ 0x2f) → length file < i + 2 → eventFrom file i b ≡ NoEvent
-  unfolding eventFrom
-  short b f l = rw (lt-leb (i + 2) (length file) l, ne-eqb b 0x2f f, same (eqb b 0x22) NoEvent) (same (eqb b 0x21) NoEvent)
+tag-at-requires-2 : tie.Need-tag-at-requires-2
+tag-at-requires-2 c κs = search needs
 
-  other : (b : ℕ) → ¬ (b ≡ 0x21) → ¬ (b ≡ 0x22) → ¬ (b ≡ 0x2f) → eventFrom file i b ≡ NoEvent
-  unfolding eventFrom
-  other b p q r = rw (ne-eqb b 0x21 p, ne-eqb b 0x22 q, ne-eqb b 0x2f r)
+enum-told-3 : tie.Need-enum-told-3
+enum-told-3 c = search needs
+
+enum-told-4 : tie.Need-enum-told-4
+enum-told-4 c = search needs
 
 returns : tie.Need-returns
 returns c =
-    let a = c .before .args in
-    none (a .events .now) (a .at) (c .if1 .taken)
-
-sub-left : tie.Need-sub-left
-sub-left c = search needs
-
-shared-slice-read-b : tie.Need-shared-slice-read-b
-shared-slice-read-b c = search needs
+    let v = c .before in
+    let f = v .before .before in
+    let a = f .before .before .args in
+    matched-kind (a .events .now) (a .at) (f .kind-at .ensures) (v .enum-told .given .1) (c .tag-at .result) (c .tag-at .ensures)
 
 returns-2 : tie.Need-returns-2
-unfolding eventFrom
 returns-2 c =
-    let a = c .before .before .before .args in
-    long (a .events .now) (a .at) 0x2f 1 _ (omega arith) (omega arith) (omega arith) refl
+    let v = c .before in
+    let f = v .before .before in
+    let a = f .before .before .args in
+    matched-kind (a .events .now) (a .at) (f .kind-at .ensures) (v .enum-told2 .given .1) (c .tag-at2 .result) (c .tag-at2 .ensures)
 
 returns-3 : tie.Need-returns-3
 returns-3 c =
-    let a = c .before .before .before .before .args in
-    begins (a .events .now) (a .at) _ NoEvent refl (omega arith) (short (a .events .now) (a .at) _ (c .before .if2 .left) (omega arith))
-
-add-t6 : tie.Need-add-t6
-add-t6 c = search needs
-
-shared-slice-read-t9 : tie.Need-shared-slice-read-t9
-shared-slice-read-t9 c = search needs
+    let f = c .before .before in
+    let a = f .before .before .args in
+    matched-kind (a .events .now) (a .at) (f .kind-at .ensures) (c .enum-told3 .given .1) (tagAt (a .events .now) (a .at)) refl
 
 returns-4 : tie.Need-returns-4
-unfolding eventFrom
 returns-4 c =
-    let a = c .before .before .before .before .before .before .args in
-    long (a .events .now) (a .at) 0x21 2 _ (omega arith) (omega arith) (omega arith) refl
-
-returns-5 : tie.Need-returns-5
-unfolding eventFrom
-returns-5 c =
-    let a = c .before .before .before .before .before .before .before .args in
-    long (a .events .now) (a .at) 0x22 2 _ (omega arith) (omega arith) (omega arith) refl
-
-returns-6 : tie.Need-returns-6
-returns-6 c =
-    let e4 = c .before in
-    let e2 = e4 .before .before .before in
-    let a = e2 .before .before .before .args in
-    begins (a .events .now) (a .at) _ NoEvent refl (omega arith)
-    (other (a .events .now) (a .at) _ (e4 .if4 .left) (c .if5 .left) (e2 .if2 .left))
+    let f = c .before .before in
+    let a = f .before .before .args in
+    matched-kind (a .events .now) (a .at) (f .kind-at .ensures) (c .enum-told4 .given .1) (tagAt (a .events .now) (a .at)) refl
 
 pub event-at-spec : {M : Type 1} → statement M
 event-at-spec =
     tie.close
     (tie.spec
+    kind-at-requires
+    enum-told
+    tag-at-requires
+    enum-told-2
+    tag-at-requires-2
+    enum-told-3
+    enum-told-4
     returns
-    sub-left
-    shared-slice-read-b
     returns-2
     returns-3
-    add-t6
-    shared-slice-read-t9
-    returns-4
-    returns-5
-    returns-6)
+    returns-4)

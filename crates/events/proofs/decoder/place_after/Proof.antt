@@ -1,23 +1,24 @@
 -- `events::decoder::place_after` meets its contract: an event ends inside the file, so its end is a place.
-use mathlib.Core.Path.{_≡_, sym, ap, _∙_}
+use mathlib.Core.Path.{_≡_, refl, sym, ap, _∙_}
 use mathlib.Core.List.{List}
 use Prim.Native.Nat.{ℕ, _+_}
 use native.Mathlib.Nat.{add-zero}
 use native.Mathlib.Omega.{arith}
 use borrow.Author.Needs.{needs}
-use Rattle.events.specs.Events.{size, eventAt, placeAfter}
+use Rattle.events.specs.Events.{size, eventAt, kindOf, placeAfter}
+use Rattle.events.specs.declared.decoder.EventKind.{EventKind}
 use Rattle.events.specs.declared.decoder.FileEvent.{FileEvent}
-use Rattle.events.proofs.EventLaws.{matched-ends}
+use Rattle.events.proofs.EventLaws.{ofKind, tagAt, matched-kind, kind-ends}
 use Rattle.events.proofs.decoder.place_after.Statement.{statement}
 use Rattle.events.proofs.decoder.place_after.Tie as tie
 
--- what is found at the place is the case matched
-module _ (file : List ℕ) (i : ℕ) {e d : FileEvent} (found : e ≡ eventAt file i) (case : e ≡ d) where
-  after : i + size d ≡ placeAfter file i
-  after = ap (λ (x : FileEvent). i + size x) (sym case ∙ found)
+-- the place past the event of the kind matched
+module _ (file : List ℕ) (i : ℕ) {k d : EventKind} (found : k ≡ kindOf (eventAt file i)) (case : k ≡ d) where
+  after : i + size (ofKind d (tagAt file i)) ≡ placeAfter file i
+  after = ap (λ (x : FileEvent). i + size x) (matched-kind file i found case (tagAt file i) refl)
 
-event-at-requires : tie.Need-event-at-requires
-event-at-requires c κs = search needs
+kind-at-requires : tie.Need-kind-at-requires
+kind-at-requires c κs = search needs
 
 enum-told : tie.Need-enum-told
 enum-told c = search needs
@@ -26,7 +27,7 @@ add-result : tie.Need-add-result
 add-result c =
     let g = c .before .before in
     let a = g .before .before .args in
-    record { fits = omega (arith, matched-ends (a .events .now) (a .at) (g .event-at .ensures) (c .enum-told .given .1)) }
+    record { fits = omega (arith, kind-ends (a .events .now) (a .at) (g .kind-at .ensures) (c .enum-told .given .1)) }
 
 enum-told-2 : tie.Need-enum-told-2
 enum-told-2 c = search needs
@@ -35,7 +36,7 @@ add-result-2 : tie.Need-add-result-2
 add-result-2 c =
     let g = c .before .before in
     let a = g .before .before .args in
-    record { fits = omega (arith, matched-ends (a .events .now) (a .at) (g .event-at .ensures) (c .enum-told2 .given .1)) }
+    record { fits = omega (arith, kind-ends (a .events .now) (a .at) (g .kind-at .ensures) (c .enum-told2 .given .1)) }
 
 enum-told-3 : tie.Need-enum-told-3
 enum-told-3 c = search needs
@@ -44,7 +45,7 @@ add-result-3 : tie.Need-add-result-3
 add-result-3 c =
     let g = c .before .before in
     let a = g .before .before .args in
-    record { fits = omega (arith, matched-ends (a .events .now) (a .at) (g .event-at .ensures) (c .enum-told3 .given .1)) }
+    record { fits = omega (arith, kind-ends (a .events .now) (a .at) (g .kind-at .ensures) (c .enum-told3 .given .1)) }
 
 enum-told-4 : tie.Need-enum-told-4
 enum-told-4 c = search needs
@@ -53,31 +54,31 @@ returns : tie.Need-returns
 returns c =
     let g = c .before .before in
     let a = g .before .before .args in
-    after (a .events .now) (a .at) (g .event-at .ensures) (c .enum-told .given .1)
+    after (a .events .now) (a .at) (g .kind-at .ensures) (c .enum-told .given .1)
 
 returns-2 : tie.Need-returns-2
 returns-2 c =
     let g = c .before .before in
     let a = g .before .before .args in
-    after (a .events .now) (a .at) (g .event-at .ensures) (c .enum-told2 .given .1)
+    after (a .events .now) (a .at) (g .kind-at .ensures) (c .enum-told2 .given .1)
 
 returns-3 : tie.Need-returns-3
 returns-3 c =
     let g = c .before .before in
     let a = g .before .before .args in
-    after (a .events .now) (a .at) (g .event-at .ensures) (c .enum-told3 .given .1)
+    after (a .events .now) (a .at) (g .kind-at .ensures) (c .enum-told3 .given .1)
 
 returns-4 : tie.Need-returns-4
 returns-4 c =
     let g = c .before .before in
     let a = g .before .before .args in
-    sym (add-zero (a .at)) ∙ after (a .events .now) (a .at) (g .event-at .ensures) (c .enum-told4 .given .1)
+    sym (add-zero (a .at)) ∙ after (a .events .now) (a .at) (g .kind-at .ensures) (c .enum-told4 .given .1)
 
 pub place-after-spec : {M : Type 1} → statement M
 place-after-spec =
     tie.close
     (tie.spec
-    event-at-requires
+    kind-at-requires
     enum-told
     add-result
     enum-told-2

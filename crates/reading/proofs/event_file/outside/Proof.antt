@@ -1,37 +1,46 @@
 -- `reading::event_file::outside` meets its contract: only the first bytes are looked at.
-use mathlib.Core.Path.{_≡_, refl, sym, ap, _∙_}
+use mathlib.Core.Path.{_≡_, refl, ap, _∙_}
 use mathlib.Core.List.{[], _∷_}
 use types.Run.{OneOf, miss}
 use denote.Enum.Declared.{tagOf}
-use Rattle.events.specs.declared.decoder.FileEvent.{FileEvent}
-use Rattle.events.specs.declared.decoder.FileEvent.the-variants.{Open, Close, Finish, NoEvent}
+use Rattle.sdtd.specs.declared.Tag.{Tag}
+use Rattle.events.specs.declared.decoder.EventKind.{EventKind}
+use Rattle.events.specs.declared.decoder.EventKind.the-variants.{OpenKind, CloseKind, FinishKind, NoKind}
+use Rattle.events.proofs.EventLaws.{ofKind, tagAt, matched-kind}
+use Rattle.events.proofs.decoder.EventKind.{the-type}
 use Rattle.reading.specs.Turns.{outsideNumber}
-use Rattle.events.proofs.decoder.FileEvent.{the-type}
 use borrow.Author.Needs.{needs}
 use Rattle.reading.proofs.event_file.outside.Statement.{statement}
 use Rattle.reading.proofs.event_file.outside.Tie as tie
 
 -- an event gets 10
-event : (e : FileEvent) → OneOf (0 ∷ 1 ∷ 2 ∷ []) (tagOf the-type e) → 10 ≡ outsideNumber e
-event (Open g) k = refl
-event (Close g) k = refl
-event Finish k = refl
-event NoEvent k = absurd (miss (0 ∷ 1 ∷ 2 ∷ []) 3 tt k)
+event : (k : EventKind) → OneOf (0 ∷ 1 ∷ 2 ∷ []) (tagOf the-type k) → (g : Tag) → 10 ≡ outsideNumber (ofKind k g)
+event OpenKind o g = refl
+event CloseKind o g = refl
+event FinishKind o g = refl
+event NoKind o g = absurd (miss (0 ∷ 1 ∷ 2 ∷ []) 3 tt o)
 
-walk-to-requires : tie.Need-walk-to-requires
-walk-to-requires c κs = search needs
+kind-at-requires : tie.Need-kind-at-requires
+kind-at-requires c κs = search needs
 
 enum-told : tie.Need-enum-told
 enum-told c = search needs
 
 returns : tie.Need-returns
 returns c =
-    let e = sym (c .enum-told .given .1) ∙ c .before .before .walk-to .ensures .0 in
-    (ap (λ (x : FileEvent). outsideNumber x) e, refl, refl)
+    let f = c .before .before in
+    let file = f .before .before .args .events .now in
+    (ap outsideNumber (matched-kind file 0 (f .kind-at .ensures) (c .enum-told .given .1) (tagAt file 0) refl), refl, refl)
 
 returns-2 : tie.Need-returns-2
 returns-2 c =
-    (event (c .before .walk-to .result .event) (c .match .keys2) ∙ ap (λ (x : FileEvent). outsideNumber x) (c .before .walk-to .ensures .0), refl, refl)
+    let f = c .before in
+    let file = f .before .before .args .events .now in (
+      event (f .kind-at .result) (c .match .keys2) (tagAt file 0)
+          ∙ ap outsideNumber (matched-kind file 0 (f .kind-at .ensures) refl (tagAt file 0) refl),
+      refl,
+      refl,
+    )
 
 pub outside-spec : {M : Type 1} → statement M
-outside-spec = tie.close (tie.spec walk-to-requires enum-told returns returns-2)
+outside-spec = tie.close (tie.spec kind-at-requires enum-told returns returns-2)

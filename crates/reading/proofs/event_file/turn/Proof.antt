@@ -1,26 +1,19 @@
--- `reading::event_file::turn` meets its contract: by the event, what its step promises and what follows it.
-use mathlib.Core.Path.{_≡_, sym, ap, _∙_}
-use mathlib.Core.List.{List}
-use Prim.Native.Nat.{ℕ, _+_}
+-- `reading::event_file::turn` meets its contract: by the event's kind, what its step promises and what follows it.
 use native.Mathlib.Omega.{arith}
 use borrow.Author.Needs.{needs}
-use mir.Syntax.{w64}
-use mir.Val.{Fits}
-use Rattle.events.specs.declared.decoder.FileEvent.{FileEvent}
-use Rattle.events.specs.Events.{size, eventAt, placeAfter}
+use Rattle.events.proofs.EventLaws.{kind-ends}
 use Rattle.reading.proofs.TurnWays.{turn-open, turn-close, turn-finish, turn-ends}
 use Rattle.reading.proofs.event_file.turn.Statement.{statement}
 use Rattle.reading.proofs.event_file.turn.Tie as tie
 
--- the place past the event matched
-past-is : (file : List ℕ) (at past : ℕ) {e d : FileEvent} → (e ≡ eventAt file at) × (past ≡ placeAfter file at) → e ≡ d → past ≡ at + size d
-past-is file at past found case = found .1 ∙ ap (λ (x : FileEvent). at + size x) (sym (found .0) ∙ case)
+kind-at-requires : tie.Need-kind-at-requires
+kind-at-requires c κs = search needs
 
-walk-to-requires : tie.Need-walk-to-requires
-walk-to-requires c κs = search needs
+enum-told : tie.Need-enum-told
+enum-told c = search needs
 
-enum-known-event : tie.Need-enum-known-event
-enum-known-event c = search needs
+tag-at-requires : tie.Need-tag-at-requires
+tag-at-requires c κs = search needs
 
 step-open-requires : tie.Need-step-open-requires
 step-open-requires c κs = search needs
@@ -29,15 +22,18 @@ add-after-step : tie.Need-add-after-step
 add-after-step c =
     let v = c .before .before .before .before .before in
     let f = v .before .before in
-    let a = f .before .before .args in
-    let below : Fits w64 (f .walk-to .result .past) = search needs in
-    omega (arith, past-is (a .events .now) (a .w .at) (f .walk-to .result .past) (f .walk-to .ensures) (v .event .given .1))
+    let start = f .before .before in
+    let a = start .args in
+    omega (arith, start .good .1 .1 .1 .1 .0, kind-ends (a .events .now) (a .w .at) (f .kind-at .ensures) (v .enum-told .given .1))
 
 after-step-requires : tie.Need-after-step-requires
 after-step-requires c κs = search needs
 
-enum-known-event-2 : tie.Need-enum-known-event-2
-enum-known-event-2 c = search needs
+enum-told-2 : tie.Need-enum-told-2
+enum-told-2 c = search needs
+
+tag-at-requires-2 : tie.Need-tag-at-requires-2
+tag-at-requires-2 c κs = search needs
 
 step-close-in-requires : tie.Need-step-close-in-requires
 step-close-in-requires c κs = search needs
@@ -46,15 +42,15 @@ add-after-step-2 : tie.Need-add-after-step-2
 add-after-step-2 c =
     let v = c .before .before .before .before .before in
     let f = v .before .before in
-    let a = f .before .before .args in
-    let below : Fits w64 (f .walk-to .result .past) = search needs in
-    omega (arith, past-is (a .events .now) (a .w .at) (f .walk-to .result .past) (f .walk-to .ensures) (v .event2 .given .1))
+    let start = f .before .before in
+    let a = start .args in
+    omega (arith, start .good .1 .1 .1 .1 .0, kind-ends (a .events .now) (a .w .at) (f .kind-at .ensures) (v .enum-told2 .given .1))
 
 after-step-requires-2 : tie.Need-after-step-requires-2
 after-step-requires-2 c κs = search needs
 
-enum-told : tie.Need-enum-told
-enum-told c = search needs
+enum-told-3 : tie.Need-enum-told-3
+enum-told-3 c = search needs
 
 step-finish-requires : tie.Need-step-finish-requires
 step-finish-requires c κs = search needs
@@ -63,15 +59,15 @@ add-after-step-3 : tie.Need-add-after-step-3
 add-after-step-3 c =
     let v = c .before .before in
     let f = v .before .before in
-    let a = f .before .before .args in
-    let below : Fits w64 (f .walk-to .result .past) = search needs in
-    omega (arith, past-is (a .events .now) (a .w .at) (f .walk-to .result .past) (f .walk-to .ensures) (v .enum-told .given .1))
+    let start = f .before .before in
+    let a = start .args in
+    omega (arith, start .good .1 .1 .1 .1 .0, kind-ends (a .events .now) (a .w .at) (f .kind-at .ensures) (v .enum-told3 .given .1))
 
 after-step-requires-3 : tie.Need-after-step-requires-3
 after-step-requires-3 c κs = search needs
 
-enum-told-2 : tie.Need-enum-told-2
-enum-told-2 c = search needs
+enum-told-4 : tie.Need-enum-told-4
+enum-told-4 c = search needs
 
 at-no-event-requires : tie.Need-at-no-event-requires
 at-no-event-requires c κs = search needs
@@ -79,20 +75,22 @@ at-no-event-requires c κs = search needs
 returns : tie.Need-returns
 returns c =
     let o = c .before .before in
-    let v = o .before .before .before .before in
+    let g = o .before .before .before in
+    let v = g .before in
     let f = v .before .before in
     let a = f .before .before .args in
-    turn-open _ (a .events .now) (a .w) (a .types .now) (a .sets .now) (f .walk-to .ensures .0) (o .step-open .result) _ _ (c .after-step .result) _
-    (v .event .given .1) (o .step-open .ensures) (c .after-step .ensures)
+    turn-open _ (a .events .now) (a .w) (a .types .now) (a .sets .now) (f .kind-at .ensures) (o .step-open .result) _ _ (c .after-step .result)
+    (g .tag-at .result) (g .tag-at .ensures) (v .enum-told .given .1) (o .step-open .ensures) (c .after-step .ensures)
 
 returns-2 : tie.Need-returns-2
 returns-2 c =
     let o = c .before .before in
-    let v = o .before .before .before .before in
+    let g = o .before .before .before in
+    let v = g .before in
     let f = v .before .before in
     let a = f .before .before .args in
-    turn-close _ (a .events .now) (a .w) (a .types .now) (a .sets .now) (f .walk-to .ensures .0) (o .step-close-in .result) _ _ (c .after-step2 .result) _
-    (v .event2 .given .1) (o .step-close-in .ensures) (c .after-step2 .ensures)
+    turn-close _ (a .events .now) (a .w) (a .types .now) (a .sets .now) (f .kind-at .ensures) (o .step-close-in .result) _ _ (c .after-step2 .result)
+    (g .tag-at2 .result) (g .tag-at2 .ensures) (v .enum-told2 .given .1) (o .step-close-in .ensures) (c .after-step2 .ensures)
 
 returns-3 : tie.Need-returns-3
 returns-3 c =
@@ -100,35 +98,37 @@ returns-3 c =
     let v = o .before in
     let f = v .before .before in
     let a = f .before .before .args in
-    turn-finish _ (a .events .now) (a .w) (a .types .now) (a .sets .now) (f .walk-to .ensures .0) (o .step-finish .result) (c .after-step3 .result)
-    (v .enum-told .given .1) (o .step-finish .ensures) (c .after-step3 .ensures)
+    turn-finish _ (a .events .now) (a .w) (a .types .now) (a .sets .now) (f .kind-at .ensures) (o .step-finish .result) (c .after-step3 .result)
+    (v .enum-told3 .given .1) (o .step-finish .ensures) (c .after-step3 .ensures)
 
 returns-4 : tie.Need-returns-4
 returns-4 c =
     let v = c .before in
     let f = v .before .before in
     let a = f .before .before .args in
-    turn-ends _ (a .events .now) (a .w) (a .types .now) (a .sets .now) (f .walk-to .ensures .0) (c .at-no-event .result) (v .enum-told2 .given .1)
+    turn-ends _ (a .events .now) (a .w) (a .types .now) (a .sets .now) (f .kind-at .ensures) (c .at-no-event .result) (v .enum-told4 .given .1)
     (c .at-no-event .ensures)
 
 pub turn-spec : {M : Type 1} → statement M
 turn-spec =
     tie.close
     (tie.spec
-    walk-to-requires
-    enum-known-event
+    kind-at-requires
+    enum-told
+    tag-at-requires
     step-open-requires
     add-after-step
     after-step-requires
-    enum-known-event-2
+    enum-told-2
+    tag-at-requires-2
     step-close-in-requires
     add-after-step-2
     after-step-requires-2
-    enum-told
+    enum-told-3
     step-finish-requires
     add-after-step-3
     after-step-requires-3
-    enum-told-2
+    enum-told-4
     at-no-event-requires
     returns
     returns-2
