@@ -43,6 +43,11 @@ fn value_of(file: &[u8], puts: &[u8]) -> Schema {
     made
 }
 
+// What the lent tables hold before a call: no zeros.
+const LEFT_ENTRY: u32 = 0xa5a5_a5a5;
+
+const LEFT_BEGIN: u16 = 0xa5a5;
+
 // The live states of each type below the count.
 fn show_live(live: [u32; TYPES], types: usize) {
     let mut a = 0;
@@ -87,9 +92,22 @@ fn show_row(entries: [u32; STEPS], start: usize, end: usize) {
     }
 }
 
-// The rows that have an entry.
+// An entry that stands past all rows.
+fn show_left(entries: [u32; STEPS], past: usize) {
+    let mut k = past;
+    while k < STEPS {
+        if entries[k] != 0 {
+            text(b" left");
+            next_number(long(k));
+        }
+        k += 1;
+    }
+}
+
+// The rows that have an entry, and what stands past all rows but zeros.
 fn show_rows(entries: [u32; STEPS], begins: [u16; BEGINS]) {
     text(b"; rows");
+    let mut past = 0;
     let mut i = 0;
     while i < ROWS {
         let start = begins[i] as usize;
@@ -98,18 +116,20 @@ fn show_rows(entries: [u32; STEPS], begins: [u16; BEGINS]) {
             text(b" row");
             next_number(long(i));
             show_row(entries, start, end);
+            past = end;
         }
         i += 1;
     }
+    show_left(entries, past);
 }
 
 fn show_trimming(schema: Schema) {
-    let trimming = trim(schema);
+    let mut entries = [LEFT_ENTRY; STEPS];
+    let mut begins = [LEFT_BEGIN; BEGINS];
+    let trimming = trim(schema, &mut entries, &mut begins);
     let live = trimming.live;
     let bears = trimming.bears;
     let reached = trimming.reached;
-    let entries = trimming.entries;
-    let begins = trimming.begins;
     text(b"; live");
     show_live(live, schema.types as usize);
     text(b"; bears");
@@ -120,10 +140,10 @@ fn show_trimming(schema: Schema) {
 }
 
 fn show_live_rows(schema: Schema) {
-    let found = live_rows(schema);
+    let mut entries = [LEFT_ENTRY; STEPS];
+    let mut begins = [LEFT_BEGIN; BEGINS];
+    let found = live_rows(schema, &mut entries, &mut begins);
     let live = found.live;
-    let entries = found.entries;
-    let begins = found.begins;
     text(b"; live");
     show_live(live, schema.types as usize);
     show_rows(entries, begins);

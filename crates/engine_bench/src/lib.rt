@@ -7,6 +7,8 @@ use reading::Next;
 use reading::Reading;
 use reading::open_lent;
 use reading::read_events;
+use schema::BEGINS;
+use schema::STEPS;
 use schema::Schema;
 use schema::Trimming;
 use schema::trim;
@@ -18,7 +20,7 @@ ghost use lib.Dec.{T};
 ghost use Rattle.sdtd.specs.Document.{opening, closing, finish};
 ghost use Rattle.sdtd.specs.Schema.{WithinLimits};
 ghost use Rattle.schema.specs.Value.{meaning};
-ghost use Rattle.schema.specs.Trimming.{TrimMeans};
+ghost use Rattle.schema.specs.Trimming.{TrimMeans, RowsLent};
 ghost use Rattle.competition.specs.Search.{numberFor};
 ghost use Rattle.reading.specs.EventFile.{EventsMean};
 ghost use Rattle.engine_bench.specs.Handed.{kindOf, numberOf, numbersOf, answeredOf, Handed, HandedLent, SearchNumber};
@@ -31,12 +33,16 @@ pub extern "C" fn bench_within(schema: Schema) -> bool
     within(schema)
 }
 
-// The tables of the schema's trimming.
+// The tables of the schema's trimming; its rows go to the tables lent.
 #[no_mangle]
-pub extern "C" fn bench_trim(schema: Schema) -> Trimming
-    ensures { λ r. ⌜ TrimMeans (meaning schema) r ⌝ }
+pub extern "C" fn bench_trim<'a>(
+    schema: Schema,
+    entries: &'a mut [u32; STEPS],
+    begins: &'a mut [u16; BEGINS],
+) -> Trimming
+    ensures { λ r. ⌜ TrimMeans (meaning schema) r × RowsLent (meaning schema) (now (entries .exit)) (now (begins .exit)) ⌝ }
 {
-    trim(schema)
+    trim(schema, entries, begins)
 }
 
 fn search_number(searched: Searched) -> u8

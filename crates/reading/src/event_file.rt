@@ -160,6 +160,17 @@ fn outside(events: &[u8]) -> EventFile
     }
 }
 
+// No byte of the buffer is left for the opening at the place.
+fn no_room(place: usize, count: usize) -> EventFile
+    ensures { λ r. ⌜ (r .number ≡ 20) × (r .place ≡ place) × (r .count ≡ count) ⌝ }
+{
+    EventFile {
+        number: 20,
+        place,
+        count,
+    }
+}
+
 // The event file's answer. An opening was taken where the walk is one level deeper, and its type stands at that level; types go to the buffer.
 pub fn read_events(schema: Schema, events: &[u8], out: &mut [u8]) -> EventFile
     ensures { λ r. ⌜ EventsMean (meaning schema) (now (events .entry)) (now (out .entry)) (now (out .exit)) r ⌝ }
@@ -191,11 +202,7 @@ pub fn read_events(schema: Schema, events: &[u8], out: &mut [u8]) -> EventFile
         );
         if depth < w.depth {
             if out.len() <= count {
-                return EventFile {
-                    number: 20,
-                    place,
-                    count,
-                };
+                return no_room(place, count);
             }
             out[count] = types[depth as usize];
             count += 1;

@@ -102,12 +102,17 @@ turn-requires c κs =
     stands-fit (fits (begin (made-for l))) (l .loop .inv .sound .reading .within) (tables (l .before))
 
 same-length : tie.Need-same-length Inv-loop μ-loop
-same-length c = out-long (in-loop (c .before .before .before .before) .before .loop .inv)
+same-length c = out-long (in-loop (c .before .before .before .before .before) .before .loop .inv)
+
+no-room-requires : tie.Need-no-room-requires Inv-loop μ-loop
+no-room-requires c κs = search needs
 
 returns-2 : tie.Need-returns-2 Inv-loop μ-loop
 returns-2 c =
-    let t = c .before .before .before in
-    full-means (in-loop (t .before) .before .loop .inv) (turned t) (c .before .if2 .taken) (c .if3 .taken) _ refl refl refl
+    let i = c .before in
+    let t = i .before .before .before in
+    let e = c .no-room .ensures in
+    full-means (in-loop (t .before) .before .loop .inv) (turned t) (i .before .if2 .taken) (i .if3 .taken) _ (e .0) (e .1) (e .2)
 
 cast-out : tie.Need-cast-out Inv-loop μ-loop
 cast-out c = search needs
@@ -163,6 +168,7 @@ read-events-spec =
     heads-requires
     loop-holds
     turn-requires
+    no-room-requires
     same-length
     returns-2
     cast-out
