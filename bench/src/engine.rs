@@ -1,6 +1,7 @@
 //! The proved engine's calls: those on values in libengine_bench.a, and the schema file's in
 //! libtypestock_c.a. The values lie in memory as the plain implementation has them.
-use plain::limits::{MOST_TYPES, Tag, Type, WITNESS};
+use plain::limits::{MOST_STEPS, MOST_TYPES, Tag, Type, WITNESS};
+use plain::rows::{Entry, ROWS};
 use plain::{Answer, Answered, EventAnswer, Reading, Rows, Schema, SchemaAnswer, States};
 use std::mem::{offset_of, size_of};
 
@@ -11,17 +12,19 @@ pub struct Trimmed {
     pub live: [States; MOST_TYPES],
     pub bears: [bool; MOST_TYPES],
     pub reached: [bool; MOST_TYPES],
-    /// Its entries and where each row begins.
-    pub rows: Rows,
 }
+
+/// The tables that a call lays rows in.
+type Entries = [Entry; MOST_STEPS];
+type Begins = [u16; ROWS + 1];
 
 // The layouts that the exports have: C's, of the fields in the engine's order.
 const _: () = {
     assert!(size_of::<Schema>() == 3588 && offset_of!(Schema, accepting) == 132);
     assert!(offset_of!(Schema, steps) == 388 && offset_of!(Schema, from) == 516);
-    assert!(size_of::<Trimmed>() == 8584 && offset_of!(Trimmed, live) == 4);
+    assert!(size_of::<Trimmed>() == 388 && offset_of!(Trimmed, live) == 4);
     assert!(offset_of!(Trimmed, bears) == 260 && offset_of!(Trimmed, reached) == 324);
-    assert!(offset_of!(Trimmed, rows) == 388 && offset_of!(Rows, begins) == 4096);
+    assert!(size_of::<Entries>() == 4096 && size_of::<Begins>() == 4098);
     assert!(size_of::<Reading>() == 324 && offset_of!(Reading, sets) == 68);
     assert!(size_of::<Answer>() == 2 && size_of::<Answered>() == 328);
     assert!(offset_of!(Answered, reading) == 4);
@@ -33,8 +36,7 @@ const _: () = {
 unsafe extern "C" {
     #[link_name = "bench_within"]
     pub safe fn within(schema: Schema) -> bool;
-    #[link_name = "bench_trim"]
-    pub safe fn trim(schema: Schema) -> Trimmed;
+    safe fn bench_trim(schema: Schema, entries: &mut Entries, begins: &mut Begins) -> Trimmed;
     fn bench_competition(schema: Schema, witness: *mut u8, room: usize) -> u8;
     #[link_name = "bench_open"]
     pub safe fn open(schema: Schema, reading: Reading, tag: Tag) -> Answered;
@@ -57,6 +59,11 @@ unsafe extern "C" {
         witness: *mut u8,
         room: usize,
     ) -> SchemaAnswer;
+}
+
+/// The trimming's tables; its rows are laid in those lent.
+pub fn trim(schema: &Schema, rows: &mut Rows) -> Trimmed {
+    bench_trim(*schema, &mut rows.entries, &mut rows.begins)
 }
 
 /// The number and the witness buffer of a search for competition in a schema as a value.

@@ -8,6 +8,7 @@ use crate::witness::is_left_right;
 use plain::limits::WITNESS;
 use plain::questions::{COMPETITION, NONE, OUTSIDE_LIMITS};
 use plain::{Rows, Schema, Trimming, competition};
+use std::cell::RefCell;
 use std::hint::black_box;
 
 fn plain_trim(schema: &Schema) -> Option<Trimming> {
@@ -15,13 +16,13 @@ fn plain_trim(schema: &Schema) -> Option<Trimming> {
 }
 
 /// Whether both are inside the limits with the same tables, or both outside.
-fn same_tables(proved: &Trimmed, plain: &Option<Trimming>) -> bool {
+fn same_tables(proved: &Trimmed, rows: &Rows, plain: &Option<Trimming>) -> bool {
     let tables = plain.as_ref().unwrap_or(&Trimming::NONE);
     proved.inside == plain.is_some()
         && proved.live == tables.live
         && proved.bears == tables.bears
         && proved.reached == tables.reached
-        && sorted(proved.rows) == sorted(tables.rows)
+        && sorted(*rows) == sorted(tables.rows)
 }
 
 /// The rows with the entries of each in rising order, so that their order is free.
@@ -88,11 +89,16 @@ const SCHEMAS: usize = 4_000;
 fn compare() -> Option<[usize; 2]> {
     let mut random = Random(0x2545_F491_4F6C_DD1D);
     let mut counts = [0; 2];
+    let mut rows = Rows::NONE;
     for _ in 0..SCHEMAS {
         let schema = random.schema();
         let found = engine::competition(&schema);
         let same = engine::within(schema) == schema.within_limits()
-            && same_tables(&engine::trim(schema), &plain_trim(&schema))
+            && same_tables(
+                &engine::trim(&schema, &mut rows),
+                &rows,
+                &plain_trim(&schema),
+            )
             && same_search(&schema, &found, &plain_competition(&schema));
         if !same {
             return None;
@@ -115,6 +121,7 @@ pub fn run() -> bool {
     ];
     heading("Schemas as values", "steps", &["plain"]);
     let mut same = true;
+    let rows = RefCell::new(Rows::NONE);
     for (name, most, schema) in &cases {
         let what = |call| format!("{name}: {call}");
         same &= report(
@@ -129,9 +136,9 @@ pub fn run() -> bool {
             &what("trimming"),
             schema,
             Asked::NOTHING,
-            |schema| engine::trim(*schema),
+            |schema| engine::trim(schema, &mut rows.borrow_mut()),
             plain_trim,
-            same_tables,
+            |proved, plain| same_tables(proved, &rows.borrow(), plain),
         );
         same &= report(
             &what("search"),

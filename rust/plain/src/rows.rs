@@ -64,7 +64,7 @@ impl Entry {
 }
 
 /// A row for each state of each type, `MOST_STATES` rows a type.
-const ROWS: usize = MOST_TYPES * MOST_STATES;
+pub const ROWS: usize = MOST_TYPES * MOST_STATES;
 
 /// The entries of all rows, row after row, in each the order of the steps; past them all is 0.
 #[derive(Debug, Clone, Copy, PartialEq, Eq)]
