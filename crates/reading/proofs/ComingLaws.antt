@@ -1,7 +1,7 @@
 -- What a list of moves comes to: the smallest type among them, and the states that they lead to by that type.
 use mathlib.Core.Path.{_≡_, refl, sym, subst, ap, _∙_}
 use mathlib.Core.Logic.{_↔_, _⊎_, inl, inr, ⊎-elim, _≢_}
-use mathlib.Core.Bool.{Bool, true, false, _||_}
+use mathlib.Core.Bool.{Bool, true, false}
 use mathlib.Core.List.{List, [], _∷_, _++_, List·Memᴰ, List·Memᴰ·head, List·Memᴰ·tail, List·Memᴰ·cases-cons, List·Memᴰ·not-nil}
 use mathlib.Core.List.{List·Memᴰ·append-cases, List·Memᴰ·eq-of-singleton, Memᴰ·append-left, Memᴰ·append-right}
 use Prim.Native.Nat.{ℕ, zero, suc, _+_, _-_, _^_, _≤_, _<_}
@@ -10,15 +10,16 @@ use native.Mathlib.Decide.{ℕ-discrete}
 use native.Mathlib.Numerals.{add-one}
 use native.Mathlib.Omega.{arith}
 use lib.Dec.{T, eqb, ltb, ltb→lt, lt→ltb, eqb→eq, eqb-refl}
-use Rattle.sdtd.specs.Limits.{mostStates}
+use Rattle.sdtd.specs.Limits.{mostTypes, mostStates}
 use Rattle.sdtd.proofs.Basics.{cond-either}
 use Rattle.schema.specs.States.{member, insert, noStates}
 use Rattle.schema.proofs.Bits.{member-none, insert-below, member-insert}
 use Rattle.reading.specs.Coming.{Least, least, noneYet, join, Move, move, joins, gathered, moveWhere}
 
--- c has the smallest type of P, and the states that P has with it; none are kept where P has nothing
+-- c has the smallest type of P, and the states that P has with it; none are kept where P has nothing, and then c is past every type
 pub record Smallest (P : ℕ → ℕ → Type 0) (c : Least) : Type 0 where
   pub kept-below : c .kept < 2 ^ mostStates
+  pub past : c .kept ≡ noStates → mostTypes ≤ c .of
   pub none : c .kept ≡ noStates → (j q : ℕ) → ¬ P j q
   pub some : c .kept ≢ noStates → (q : ℕ) × P (c .of) q
   pub least : (j q : ℕ) → P j q → c .of ≤ j
@@ -28,6 +29,7 @@ pub smallest-same : {P Q : ℕ → ℕ → Type 0} {c : Least} → ((j q : ℕ) 
 smallest-same {c = c} same s =
     record {
       kept-below = s .kept-below;
+      past = s .past;
       none = λ e j q p. s .none e j q (same j q .1 p);
       some = λ n. let p = s .some n in (p .0, same (c .of) (p .0) .0 (p .1));
       least = λ j q p. s .least j q (same j q .1 p);
@@ -49,6 +51,7 @@ module _ (P : ℕ → ℕ → Type 0) (c : Least) (j q : ℕ) (state : q < mostS
       let here : T (member q (insert q noStates)) = member-insert q q noStates (omega arith) .1 (inr (refl, state)) in
       record {
         kept-below = insert-below q noStates (omega arith);
+        past = λ e. absurd (some-kept (insert q noStates) q here e);
         none = λ e. absurd (some-kept (insert q noStates) q here e);
         some = λ h. (q, inr (refl, refl));
         least = λ k p. ⊎-elim (λ w. omega (arith, larger k p w)) (λ w. omega arith);
@@ -63,6 +66,7 @@ module _ (P : ℕ → ℕ → Type 0) (c : Least) (j q : ℕ) (state : q < mostS
   join-larger n l =
       record {
         kept-below = s .kept-below;
+        past = λ e. absurd (n e);
         none = λ e. absurd (n e);
         some = λ h. let w = s .some h in (w .0, inl (w .1));
         least = λ k p. ⊎-elim (s .least k p) (λ w. omega arith);
@@ -74,9 +78,11 @@ module _ (P : ℕ → ℕ → Type 0) (c : Least) (j q : ℕ) (state : q < mostS
   join-same e =
       let insertion : (p : ℕ) → T (member p (insert q (c .kept))) ↔ (T (member p (c .kept)) ⊎ ((p ≡ q) × (q < mostStates))) =
       λ p. member-insert q p (c .kept) (s .kept-below) in
+      let some : insert q (c .kept) ≢ noStates = some-kept (insert q (c .kept)) q (insertion q .1 (inr (refl, state))) in
       record {
         kept-below = insert-below q (c .kept) (s .kept-below);
-        none = λ e. absurd (some-kept (insert q (c .kept)) q (insertion q .1 (inr (refl, state))) e);
+        past = λ e. absurd (some e);
+        none = λ e. absurd (some e);
         some = λ h. (q, inr (refl, refl));
         least = λ k p. ⊎-elim (λ w. omega (arith, s .least k p w)) (λ w. omega arith);
         keeps = λ p. (
@@ -87,40 +93,27 @@ module _ (P : ℕ → ℕ → Type 0) (c : Least) (j q : ℕ) (state : q < mostS
         );
       }
 
-  join-smallest : Smallest (With P j q) (join c j q)
+  join-smallest : j < mostTypes → Smallest (With P j q) (join c j q)
   unfolding join
-  join-smallest =
+  join-smallest type =
       cond-either (Smallest (With P j q)) (eqb j (c .of)) (λ h. join-same (sym (eqb→eq j (c .of) h)))
-      (λ n. cond-either (Smallest (With P j q)) (eqb (c .kept) noStates || ltb j (c .of)) (λ h. join-first (larger h))
-      (λ m. join-larger (λ e. m (rw e tt)) (above n m)))
+      (λ n. cond-either (Smallest (With P j q)) (ltb j (c .of))
+      (λ h. join-first (λ k p w. omega (arith, ltb→lt j (c .of) h, s .least k p w)))
+      (λ m. let l = above n m in join-larger (λ e. omega (arith, s .past e)) l))
     where
-      -- nothing came yet, or a larger type
-      larger : T (eqb (c .kept) noStates || ltb j (c .of)) → (k p : ℕ) → P k p → j < k
-      larger h k p w =
-          ⊎-elim (λ e. absurd (s .none (eqb→eq (c .kept) noStates e) k p w)) (λ l. omega (arith, ltb→lt j (c .of) l, s .least k p w))
-          (or-cases (eqb (c .kept) noStates) (ltb j (c .of)) h)
-        where
-          or-cases : (a b : Bool) → T (a || b) → T a ⊎ T b
-          or-cases true b h = inl tt
-          or-cases false b h = inr h
-
-      above : (T (eqb j (c .of)) → ⊥) → (T (eqb (c .kept) noStates || ltb j (c .of)) → ⊥) → c .of < j
+      above : (T (eqb j (c .of)) → ⊥) → (T (ltb j (c .of)) → ⊥) → c .of < j
       above n m =
           let d : ¬ (j ≡ c .of) = λ e. n (rw e (eqb-refl (c .of))) in
-          let l : ¬ (j < c .of) = λ h. m (or-right (eqb (c .kept) noStates) (ltb j (c .of)) (lt→ltb j (c .of) h)) in
+          let l : ¬ (j < c .of) = λ h. m (lt→ltb j (c .of) h) in
           omega arith
-        where
-          or-right : (a b : Bool) → T b → T (a || b)
-          or-right true b h = tt
-          or-right false b h = h
 
 -- P, and the moves of the list
 abbrev WithAll : (ℕ → ℕ → Type 0) → List Move → ℕ → ℕ → Type 0
 WithAll P ms j q = P j q ⊎ List·Memᴰ (move j q) ms
 
--- the moves of a list lead to states
-abbrev pub ToStates : List Move → Type 0
-ToStates ms = (j q : ℕ) → List·Memᴰ (move j q) ms → q < mostStates
+-- the moves of a list are by types and lead to states
+abbrev pub InLimits : List Move → Type 0
+InLimits ms = (j q : ℕ) → List·Memᴰ (move j q) ms → (j < mostTypes) × (q < mostStates)
 
 -- the first move with P, and the others
 with-first : (P : ℕ → ℕ → Type 0) (m : Move) (ms : List Move) (j q : ℕ)
@@ -131,27 +124,48 @@ with-first P m ms j q = (
       (λ w. ⊎-elim (λ e. inl (inr (ap (λ (x : Move). x .by) e, ap (λ (x : Move). x .to) e))) inr (List·Memᴰ·cases-cons w)),
 )
 
-joins-on : (P : ℕ → ℕ → Type 0) (ms : List Move) → ToStates ms → (c : Least) → Smallest P c → Smallest (WithAll P ms) (joins ms c)
+joins-on : (P : ℕ → ℕ → Type 0) (ms : List Move) → InLimits ms → (c : Least) → Smallest P c → Smallest (WithAll P ms) (joins ms c)
 unfolding joins
-joins-on P [] to c s = smallest-same (λ j q. (inl, ⊎-elim (λ p. p) (λ w. absurd (List·Memᴰ·not-nil w)))) s
-joins-on P (m ∷ ms) to c s =
+joins-on P [] within c s = smallest-same (λ j q. (inl, ⊎-elim (λ p. p) (λ w. absurd (List·Memᴰ·not-nil w)))) s
+joins-on P (m ∷ ms) within c s =
+    let first = within (m .by) (m .to) (List·Memᴰ·head refl) in
     smallest-same (with-first P m ms)
-    (joins-on (With P (m .by) (m .to)) ms (λ j q w. to j q (List·Memᴰ·tail w)) (join c (m .by) (m .to))
-    (join-smallest P c (m .by) (m .to) (to (m .by) (m .to) (List·Memᴰ·head refl)) s))
+    (joins-on (With P (m .by) (m .to)) ms (λ j q w. within j q (List·Memᴰ·tail w)) (join c (m .by) (m .to))
+    (join-smallest P c (m .by) (m .to) (first .1) s (first .0)))
 
 -- The moves of a list come to the smallest type among them, and to the states that they lead to by that type.
-pub joins-smallest : (ms : List Move) → ToStates ms → Smallest (λ j q. List·Memᴰ (move j q) ms) (joins ms noneYet)
-joins-smallest ms to = smallest-same (λ j q. (⊎-elim (λ p. absurd p) (λ w. w), inr)) (joins-on (λ j q. ⊥) ms to noneYet first)
+pub joins-smallest : (ms : List Move) → InLimits ms → Smallest (λ j q. List·Memᴰ (move j q) ms) (joins ms noneYet)
+joins-smallest ms within = smallest-same (λ j q. (⊎-elim (λ p. absurd p) (λ w. w), inr)) (joins-on (λ j q. ⊥) ms within noneYet first)
   where
     first : Smallest (λ j q. ⊥) noneYet
     first =
         record {
           kept-below = omega arith;
+          past = λ e. omega arith;
           none = λ e j q t. t;
           some = λ n. absurd (n refl);
           least = λ j q t. absurd t;
           keeps = λ q. (λ m. absurd (member-none q m), λ t. absurd t);
         }
+
+-- a move does not raise the type
+join-lower : (c : Least) (j q : ℕ) → join c j q .of ≤ c .of
+unfolding join
+join-lower c j q =
+    cond-either lower (eqb j (c .of)) (λ h. omega (arith, eqb→eq j (c .of) h))
+    (λ n. cond-either lower (ltb j (c .of)) (λ h. omega (arith, ltb→lt j (c .of) h)) (λ m. omega arith))
+  where
+    lower : Least → Type 0
+    lower x = x .of ≤ c .of
+
+joins-lower : (ms : List Move) (c : Least) → joins ms c .of ≤ c .of
+unfolding joins
+joins-lower [] c = omega arith
+joins-lower (m ∷ ms) c = omega (arith, joins-lower ms (join c (m .by) (m .to)), join-lower c (m .by) (m .to))
+
+-- so it is at most the number past every type, as it was
+pub joins-most : (ms : List Move) (c x : Least) → x ≡ joins ms c → c .of ≤ mostTypes → x .of ≤ mostTypes
+joins-most ms c x e l = omega (arith, ap (λ (y : Least). y .of) e, joins-lower ms c)
 
 -- first some moves and then others
 pub joins-append : (ms ns : List Move) (c : Least) → joins (ms ++ ns) c ≡ joins ns (joins ms c)

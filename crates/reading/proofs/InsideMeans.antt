@@ -71,7 +71,11 @@ moves-means : {S : Meaning} → WithinLimits S → (r : Reading) (g : ℕ) (ms :
     → ((j q : ℕ) → List·Memᴰ (move j q) ms ↔ Opens S r g j q) → ComingMeans S r g (comingBy ms)
 moves-means {S} within r g ms inside same =
     smallest-means S r g (joins ms noneYet) inside
-    (smallest-same same (joins-smallest ms (λ j q m. counted-from within (opens-counts (same j q .0 m)) .1)))
+    (smallest-same same
+    (joins-smallest ms
+    (λ j q m.
+    let w = counted-from within (opens-counts (same j q .0 m)) in
+    (omega (arith, w .2, within .types-most), w .1))))
 
 -- the moves of a row that counts
 chosen-mem : (b : Bool) (m : Move) (ms : List Move) → List·Memᴰ m (cond b ms []) ↔ (T b × List·Memᴰ m ms)

@@ -1,6 +1,7 @@
 -- What the private steps of the calls compute: the type that comes next inside an element, and the check of the open levels.
 use mathlib.Core.Path.{_≡_}
-use mathlib.Core.Bool.{Bool, false, cond, _&&_, _||_}
+use mathlib.Core.Logic.{_≢_}
+use mathlib.Core.Bool.{Bool, false, cond, _&&_}
 use mathlib.Core.List.{List, [], _∷_, _++_}
 use Prim.Native.Nat.{ℕ, zero, suc, _-_, _%_, _≤_, _<_}
 use lib.Dec.{T, eqb, ltb}
@@ -16,7 +17,7 @@ use Rattle.reading.specs.declared.value.Reading.{Reading}
 use Rattle.reading.specs.declared.coming.Coming.{Coming}
 use Rattle.reading.specs.declared.coming.Coming.the-variants.{Nothing, OfType}
 
--- what came so far: the smallest type, and the states that it leads to; where none is kept, no type came yet
+-- what came so far: the smallest type, and the states that it leads to
 pub record Least : Type 0 where
   pub of : ℕ
   pub kept : ℕ
@@ -24,14 +25,15 @@ pub record Least : Type 0 where
 abbrev pub least : ℕ → ℕ → Least
 least of kept = record { of = of; kept = kept }
 
+-- no type came yet: a number past every type
 abbrev pub noneYet : Least
-noneYet = least 0 noStates
+noneYet = least mostTypes noStates
 
--- a step by j to q: the same type adds the state, the first and a smaller one replace what came so far
+-- a step by j to q: the same type adds the state, a smaller one replaces what came so far, a larger one changes nothing
 unfoldable pub join : Least → ℕ → ℕ → Least
 join c j q =
     cond (eqb j (c .of)) (least j (insert q (c .kept)))
-    (cond (eqb (c .kept) noStates || ltb j (c .of)) (least j (insert q noStates)) c)
+    (cond (ltb j (c .of)) (least j (insert q noStates)) c)
 
 -- a move: the type that it is by, and the state that it leads to
 pub record Move : Type 0 where
@@ -78,6 +80,11 @@ rowMoves entries begins g i = movesUpTo entries g (getD begins i 0) (getD begins
 abbrev pub movesByRows : List ℕ → List ℕ → ℕ → ℕ → ℕ → List Move
 movesByRows entries begins a states g =
     gathered (λ p. cond (member p states) (rowMoves entries begins g (rowPlace a p)) []) 0 mostStates
+
+-- t is the type of the entry e where that is under the tag g, and else a number past every type
+pub record TypeUnder (g e t : ℕ) : Type 0 where
+  pub under : tagIn e ≡ g → t ≡ byIn e
+  pub other : tagIn e ≢ g → mostTypes < t
 
 -- q is the lowest state of the set
 pub record Lowest (set q : ℕ) : Type 0 where

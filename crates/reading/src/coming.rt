@@ -1,20 +1,24 @@
 // Which type comes next under a tag, inside an element: the smallest that leads from the states kept to a live state.
 use schema::BEGINS;
+use schema::ENTRY_BY;
+use schema::ENTRY_TYPES;
 use schema::Entry;
 use schema::STATES;
 use schema::STEPS;
 use schema::StateSet;
+use schema::TAGS;
+use schema::TYPES;
 use sdtd::Tag;
 use sdtd::TypeNo;
 ghost use mathlib.Core.Path.{_≡_};
-ghost use mathlib.Core.Bool.{cond, not, _&&_};
+ghost use mathlib.Core.Bool.{cond};
 ghost use mathlib.Core.Logic.{_≢_};
 ghost use Prim.Native.Nat.{_/_, _^_, _≤_, _<_};
-ghost use lib.Dec.{eqb, ltb};
-ghost use Rattle.sdtd.specs.Limits.{mostTypes, mostStates, mostSteps};
+ghost use lib.Dec.{ltb};
+ghost use Rattle.sdtd.specs.Limits.{mostTags, mostTypes, mostStates, mostSteps};
 ghost use Rattle.schema.specs.States.{noStates};
 ghost use Rattle.schema.specs.Rows.{mostRows, RowsInside};
-ghost use Rattle.reading.specs.Coming.{least, joins, entryMoves, movesUpTo, rowMoves, movesByRows, comingOf, comingBy, Lowest};
+ghost use Rattle.reading.specs.Coming.{least, joins, entryMoves, movesUpTo, rowMoves, movesByRows, comingOf, comingBy, TypeUnder, Lowest};
 ghost use Rattle.reading.specs.Coming.{join as joined};
 
 // What comes next under a tag: nothing, or a type and the states that it leads to.
@@ -23,43 +27,30 @@ pub(crate) enum Coming {
     OfType(TypeNo, u32),
 }
 
-// Where `of` is the smallest type among the steps so far and `kept` are the states that it leads to (none where no type came yet): is it smaller
-// than j?
-fn smaller_there(of: TypeNo, kept: u32, j: TypeNo) -> bool
-    ensures { λ r. ⌜ r ≡ (not (eqb (j .0) (of .0)) && (not (eqb kept noStates) && ltb (of .0) (j .0))) ⌝ }
+// The states kept before a step by t: none where t is smaller than the type that they came by.
+fn kept_before(t: u32, was: u32, kept: u32) -> u32
+    ensures { λ r. ⌜ r ≡ cond (ltb t was) noStates kept ⌝ }
 {
-    if j.same(of) {
-        return false;
-    }
-    if kept == StateSet::NONE.0 {
-        return false;
-    }
-    of.before(j)
+    if t < was { StateSet::NONE.0 } else { kept }
 }
 
-// The states kept for j so far.
-fn kept_for(of: TypeNo, kept: u32, j: TypeNo) -> u32
-    ensures { λ r. ⌜ r ≡ cond (eqb (j .0) (of .0)) kept noStates ⌝ }
+fn smaller(t: u32, was: u32) -> u32
+    ensures { λ r. ⌜ r ≡ cond (ltb t was) t was ⌝ }
 {
-    if j.same(of) {
-        return kept;
-    }
-    StateSet::NONE.0
+    if t < was { t } else { was }
 }
 
-// A step by j to q, beside what came so far: the same type adds the state; the first type or a smaller one replaces what came; a larger one
-// changes nothing.
-pub(crate) fn join<'a>(of: &'a mut u8, kept: &'a mut u32, j: TypeNo, q: u8)
-    ensures { λ _. ⌜ least (now (of .exit)) (now (kept .exit)) ≡ joined (least (now (of .entry)) (now (kept .entry))) (j .0) q ⌝ }
+// A step by t to q, after what came so far: the same type adds the state, a smaller one replaces what came so far, a larger one changes nothing.
+// No branch: which of them it is is not foreseen.
+pub(crate) fn join<'a>(of: &'a mut u32, kept: &'a mut u32, t: u32, q: u8)
+    requires { ⌜ q < mostStates ⌝ }
+    ensures { λ _. ⌜ least (now (of .exit)) (now (kept .exit)) ≡ joined (least (now (of .entry)) (now (kept .entry))) t q ⌝ }
 {
-    let was = TypeNo(*of);
-    let had = *kept;
-    if smaller_there(was, had, j) {
-        return;
-    }
-    let more = StateSet(kept_for(was, had, j)).with(q);
-    *of = j.0;
-    *kept = more.0;
+    let was = *of;
+    let before = StateSet(kept_before(t, was, *kept));
+    // a state past the last one adds nothing
+    *kept = before.with(q + STATES * ((was < t) as u8)).0;
+    *of = smaller(t, was);
 }
 
 // The smallest type of all, if one came.
@@ -79,15 +70,32 @@ fn place(n: u16) -> usize
     n as usize
 }
 
+// The type of an entry under the tag g; of any other entry, a number past every type.
+fn type_under(e: Entry, g: Tag) -> u32
+    requires { ⌜ g .0 < mostTags ⌝ }
+    ensures { λ r. ⌜ TypeUnder (g .0) (e .0) r ⌝ }
+{
+    let turned = e.0 / ENTRY_BY + ENTRY_TYPES * ((TAGS - g.0) as u32);
+    turned % TYPES as u32 + turned / ENTRY_TYPES % TAGS as u32 * ENTRY_TYPES
+}
+
 // An entry, if it is under the tag g, after what came so far.
-fn join_entry<'a>(e: Entry, g: Tag, of: &'a mut u8, kept: &'a mut u32)
+fn join_entry<'a>(e: Entry, g: Tag, short: bool, of: &'a mut u32, kept: &'a mut u32)
+    requires { ⌜ (g .0 < mostTags) × (now of ≤ mostTypes) ⌝ }
     ensures { λ _. ⌜ least (now (of .exit)) (now (kept .exit)) ≡ joins (entryMoves (g .0) (e .0)) (least (now (of .entry)) (now (kept .entry))) ⌝ }
 {
-    if !e.tag().same(g) {
-        return;
+    let t = type_under(e, g);
+    if !short {
+        // In a long row most entries are of other tags, and that is foreseen.
+        if *of < t {
+            return;
+        }
     }
-    join(of, kept, e.by(), e.to());
+    join(of, kept, t, e.to());
 }
+
+// A row of so many entries or fewer is short.
+const SHORT: usize = 8;
 
 // The entries under the tag g from start up to end, after what came so far.
 fn join_entries<'a>(
@@ -95,16 +103,17 @@ fn join_entries<'a>(
     start: usize,
     end: usize,
     g: Tag,
-    of: &'a mut u8,
+    of: &'a mut u32,
     kept: &'a mut u32,
 )
-    requires { ⌜ end ≤ mostSteps ⌝ }
+    requires { ⌜ (start ≤ mostSteps) × (end ≤ mostSteps) × (g .0 < mostTags) × (now of ≤ mostTypes) ⌝ }
     ensures { λ _. ⌜ least (now (of .exit)) (now (kept .exit))
         ≡ joins (movesUpTo (now (entries .entry)) (g .0) start end) (least (now (of .entry)) (now (kept .entry))) ⌝ }
 {
+    let short = end <= start + SHORT;
     let mut i = start;
     while i < end {
-        join_entry(Entry(entries[i]), g, of, kept);
+        join_entry(Entry(entries[i]), g, short, of, kept);
         i += 1;
     }
 }
@@ -115,10 +124,10 @@ fn join_row<'a>(
     begins: &'a [u16; BEGINS],
     i: usize,
     g: Tag,
-    of: &'a mut u8,
+    of: &'a mut u32,
     kept: &'a mut u32,
 )
-    requires { ⌜ (i < mostRows) × RowsInside (now begins) ⌝ }
+    requires { ⌜ (i < mostRows) × RowsInside (now begins) × (g .0 < mostTags) × (now of ≤ mostTypes) ⌝ }
     ensures { λ _. ⌜ least (now (of .exit)) (now (kept .exit))
         ≡ joins (rowMoves (now (entries .entry)) (now (begins .entry)) (g .0) i) (least (now (of .entry)) (now (kept .entry))) ⌝ }
 {
@@ -149,11 +158,11 @@ pub(crate) fn coming_rows<'a>(
     states: u32,
     g: Tag,
 ) -> Coming
-    requires { ⌜ (a .0 < mostTypes) × RowsInside (now begins) ⌝ }
+    requires { ⌜ (a .0 < mostTypes) × RowsInside (now begins) × (g .0 < mostTags) ⌝ }
     ensures { λ r. ⌜ r ≡ comingBy (movesByRows (now (entries .entry)) (now (begins .entry)) (a .0) states (g .0)) ⌝ }
 {
     let first = STATES as usize * a.0 as usize;
-    let mut of = 0;
+    let mut of = TYPES as u32;
     let mut kept = StateSet::NONE.0;
     let mut left = states;
     let mut p = 0;
@@ -164,5 +173,5 @@ pub(crate) fn coming_rows<'a>(
         left = past(left, q);
         p += 1;
     }
-    coming_of(TypeNo(of), kept)
+    coming_of(TypeNo(of as u8), kept)
 }

@@ -12,9 +12,11 @@ use sdtd::Tag;
 use sdtd::TypeNo;
 ghost use mathlib.Core.Path.{_≡_};
 ghost use Prim.Native.Nat.{_+_, _≤_, _<_};
+ghost use lib.Dec.{T};
 ghost use lib.ListN.{getD};
-ghost use Rattle.sdtd.specs.Limits.{mostTypes, mostSteps};
+ghost use Rattle.sdtd.specs.Limits.{mostTypes, mostStates, mostSteps};
 ghost use Rattle.sdtd.specs.Schema.{step};
+ghost use Rattle.schema.specs.States.{member};
 ghost use Rattle.schema.specs.Value.{offset, stepAt};
 ghost use Rattle.reading.specs.Coming.{least, joins, gathered, stepTaken, stepMoves, movesBySteps, comingBy};
 
@@ -25,7 +27,14 @@ struct Asked {
     pub own: u32,
 }
 
-// Is a step from the state p by the type j to the state q taken?
+// Is q in the set? Then it is a state. (A parameter is known to fit its type, and a field is not.)
+fn in_set(set: u32, q: u8) -> bool
+    ensures { λ r. ⌜ (r ≡ member q set) × (T r → q < mostStates) ⌝ }
+{
+    StateSet(set).has(q)
+}
+
+// Is a step from the state p by the type j to q taken? Then q is a state.
 fn step_taken<'a>(
     tag: &'a [u8; TYPES],
     live: &'a [u32; TYPES],
@@ -34,7 +43,8 @@ fn step_taken<'a>(
     j: TypeNo,
     q: u8,
 ) -> bool
-    ensures { λ r. ⌜ r ≡ stepTaken (now (tag .entry)) (now (live .entry)) (asked .own) (asked .states) (asked .g .0) (step p (j .0) q) ⌝ }
+    ensures { λ r. ⌜ (r ≡ stepTaken (now (tag .entry)) (now (live .entry)) (asked .own) (asked .states) (asked .g .0) (step p (j .0) q))
+        × (T r → q < mostStates) ⌝ }
 {
     let a = j.0 as usize % TYPES;
     let g = asked.g;
@@ -47,7 +57,7 @@ fn step_taken<'a>(
     if !bears_in(live, a) {
         return false;
     }
-    StateSet(asked.own).has(q)
+    in_set(asked.own, q)
 }
 
 // That step, if it is taken, after what came so far.
@@ -58,7 +68,7 @@ fn join_step<'a>(
     p: u8,
     j: TypeNo,
     q: u8,
-    of: &'a mut u8,
+    of: &'a mut u32,
     kept: &'a mut u32,
 )
     ensures { λ _. ⌜ least (now (of .exit)) (now (kept .exit))
@@ -68,7 +78,7 @@ fn join_step<'a>(
     if !step_taken(tag, live, asked, p, j, q) {
         return;
     }
-    join(of, kept, j, q);
+    join(of, kept, j.0 as u32, q);
 }
 
 // What comes next by the steps of the span.
@@ -85,7 +95,7 @@ fn coming_span<'a>(
     ensures { λ r. ⌜ r ≡ comingBy (gathered (λ i. stepMoves (now (tag .entry)) (now (live .entry)) (asked .own) (asked .states) (asked .g .0)
         (stepAt (now (from .entry)) (now (by .entry)) (now (to .entry)) i)) (span .start) (span .n)) ⌝ }
 {
-    let mut of = 0;
+    let mut of = TYPES as u32;
     let mut kept = StateSet::NONE.0;
     let end = span.start + span.n;
     let mut i = span.start;
@@ -102,7 +112,7 @@ fn coming_span<'a>(
         );
         i += 1;
     }
-    coming_of(TypeNo(of), kept)
+    coming_of(TypeNo(of as u8), kept)
 }
 
 // The place of the first step of the type a.

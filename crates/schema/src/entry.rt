@@ -9,12 +9,12 @@ ghost use mathlib.Core.Path.{_≡_};
 ghost use Rattle.schema.specs.Rows.{entry, fromIn, toIn, byIn, tagIn};
 
 // An entry has room for so many types.
-const TYPE_ROOM: u32 = 512;
+pub const TYPE_ROOM: u32 = 512;
 
 // what one more of each adds to the entry
 const TO: u32 = STATES as u32;
 
-const BY: u32 = TO * STATES as u32;
+pub const BY: u32 = TO * STATES as u32;
 
 const TAG: u32 = BY * TYPE_ROOM;
 

@@ -11,13 +11,13 @@ use lib.ListN.{getD}
 use lib.Pow.{shr-shr, shr-le}
 use mir.Syntax.{w32}
 use mir.Val.{Fits}
-use Rattle.sdtd.specs.Limits.{mostStates}
+use Rattle.sdtd.specs.Limits.{mostTags, mostTypes, mostStates}
 use Rattle.sdtd.proofs.Basics.{is-true}
 use Rattle.schema.specs.States.{member}
 use Rattle.schema.specs.Rows.{mostRows, RowsInside}
 use Rattle.schema.proofs.Bits.{member-below}
 use Rattle.reading.specs.Coming.{Least, least, noneYet, Move, joins, comingOf, gathered, rowMoves, Lowest}
-use Rattle.reading.proofs.ComingLaws.{joins-turn, gathered-past}
+use Rattle.reading.proofs.ComingLaws.{joins-most, joins-turn, gathered-past}
 use Rattle.reading.proofs.coming.coming_rows.Statement.{statement}
 use Rattle.reading.proofs.coming.coming_rows.Tie as tie
 
@@ -78,7 +78,7 @@ done entries begins states g first p left x y e z all =
 abbrev Inv-loop : tie.InvT-loop
 Inv-loop entries begins states g first of₀ kept₀ left₀ p₀ of kept left p =
     (p ≤ mostStates) × (left ≡ states / 2 ^ p) × (states < 2 ^ mostStates) × (first + mostStates ≤ mostRows)
-    × RowsInside begins
+    × RowsInside begins × (g .0 < mostTags) × (of ≤ mostTypes)
     × (joins (gathered (moves entries begins states (g .0) first) p (mostStates - p)) (least of kept)
     ≡ joins (gathered (moves entries begins states (g .0) first) 0 mostStates) noneYet)
 
@@ -94,10 +94,13 @@ cast-first-2 c = search needs
 mul-first : tie.Need-mul-first Inv-loop μ-loop
 mul-first c = search needs
 
+cast-of : tie.Need-cast-of Inv-loop μ-loop
+cast-of c = search needs
+
 loop-holds : tie.Need-loop-holds Inv-loop μ-loop
 loop-holds c =
     let below : Fits w32 (c .before .args .states) = search needs in
-    (omega arith, sym (div-one _), below .fits, omega arith, c .before .pre .1, refl)
+    (omega arith, sym (div-one _), below .fits, omega arith, c .before .pre .1, omega arith, omega arith, refl)
 
 lowest-requires : tie.Need-lowest-requires Inv-loop μ-loop
 lowest-requires c κs = search needs
@@ -116,7 +119,7 @@ join-row-requires c κs =
     let k = c .before .before in
     let v = k .before .before .loop .inv in
     let at = below _ _ _ (v .1) _ (k .lowest .ensures) (v .2) in
-    (omega arith, v .4)
+    (omega arith, v .4, v .5, v .6)
 
 past-requires : tie.Need-past-requires Inv-loop μ-loop
 past-requires c κs = search needs
@@ -145,20 +148,25 @@ loop-again c =
       v .2,
       v .3,
       v .4,
+      v .5,
+      joins-most _ _ _ (c .before .join-row .ensures) (v .6),
       turn (a .states) (l .loop .p) (l .loop .left) (v .1) _ low (v .2) (a .entries .now) (a .begins .now) (a .g .0) (mostStates * a .a .0) (least (l .loop .of) (l .loop .kept)) _ _
-          (c .before .join-row .ensures) (v .5),
+          (c .before .join-row .ensures) (v .7),
     )
+
+cast-t21 : tie.Need-cast-t21 Inv-loop μ-loop
+cast-t21 c = search needs
 
 coming-of-requires : tie.Need-coming-of-requires Inv-loop μ-loop
 coming-of-requires c κs = search needs
 
 returns : tie.Need-returns Inv-loop μ-loop
 returns c =
-    let l = c .before .before in
+    let l = c .before .before .before in
     let a = l .before .before .args in
     let v = l .loop .inv in
     c .coming-of .ensures
-    ∙ ap comingOf (done (a .entries .now) (a .begins .now) (a .states) (a .g .0) (mostStates * a .a .0) (l .loop .p) (l .loop .left) _ _ (v .1) (c .before .loop-test .left) (v .5))
+    ∙ ap comingOf (done (a .entries .now) (a .begins .now) (a .states) (a .g .0) (mostStates * a .a .0) (l .loop .p) (l .loop .left) _ _ (v .1) (c .before .before .loop-test .left) (v .7))
 
 pub coming-rows-spec : {M : Type 1} → statement M
 coming-rows-spec =
@@ -169,6 +177,7 @@ coming-rows-spec =
     cast-first
     cast-first-2
     mul-first
+    cast-of
     loop-holds
     lowest-requires
     cast-p
@@ -179,5 +188,6 @@ coming-rows-spec =
     add-p-2
     loop-less
     loop-again
+    cast-t21
     coming-of-requires
     returns)

@@ -1,13 +1,13 @@
 -- `reading::coming::join_entries` meets its contract. The loop's invariant: the entries from i on, over what came so far, give what all of them give.
 use mathlib.Core.Path.{_≡_, refl}
 use mathlib.Core.List.{List}
-use Prim.Native.Nat.{ℕ, _-_, _≤_}
+use Prim.Native.Nat.{ℕ, _-_, _≤_, _<_}
 use native.Mathlib.Omega.{arith}
 use borrow.Author.Needs.{needs}
 use lib.ListN.{getD}
-use Rattle.sdtd.specs.Limits.{mostSteps}
+use Rattle.sdtd.specs.Limits.{mostTags, mostTypes, mostSteps}
 use Rattle.reading.specs.Coming.{least, Move, joins, gathered, entryMoves, movesUpTo}
-use Rattle.reading.proofs.ComingLaws.{joins-turn, joins-done}
+use Rattle.reading.proofs.ComingLaws.{joins-most, joins-turn, joins-done}
 use Rattle.reading.proofs.coming.join_entries.Statement.{statement}
 use Rattle.reading.proofs.coming.join_entries.Tie as tie
 
@@ -16,21 +16,24 @@ abbrev moves : List ℕ → ℕ → ℕ → List Move
 moves entries g i = entryMoves g (getD entries i 0)
 
 abbrev Inv-loop : tie.InvT-loop
-Inv-loop entries start end g of₀ kept₀ i₀ of kept i =
-    (end ≤ mostSteps)
+Inv-loop entries start end g of₀ kept₀ short i₀ of kept i =
+    (end ≤ mostSteps) × (g .0 < mostTags) × (of ≤ mostTypes)
     × (joins (gathered (moves entries (g .0)) i (end - i)) (least of kept) ≡ joins (movesUpTo entries (g .0) start end) (least of₀ kept₀))
 
 abbrev μ-loop : tie.MeasureT-loop
-μ-loop entries start end g of₀ kept₀ i₀ of kept i = end - i
+μ-loop entries start end g of₀ kept₀ short i₀ of kept i = end - i
+
+add-short : tie.Need-add-short Inv-loop μ-loop
+add-short c = search needs
 
 loop-holds : tie.Need-loop-holds Inv-loop μ-loop
-loop-holds c = (omega arith, refl)
+loop-holds c = (omega arith, omega arith, omega arith, refl)
 
-mul-t10 : tie.Need-mul-t10 Inv-loop μ-loop
-mul-t10 c = search needs
+mul-t12 : tie.Need-mul-t12 Inv-loop μ-loop
+mul-t12 c = search needs
 
-element-copy-out-t13 : tie.Need-element-copy-out-t13 Inv-loop μ-loop
-element-copy-out-t13 c = search needs
+element-copy-out-t15 : tie.Need-element-copy-out-t15 Inv-loop μ-loop
+element-copy-out-t15 c = search needs
 
 join-entry-requires : tie.Need-join-entry-requires Inv-loop μ-loop
 join-entry-requires c κs = search needs
@@ -46,13 +49,13 @@ loop-again c =
     let i = c .before .before .before .before in
     let l = i .before in
     let a = l .before .args in
-    (omega arith, joins-turn (moves (a .entries .now) (a .g .0)) _ _ _ _ _ (i .loop-test .taken) (c .join-entry .ensures) (l .loop .inv .1))
+    (omega arith, omega arith, joins-most _ _ _ (c .join-entry .ensures) (l .loop .inv .2), joins-turn (moves (a .entries .now) (a .g .0)) _ _ _ _ _ (i .loop-test .taken) (c .join-entry .ensures) (l .loop .inv .3))
 
 returns : tie.Need-returns Inv-loop μ-loop
 returns c =
     let l = c .before in
     let a = l .before .args in
-    joins-done (moves (a .entries .now) (a .g .0)) _ _ _ _ (c .loop-test .left) (l .loop .inv .1)
+    joins-done (moves (a .entries .now) (a .g .0)) _ _ _ _ (c .loop-test .left) (l .loop .inv .3)
 
 pub join-entries-spec : {M : Type 1} → statement M
 join-entries-spec =
@@ -60,9 +63,10 @@ join-entries-spec =
     (tie.spec
     Inv-loop
     μ-loop
+    add-short
     loop-holds
-    mul-t10
-    element-copy-out-t13
+    mul-t12
+    element-copy-out-t15
     join-entry-requires
     add-i
     loop-less

@@ -38,7 +38,11 @@ place-requires-2 : tie.Need-place-requires-2
 place-requires-2 c κs = search needs
 
 join-entries-requires : tie.Need-join-entries-requires
-join-entries-requires c κs = rw (c .before .before .place2 .ensures) (c .before .before .before .before .before .before .pre .1 _)
+join-entries-requires c κs =
+    let f = c .before .before in
+    let s = f .before .before in
+    let p = s .before .before .pre in
+    (rw (s .place .ensures) (p .1 _), rw (f .place2 .ensures) (p .1 _), p .2, p .3)
 
 returns : tie.Need-returns
 returns c =

@@ -15,15 +15,17 @@ same-requires : tie.Need-same-requires
 same-requires c κs = search needs
 
 returns : tie.Need-returns
-returns c = rw (sym (c .before .same .ensures) ∙ not-true _ (c .if1 .taken))
+returns c = (rw (sym (c .before .same .ensures) ∙ not-true _ (c .if1 .taken)), λ t. absurd t)
 
 has-requires : tie.Need-has-requires
 has-requires c κs = search needs
 
 returns-2 : tie.Need-returns-2
 returns-2 c =
-    let e = c .before .before in
-    rw (sym (e .before .same .ensures) ∙ not-false _ (e .if1 .left), sym (c .before .has .ensures) ∙ not-true _ (c .if2 .taken))
+    let e = c .before .before in (
+      rw (sym (e .before .same .ensures) ∙ not-false _ (e .if1 .left), sym (c .before .has .ensures) ∙ not-true _ (c .if2 .taken)),
+      λ t. absurd t,
+    )
 
 bears-in-requires : tie.Need-bears-in-requires
 bears-in-requires c κs = search needs
@@ -31,26 +33,30 @@ bears-in-requires c κs = search needs
 returns-3 : tie.Need-returns-3
 returns-3 c =
     let h = c .before .before in
-    let e = h .before .before in
-    rw (
-      sym (e .before .same .ensures) ∙ not-false _ (e .if1 .left),
-      sym (h .before .has .ensures) ∙ not-false _ (h .if2 .left),
-      sym (c .before .bears-in .ensures) ∙ not-true _ (c .if3 .taken),
+    let e = h .before .before in (
+      rw (
+        sym (e .before .same .ensures) ∙ not-false _ (e .if1 .left),
+        sym (h .before .has .ensures) ∙ not-false _ (h .if2 .left),
+        sym (c .before .bears-in .ensures) ∙ not-true _ (c .if3 .taken),
+      ),
+      λ t. absurd t,
     )
 
-has-requires-2 : tie.Need-has-requires-2
-has-requires-2 c κs = search needs
+in-set-requires : tie.Need-in-set-requires
+in-set-requires c κs = search needs
 
 returns-4 : tie.Need-returns-4
 returns-4 c =
     let b = c .before in
     let h = b .before .before in
-    let e = h .before .before in
-    rw (
-      sym (e .before .same .ensures) ∙ not-false _ (e .if1 .left),
-      sym (h .before .has .ensures) ∙ not-false _ (h .if2 .left),
-      sym (b .before .bears-in .ensures) ∙ not-false _ (b .if3 .left),
-    ) (c .has2 .ensures)
+    let e = h .before .before in (
+      rw (
+        sym (e .before .same .ensures) ∙ not-false _ (e .if1 .left),
+        sym (h .before .has .ensures) ∙ not-false _ (h .if2 .left),
+        sym (b .before .bears-in .ensures) ∙ not-false _ (b .if3 .left),
+      ) (c .in-set .ensures .0),
+      c .in-set .ensures .1,
+    )
 
 pub step-taken-spec : {M : Type 1} → statement M
 step-taken-spec =
@@ -64,5 +70,5 @@ step-taken-spec =
     returns-2
     bears-in-requires
     returns-3
-    has-requires-2
+    in-set-requires
     returns-4)

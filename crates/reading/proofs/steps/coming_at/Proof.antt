@@ -36,7 +36,7 @@ element-copy-out-coming-rows c = search needs
 coming-rows-requires : tie.Need-coming-rows-requires
 coming-rows-requires c κs =
     let s = c .before .before .before .before in
-    (rw (sub-one (s .args .at .depth)) (s .pre .1 .steady .inner (omega arith)), s .pre .1 .rows)
+    (rw (sub-one (s .args .at .depth)) (s .pre .1 .steady .inner (omega arith)), s .pre .1 .rows, s .pre .0)
 
 returns-2 : tie.Need-returns-2
 returns-2 c =
