@@ -3,14 +3,14 @@ use mathlib.Core.Path.{_≡_}
 use mathlib.Core.Logic.{_≢_}
 use mathlib.Core.Bool.{Bool, false, cond, _&&_}
 use mathlib.Core.List.{List, [], _∷_, _++_}
-use Prim.Native.Nat.{ℕ, zero, suc, _-_, _%_, _≤_, _<_}
+use Prim.Native.Nat.{ℕ, zero, suc, _+_, _-_, _*_, _/_, _%_, _≤_, _<_}
 use lib.Dec.{T, eqb, ltb}
 use lib.ListN.{getD}
-use Rattle.sdtd.specs.Limits.{mostTypes, mostStates, mostLevels}
+use Rattle.sdtd.specs.Limits.{mostTags, mostTypes, mostStates, mostLevels}
 use Rattle.sdtd.specs.Numbered.{typeNo}
 use Rattle.sdtd.specs.Schema.{Step}
 use Rattle.schema.specs.States.{member, insert, noStates, bearsIn}
-use Rattle.schema.specs.Rows.{toIn, byIn, tagIn, rowPlace}
+use Rattle.schema.specs.Rows.{typeRoom, toIn, byIn, tagIn, rowPlace}
 use Rattle.schema.specs.Value.{stepAt, offset}
 use Rattle.schema.specs.declared.value.Schema.{Schema}
 use Rattle.reading.specs.declared.value.Reading.{Reading}
@@ -80,6 +80,11 @@ rowMoves entries begins g i = movesUpTo entries g (getD begins i 0) (getD begins
 abbrev pub movesByRows : List ℕ → List ℕ → ℕ → ℕ → ℕ → List Move
 movesByRows entries begins a states g =
     gathered (λ p. cond (member p states) (rowMoves entries begins g (rowPlace a p)) []) 0 mostStates
+
+-- the type and the tag of the entry e with so much added, each inside its own room
+abbrev pub turnedBy : ℕ → ℕ → ℕ
+turnedBy more e =
+    (e / (mostStates * mostStates) + more) % mostTypes + (e / (mostStates * mostStates) + more) / typeRoom % mostTags * typeRoom
 
 -- t is the type of the entry e where that is under the tag g, and else a number past every type
 pub record TypeUnder (g e t : ℕ) : Type 0 where

@@ -13,12 +13,12 @@ use sdtd::TypeNo;
 ghost use mathlib.Core.Path.{_≡_};
 ghost use mathlib.Core.Bool.{cond};
 ghost use mathlib.Core.Logic.{_≢_};
-ghost use Prim.Native.Nat.{_/_, _^_, _≤_, _<_};
+ghost use Prim.Native.Nat.{_*_, _/_, _^_, _≤_, _<_};
 ghost use lib.Dec.{ltb};
 ghost use Rattle.sdtd.specs.Limits.{mostTags, mostTypes, mostStates, mostSteps};
 ghost use Rattle.schema.specs.States.{noStates};
-ghost use Rattle.schema.specs.Rows.{mostRows, RowsInside};
-ghost use Rattle.reading.specs.Coming.{least, joins, entryMoves, movesUpTo, rowMoves, movesByRows, comingOf, comingBy, TypeUnder, Lowest};
+ghost use Rattle.schema.specs.Rows.{typeRoom, mostRows, RowsInside};
+ghost use Rattle.reading.specs.Coming.{least, joins, entryMoves, movesUpTo, rowMoves, movesByRows, comingOf, comingBy, turnedBy, TypeUnder, Lowest};
 ghost use Rattle.reading.specs.Coming.{join as joined};
 
 // What comes next under a tag: nothing, or a type and the states that it leads to.
@@ -70,13 +70,21 @@ fn place(n: u16) -> usize
     n as usize
 }
 
-// The type of an entry under the tag g; of any other entry, a number past every type.
+// An entry's type and tag with so much added, each inside its own room. A function of its own, since the compiled sum stays one sum then.
+fn turned(e: Entry, more: u32) -> u32
+    requires { ⌜ more ≤ typeRoom * mostTags ⌝ }
+    ensures { λ r. ⌜ r ≡ turnedBy more (e .0) ⌝ }
+{
+    let sum = e.0 / ENTRY_BY + more;
+    sum % TYPES as u32 + sum / ENTRY_TYPES % TAGS as u32 * ENTRY_TYPES
+}
+
+// The type of an entry under the tag g; of any other entry, a number past every type. Turned by the tag, an entry's tag is 0 exactly where it is g.
 fn type_under(e: Entry, g: Tag) -> u32
     requires { ⌜ g .0 < mostTags ⌝ }
     ensures { λ r. ⌜ TypeUnder (g .0) (e .0) r ⌝ }
 {
-    let turned = e.0 / ENTRY_BY + ENTRY_TYPES * ((TAGS - g.0) as u32);
-    turned % TYPES as u32 + turned / ENTRY_TYPES % TAGS as u32 * ENTRY_TYPES
+    turned(e, ENTRY_TYPES * ((TAGS - g.0) as u32))
 }
 
 // An entry, if it is under the tag g, after what came so far.

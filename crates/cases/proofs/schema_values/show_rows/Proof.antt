@@ -5,10 +5,10 @@ use Rattle.cases.proofs.schema_values.show_rows.Statement.{statement}
 use Rattle.cases.proofs.schema_values.show_rows.Tie as tie
 
 abbrev Inv-loop : tie.InvT-loop
-Inv-loop entries begins i₀ t8 i = Unit {0}
+Inv-loop entries begins past₀ i₀ t8 past i = Unit {0}
 
 abbrev μ-loop : tie.MeasureT-loop
-μ-loop entries begins i₀ t8 i = 2048 - i
+μ-loop entries begins past₀ i₀ t8 past i = 2048 - i
 
 slice-aggregate-text : tie.Need-slice-aggregate-text Inv-loop μ-loop
 slice-aggregate-text c = search needs
@@ -64,6 +64,9 @@ loop-less c = search needs
 loop-again : tie.Need-loop-again Inv-loop μ-loop
 loop-again c = search needs
 
+show-left-requires : tie.Need-show-left-requires Inv-loop μ-loop
+show-left-requires c κs = search needs
+
 returns : tie.Need-returns Inv-loop μ-loop
 returns c = search needs
 
@@ -91,4 +94,5 @@ show-rows-spec =
     add-i
     loop-less
     loop-again
+    show-left-requires
     returns)
