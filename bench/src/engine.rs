@@ -31,7 +31,7 @@ const _: () = {
     assert!(size_of::<SchemaAnswer>() == 16 && size_of::<EventAnswer>() == 24);
 };
 
-// A slice goes over as its pointer and its length. Those that are safe take plain values or a reference, and the engine is proved to hand back a
+// A slice goes over as its pointer and its length. Those that are safe take plain values or references, and the engine is proved to hand back a
 // bool and an answer's kind as they are declared.
 unsafe extern "C" {
     #[link_name = "bench_within"]
@@ -61,7 +61,7 @@ unsafe extern "C" {
     ) -> SchemaAnswer;
 }
 
-/// The trimming's tables; its rows are laid in those lent.
+/// The trimming's tables; its rows go to `rows`.
 pub fn trim(schema: &Schema, rows: &mut Rows) -> Trimmed {
     bench_trim(*schema, &mut rows.entries, &mut rows.begins)
 }

@@ -1,7 +1,7 @@
 // Kind V: the first string is a schema file, the second items that put entries of the schema value (see `made_up`), and the buffer takes the
 // witness. The line has whether the value is inside the limits; of its trimming the live states of each type, which types bear a tree, which
-// are reached, and the rows; of the call that hands back live states with rows the same two; and what the search for competition and the
-// verdict on the schema answer, each with the buffer.
+// are reached, and the rows; of `live_rows` the live states and the rows; and what the search for competition and the verdict on the schema
+// answer, each with the buffer.
 use crate::buffer::COMPETES;
 use crate::buffer::fill;
 use crate::buffer::show_witness;

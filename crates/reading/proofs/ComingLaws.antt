@@ -112,8 +112,8 @@ abbrev WithAll : (ℕ → ℕ → Type 0) → List Move → ℕ → ℕ → Type
 WithAll P ms j q = P j q ⊎ List·Memᴰ (move j q) ms
 
 -- the moves of a list are by types and lead to states
-abbrev pub InLimits : List Move → Type 0
-InLimits ms = (j q : ℕ) → List·Memᴰ (move j q) ms → (j < mostTypes) × (q < mostStates)
+abbrev pub MovesFit : List Move → Type 0
+MovesFit ms = (j q : ℕ) → List·Memᴰ (move j q) ms → (j < mostTypes) × (q < mostStates)
 
 -- the first move with P, and the others
 with-first : (P : ℕ → ℕ → Type 0) (m : Move) (ms : List Move) (j q : ℕ)
@@ -124,7 +124,7 @@ with-first P m ms j q = (
       (λ w. ⊎-elim (λ e. inl (inr (ap (λ (x : Move). x .by) e, ap (λ (x : Move). x .to) e))) inr (List·Memᴰ·cases-cons w)),
 )
 
-joins-on : (P : ℕ → ℕ → Type 0) (ms : List Move) → InLimits ms → (c : Least) → Smallest P c → Smallest (WithAll P ms) (joins ms c)
+joins-on : (P : ℕ → ℕ → Type 0) (ms : List Move) → MovesFit ms → (c : Least) → Smallest P c → Smallest (WithAll P ms) (joins ms c)
 unfolding joins
 joins-on P [] within c s = smallest-same (λ j q. (inl, ⊎-elim (λ p. p) (λ w. absurd (List·Memᴰ·not-nil w)))) s
 joins-on P (m ∷ ms) within c s =
@@ -134,7 +134,7 @@ joins-on P (m ∷ ms) within c s =
     (join-smallest P c (m .by) (m .to) (first .1) s (first .0)))
 
 -- The moves of a list come to the smallest type among them, and to the states that they lead to by that type.
-pub joins-smallest : (ms : List Move) → InLimits ms → Smallest (λ j q. List·Memᴰ (move j q) ms) (joins ms noneYet)
+pub joins-smallest : (ms : List Move) → MovesFit ms → Smallest (λ j q. List·Memᴰ (move j q) ms) (joins ms noneYet)
 joins-smallest ms within = smallest-same (λ j q. (⊎-elim (λ p. absurd p) (λ w. w), inr)) (joins-on (λ j q. ⊥) ms within noneYet first)
   where
     first : Smallest (λ j q. ⊥) noneYet

@@ -82,11 +82,11 @@ movesByRows entries begins a states g =
     gathered (λ p. cond (member p states) (rowMoves entries begins g (rowPlace a p)) []) 0 mostStates
 
 -- the type and the tag of the entry e with so much added, each inside its own room
-abbrev pub turnedBy : ℕ → ℕ → ℕ
-turnedBy more e =
+abbrev pub rotatedBy : ℕ → ℕ → ℕ
+rotatedBy more e =
     (e / (mostStates * mostStates) + more) % mostTypes + (e / (mostStates * mostStates) + more) / typeRoom % mostTags * typeRoom
 
--- t is the type of the entry e where that is under the tag g, and else a number past every type
+-- t is the type of the entry e where that is under the tag g, and else a number larger than that of no type yet
 pub record TypeUnder (g e t : ℕ) : Type 0 where
   pub under : tagIn e ≡ g → t ≡ byIn e
   pub other : tagIn e ≢ g → mostTypes < t

@@ -1,12 +1,12 @@
 // Which type comes next under a tag, inside an element: the smallest that leads from the states kept to a live state.
 use schema::BEGINS;
-use schema::ENTRY_BY;
-use schema::ENTRY_TYPES;
 use schema::Entry;
 use schema::STATES;
 use schema::STEPS;
 use schema::StateSet;
 use schema::TAGS;
+use schema::TYPE_PLACE;
+use schema::TYPE_ROOM;
 use schema::TYPES;
 use sdtd::Tag;
 use sdtd::TypeNo;
@@ -18,7 +18,7 @@ ghost use lib.Dec.{ltb};
 ghost use Rattle.sdtd.specs.Limits.{mostTags, mostTypes, mostStates, mostSteps};
 ghost use Rattle.schema.specs.States.{noStates};
 ghost use Rattle.schema.specs.Rows.{typeRoom, mostRows, RowsInside};
-ghost use Rattle.reading.specs.Coming.{least, joins, entryMoves, movesUpTo, rowMoves, movesByRows, comingOf, comingBy, turnedBy, TypeUnder, Lowest};
+ghost use Rattle.reading.specs.Coming.{least, joins, entryMoves, movesUpTo, rowMoves, movesByRows, comingOf, comingBy, rotatedBy, TypeUnder, Lowest};
 ghost use Rattle.reading.specs.Coming.{join as joined};
 
 // What comes next under a tag: nothing, or a type and the states that it leads to.
@@ -34,6 +34,7 @@ fn kept_before(t: u32, was: u32, kept: u32) -> u32
     if t < was { StateSet::NONE.0 } else { kept }
 }
 
+// The smaller of the two types.
 fn smaller(t: u32, was: u32) -> u32
     ensures { λ r. ⌜ r ≡ cond (ltb t was) t was ⌝ }
 {
@@ -41,7 +42,7 @@ fn smaller(t: u32, was: u32) -> u32
 }
 
 // A step by t to q, after what came so far: the same type adds the state, a smaller one replaces what came so far, a larger one changes nothing.
-// No branch: which of them it is is not foreseen.
+// Compiled without a branch: the processor cannot foresee which of the three it is.
 pub(crate) fn join<'a>(of: &'a mut u32, kept: &'a mut u32, t: u32, q: u8)
     requires { ⌜ q < mostStates ⌝ }
     ensures { λ _. ⌜ least (now (of .exit)) (now (kept .exit)) ≡ joined (least (now (of .entry)) (now (kept .entry))) t q ⌝ }
@@ -70,21 +71,23 @@ fn place(n: u16) -> usize
     n as usize
 }
 
-// An entry's type and tag with so much added, each inside its own room. A function of its own, since the compiled sum stays one sum then.
-fn turned(e: Entry, more: u32) -> u32
+// An entry's type and tag with so much added, each inside its own room. Compiled by itself it is one sum and one mask, and stays so where it is
+// called.
+fn rotated(e: Entry, more: u32) -> u32
     requires { ⌜ more ≤ typeRoom * mostTags ⌝ }
-    ensures { λ r. ⌜ r ≡ turnedBy more (e .0) ⌝ }
+    ensures { λ r. ⌜ r ≡ rotatedBy more (e .0) ⌝ }
 {
-    let sum = e.0 / ENTRY_BY + more;
-    sum % TYPES as u32 + sum / ENTRY_TYPES % TAGS as u32 * ENTRY_TYPES
+    let sum = e.0 / TYPE_PLACE + more;
+    sum % TYPES as u32 + sum / TYPE_ROOM % TAGS as u32 * TYPE_ROOM
 }
 
-// The type of an entry under the tag g; of any other entry, a number past every type. Turned by the tag, an entry's tag is 0 exactly where it is g.
+// The type of an entry under the tag g; of any other entry, a number larger than that of no type yet. Rotated by the tag, an entry's tag is 0
+// exactly where it is g.
 fn type_under(e: Entry, g: Tag) -> u32
     requires { ⌜ g .0 < mostTags ⌝ }
     ensures { λ r. ⌜ TypeUnder (g .0) (e .0) r ⌝ }
 {
-    turned(e, ENTRY_TYPES * ((TAGS - g.0) as u32))
+    rotated(e, TYPE_ROOM * ((TAGS - g.0) as u32))
 }
 
 // An entry, if it is under the tag g, after what came so far.
@@ -94,7 +97,7 @@ fn join_entry<'a>(e: Entry, g: Tag, short: bool, of: &'a mut u32, kept: &'a mut 
 {
     let t = type_under(e, g);
     if !short {
-        // In a long row most entries are of other tags, and that is foreseen.
+        // In a long row the entries that change nothing are mostly foreseen.
         if *of < t {
             return;
         }

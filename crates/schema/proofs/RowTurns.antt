@@ -15,17 +15,26 @@ use Rattle.schema.specs.Rows.{mostRows}
 use Rattle.schema.specs.RowMaking.{RowTables, putAll, picked, rowTables, addRow, rowBy, addRows, endsAt}
 use Rattle.schema.proofs.PuttingLaws.{fromOn, from-split, from-most}
 
--- a state of `states` or more has no entry, so its row begins and ends where the row before it ends
+-- a row with no entry ends where it begins
+row-ended : (i at : ℕ) (t : RowTables) → at ≡ getD (t .begins) i 0 → addRow [] i t ≡ rowTables (t .entries) (set (t .begins) (suc i) at)
+unfolding addRow putAll
+row-ended i at t e = rw (← e, add-zero) refl
+
+-- the last of the rows ends at the place
+ends-last : (k i at : ℕ) (begins : List ℕ) → at ≡ getD begins i 0 → i + k < length begins → at ≡ getD (endsAt at i k begins) (i + k) 0
+unfolding endsAt
+ends-last zero i at begins e h = rw add-zero e
+ends-last (suc k) i at begins e h =
+    let next : i + suc k ≡ suc i + k = omega arith in
+    rw next (ends-last k (suc i) at (set begins (suc i) at) (sym (getD-set-same begins (suc i) at 0 (omega arith))) (rw length-set (omega arith)))
+
 module _ (kept : List ℕ) (n states : ℕ) where
+  -- a state of `states` or more has no entry, so its row begins and ends where the row before it ends
   row-empty : (p : ℕ) → states ≤ p → rowBy kept n states p ≡ []
   unfolding picked
   row-empty p l = rw (le-ltb p states l)
 
-  row-ended : (i at : ℕ) (t : RowTables) → at ≡ getD (t .begins) i 0 → addRow [] i t ≡ rowTables (t .entries) (set (t .begins) (suc i) at)
-  unfolding addRow putAll
-  row-ended i at t e = rw (← e, add-zero) refl
-
-  pub rows-empty : (k i p at : ℕ) (t : RowTables) → states ≤ p → at ≡ getD (t .begins) i 0 → i + k < length (t .begins)
+  rows-empty : (k i p at : ℕ) (t : RowTables) → states ≤ p → at ≡ getD (t .begins) i 0 → i + k < length (t .begins)
       → addRows kept n states i p k t ≡ rowTables (t .entries) (endsAt at i k (t .begins))
   unfolding addRows endsAt
   rows-empty zero i p at t l e h = refl
@@ -34,15 +43,6 @@ module _ (kept : List ℕ) (n states : ℕ) where
       rw made (rows-empty k (suc i) (suc p) at (rowTables (t .entries) (set (t .begins) (suc i) at)) (omega arith)
       (sym (getD-set-same (t .begins) (suc i) at 0 (omega arith))) (rw length-set (omega arith)))
 
--- the last of the rows ends at the place
-pub ends-last : (k i at : ℕ) (begins : List ℕ) → at ≡ getD begins i 0 → i + k < length begins → at ≡ getD (endsAt at i k begins) (i + k) 0
-unfolding endsAt
-ends-last zero i at begins e h = rw add-zero e
-ends-last (suc k) i at begins e h =
-    let next : i + suc k ≡ suc i + k = omega arith in
-    rw next (ends-last k (suc i) at (set begins (suc i) at) (sym (getD-set-same begins (suc i) at 0 (omega arith))) (rw length-set (omega arith)))
-
-module _ (kept : List ℕ) (n states : ℕ) where
   -- The rows before the state p are made and end at the place `past`; those left, from the row first + p on, make the whole, and have room.
   pub record RowsLeft (first p past : ℕ) (t whole : RowTables) : Type 0 where
     pub here : past ≡ getD (t .begins) (first + p) 0
@@ -97,7 +97,7 @@ module _ (kept : List ℕ) (n states : ℕ) where
       pub rows-ended : rowTables (t .entries) (endsAt past (first + p) (first + mostStates - (first + p)) (t .begins)) ≡ whole
       rows-ended =
           let k : first + mostStates - (first + p) ≡ mostStates - p = omega arith in
-          rw k (sym (rows-empty kept n states (mostStates - p) (first + p) p past t l (r .here) (omega (arith, r .long))) ∙ r .left)
+          rw k (sym (rows-empty (mostStates - p) (first + p) p past t l (r .here) (omega (arith, r .long))) ∙ r .left)
 
       pub rows-past : past ≡ getD (endsAt past (first + p) (first + mostStates - (first + p)) (t .begins)) (first + mostStates) 0
       rows-past =

@@ -26,7 +26,7 @@ use Rattle.schema.proofs.SpreadLaws.{own}
 use Rattle.schema.proofs.FirstTables.{Fits, forth, own-steps, own-step}
 use Rattle.schema.proofs.PuttingLaws.{put-there, put-long, counted-most, fromOn, from-most}
 use Rattle.schema.proofs.RowLaws.{counted-reads}
-use Rattle.schema.proofs.RowsLaid.{Laid, RowsAdded, laid-rows, laid-means, laid-none, laid-inside}
+use Rattle.schema.proofs.RowsLaid.{Laid, RowsAdded, laid-rows, laid-means, laid-none, laid-inside, laid-rest}
 
 -- what is put from the first place on stands there
 pub put-take : (es t : List ℕ) → length es ≤ length t → take (length es) (putAll es 0 t) ≡ es
@@ -192,7 +192,7 @@ module _
 
   -- tables with the rows of all types mean what they should
   pub rows-exact : {t : RowTables} → Laid (rowAt v bears live) (mostStates * v .types) t → RowsMean (meaning v) (t .entries) (t .begins)
-  rows-exact {t} laid = record { inside = laid-inside laid; exact = exact; rest = λ k h. laid .rest k (h (mostStates * v .types)) }
+  rows-exact {t} laid = record { inside = laid-inside laid; exact = exact; rest = laid-rest laid; past = λ i l. laid .past i (rw types-count at l) }
     where
       exact : (a p e : ℕ) → p < mostStates → InRow (t .entries) (t .begins) (rowPlace a p) e ↔ EntryFor (meaning v) a p e
       exact a p e h =

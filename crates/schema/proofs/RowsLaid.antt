@@ -20,6 +20,7 @@ use Rattle.schema.proofs.FirstTables.{same-everywhere}
 pub record Laid (row : ℕ → List ℕ) (n : ℕ) (t : RowTables) : Type 0 where
   pub entries-long : length (t .entries) ≡ mostSteps
   pub begins-long : length (t .begins) ≡ suc mostRows
+  pub first : getD (t .begins) 0 0 ≡ 0
   pub next : (i : ℕ) → i < n → getD (t .begins) (suc i) 0 ≡ getD (t .begins) i 0 + length (row i)
   pub up : (i : ℕ) → i ≤ n → getD (t .begins) i 0 ≤ getD (t .begins) n 0
   pub past : (i : ℕ) → n < i → getD (t .begins) i 0 ≡ 0
@@ -33,6 +34,7 @@ module _ (row : ℕ → List ℕ) where
       record {
         entries-long = length-replicate {A = ℕ} mostSteps 0;
         begins-long = length-replicate {A = ℕ} (suc mostRows) 0;
+        first = same-everywhere {A = ℕ} 0 (suc mostRows) 0;
         next = λ i l. absurd (omega arith);
         up = λ i l. rw (same-everywhere {A = ℕ} 0 (suc mostRows) i) (omega arith);
         past = λ i l. same-everywhere {A = ℕ} 0 (suc mostRows) i;
@@ -67,6 +69,7 @@ module _ (row : ℕ → List ℕ) where
         record {
           entries-long = put-long es (getD (t .begins) n 0) (t .entries) ∙ laid .entries-long;
           begins-long = length-set (t .begins) (suc n) _ ∙ laid .begins-long;
+          first = old-begin 0 (λ e. omega arith) ∙ laid .first;
           next = λ i l. next i l (ℕ-discrete i n);
           up = λ i l. up i l (ℕ-discrete i (suc n));
           past = λ i l. old-begin i (λ e. omega arith) ∙ laid .past i (omega arith);
@@ -162,3 +165,21 @@ laid-none laid i e l r = omega (arith, laid .past (suc i) (omega arith), r .most
 pub laid-inside : {row : ℕ → List ℕ} {n : ℕ} {t : RowTables} → Laid row n t → (i : ℕ) → getD (t .begins) i 0 ≤ mostSteps
 laid-inside {n = n} laid i =
     elim (decLt n i) [ yes l ↦ omega (arith, laid .past i l) | no l ↦ omega (arith, laid .up i (omega arith), laid .most) ]
+
+-- a place before the end of the rows stands in one of them
+row-over : (begins : List ℕ) (n k : ℕ) → getD begins 0 0 ≡ 0 → k < getD begins n 0
+    → (i : ℕ) × (getD begins i 0 ≤ k) × (k < getD begins (suc i) 0)
+row-over begins zero k e l = absurd (omega arith)
+row-over begins (suc n) k e l =
+    elim (decLt k (getD begins n 0)) [ yes h ↦ row-over begins n k e h | no h ↦ (n, omega arith, l) ]
+
+-- what stands in no row is 0
+pub laid-rest : {row : ℕ → List ℕ} {n : ℕ} {t : RowTables} → Laid row n t → (k : ℕ)
+    → ((i : ℕ) → getD (t .begins) i 0 ≤ k → ¬ (k < getD (t .begins) (suc i) 0)) → getD (t .entries) k 0 ≡ 0
+laid-rest {n = n} {t = t} laid k none =
+    elim (decLt k (getD (t .begins) n 0)) [
+      | yes l ↦
+          let i = row-over (t .begins) n k (laid .first) l in
+          absurd (none (i .0) (i .1) (i .2))
+      | no l ↦ laid .rest k (omega arith)
+    ]

@@ -3,7 +3,7 @@ use mathlib.Core.Path.{_≡_}
 use mathlib.Core.Logic.{_↔_}
 use mathlib.Core.List.{List, List·Memᴰ}
 use Prim.Native.Nat.{ℕ, suc, _+_, _*_, _/_, _%_, _≤_, _<_}
-use lib.ListN.{getD}
+use lib.ListN.{length, getD}
 use Rattle.sdtd.specs.Limits.{mostTags, mostTypes, mostStates, mostSteps}
 use Rattle.sdtd.specs.Schema.{Step, Schema, blockOf, tagOf}
 use Rattle.sdtd.specs.Trim.{Bears, Live}
@@ -65,8 +65,10 @@ pub record EntryFor (S : Schema) (a p e : ℕ) : Type 0 where
 abbrev pub RowsInside : List ℕ → Type 0
 RowsInside begins = (i : ℕ) → getD begins i 0 ≤ mostSteps
 
--- An entry stands in a row exactly for a step that counts; each row lies inside the table, and past all rows it has zeros.
+-- An entry stands in a row exactly for a step that counts. Each row lies inside the table; what stands in no row is 0, and so are the beginnings
+-- past the rows of the last type. Where the rows stand, and in which order their entries, is free.
 pub record RowsMean (S : Schema) (entries begins : List ℕ) : Type 0 where
   pub inside : RowsInside begins
   pub exact : (a p e : ℕ) → p < mostStates → InRow entries begins (rowPlace a p) e ↔ EntryFor S a p e
-  pub rest : (k : ℕ) → ((i : ℕ) → getD begins i 0 ≤ k) → getD entries k 0 ≡ 0
+  pub rest : (k : ℕ) → ((i : ℕ) → getD begins i 0 ≤ k → ¬ (k < getD begins (suc i) 0)) → getD entries k 0 ≡ 0
+  pub past : (i : ℕ) → mostStates * length (S .blocks) < i → getD begins i 0 ≡ 0

@@ -14,9 +14,9 @@ pub const TYPE_ROOM: u32 = 512;
 // what one more of each adds to the entry
 const TO: u32 = STATES as u32;
 
-pub const BY: u32 = TO * STATES as u32;
+pub const TYPE_PLACE: u32 = TO * STATES as u32;
 
-const TAG: u32 = BY * TYPE_ROOM;
+const TAG: u32 = TYPE_PLACE * TYPE_ROOM;
 
 pub struct Entry(pub u32);
 
@@ -36,7 +36,7 @@ impl Entry {
     pub fn by(self) -> TypeNo
         ensures { λ r. ⌜ r .0 ≡ byIn (self .0) ⌝ }
     {
-        TypeNo((self.0 / BY % TYPES as u32) as u8)
+        TypeNo((self.0 / TYPE_PLACE % TYPES as u32) as u8)
     }
 
     pub fn tag(self) -> Tag
@@ -50,5 +50,5 @@ impl Entry {
 pub(crate) fn entry_of(from: u8, to: u8, by: TypeNo, tag: Tag) -> Entry
     ensures { λ r. ⌜ r .0 ≡ entry from to (by .0) (tag .0) ⌝ }
 {
-    Entry(from as u32 + TO * to as u32 + BY * by.0 as u32 + TAG * tag.0 as u32)
+    Entry(from as u32 + TO * to as u32 + TYPE_PLACE * by.0 as u32 + TAG * tag.0 as u32)
 }

@@ -9,9 +9,9 @@ mod state_set;
 mod tables;
 mod value;
 
-pub use entry::BY as ENTRY_BY;
 pub use entry::Entry;
-pub use entry::TYPE_ROOM as ENTRY_TYPES;
+pub use entry::TYPE_PLACE;
+pub use entry::TYPE_ROOM;
 pub use limits::within;
 pub use rows::BEGINS;
 pub use rows::ROWS;

@@ -179,7 +179,8 @@ pub fn live(schema: Schema) -> LiveStates
     LiveStates { inside: true, live }
 }
 
-// The live states of a schema inside the limits, and its steps that count in rows: their entries, and where each row begins. Nothing for any other.
+// The live states of a schema inside the limits; its steps that count go in rows to the lent tables: their entries, and where each row begins. For
+// any other no state is live, and the lent tables are zeros.
 pub fn live_rows<'a>(
     schema: Schema,
     entries: &'a mut [u32; STEPS],
@@ -238,7 +239,7 @@ fn trim_inside(schema: Schema, live: [u32; TYPES]) -> Trimming
     }
 }
 
-// The tables of a schema inside the limits, and its rows; tables of nothing for any other.
+// The tables of a schema inside the limits; its rows go to the lent tables. For any other tables of nothing, and zeros in the lent ones.
 pub fn trim<'a>(
     schema: Schema,
     entries: &'a mut [u32; STEPS],

@@ -1,8 +1,8 @@
--- `reading::coming::turned` computes what its definition says, and no sum overflows.
+-- `reading::coming::rotated` computes what its definition says, and no sum overflows.
 use mathlib.Core.Path.{refl}
 use borrow.Author.Needs.{needs}
-use Rattle.reading.proofs.coming.turned.Statement.{statement}
-use Rattle.reading.proofs.coming.turned.Tie as tie
+use Rattle.reading.proofs.coming.rotated.Statement.{statement}
+use Rattle.reading.proofs.coming.rotated.Tie as tie
 
 add-sum : tie.Need-add-sum
 add-sum c = search needs
@@ -28,8 +28,8 @@ add-result c = search needs
 returns : tie.Need-returns
 returns c = refl
 
-pub turned-spec : {M : Type 1} → statement M
-turned-spec =
+pub rotated-spec : {M : Type 1} → statement M
+rotated-spec =
     tie.close
     (tie.spec
     add-sum
