@@ -1,14 +1,13 @@
 -- An event's bytes are inside the file; its kind and the byte past its place tell it.
-use mathlib.Core.Path.{_≡_, refl, sym, ap, ap₂, _∙_}
+use mathlib.Core.Path.{_≡_, refl, sym, ap₂, _∙_}
 use mathlib.Core.Bool.{cond}
 use mathlib.Core.List.{List}
 use Prim.Native.Nat.{ℕ, _+_, _≤_}
 use lib.Dec.{eqb, leb, leb→le}
-use lib.ListN.{length, getD}
-use Rattle.sdtd.specs.Numbered.{tagNo}
+use lib.ListN.{length}
 use Rattle.sdtd.specs.declared.Tag.{Tag}
 use Rattle.sdtd.proofs.Basics.{cond-both, cond-either}
-use Rattle.events.specs.Events.{size, eventFrom, eventAt, kindOf}
+use Rattle.events.specs.Events.{operand, size, eventFrom, eventAt, kindOf}
 use Rattle.events.specs.declared.decoder.EventKind.{EventKind}
 use Rattle.events.specs.declared.decoder.EventKind.the-variants.{OpenKind, CloseKind, FinishKind, NoKind}
 use Rattle.events.specs.declared.decoder.FileEvent.{FileEvent}
@@ -46,13 +45,9 @@ ofKind FinishKind g = Finish
 ofKind NoKind g = NoEvent
 
 module _ (file : List ℕ) (i : ℕ) where
-  -- the byte past the place as a tag
-  abbrev pub tagAt : Tag
-  tagAt = tagNo (getD file (i + 1) 0)
-
   -- the event's kind with the byte past the place is the event
   abbrev Told : FileEvent → Type 0
-  Told e = ofKind (kindOf e) tagAt ≡ e
+  Told e = ofKind (kindOf e) (operand file i) ≡ e
 
   told-whole : (e : FileEvent) → Told e → Told (cond (leb (i + size e) (length file)) e NoEvent)
   told-whole e p = cond-both Told (leb (i + size e) (length file)) _ _ p refl
@@ -60,16 +55,16 @@ module _ (file : List ℕ) (i : ℕ) where
   told-from : (b : ℕ) → Told (eventFrom file i b)
   unfolding eventFrom
   told-from b =
-      cond-both Told (eqb b 0x21) _ _ (told-whole (Open tagAt) refl)
-      (cond-both Told (eqb b 0x22) _ _ (told-whole (Close tagAt) refl) (cond-both Told (eqb b 0x2f) _ _ (told-whole Finish refl) refl))
+      cond-both Told (eqb b 0x21) _ _ (told-whole (Open (operand file i)) refl)
+      (cond-both Told (eqb b 0x22) _ _ (told-whole (Close (operand file i)) refl) (cond-both Told (eqb b 0x2f) _ _ (told-whole Finish refl) refl))
 
   told : Told (eventAt file i)
   told = cond-both Told (leb (i + 1) (length file)) _ NoEvent (told-from _) refl
 
   -- the event at the place is that of the kind matched, with the byte past the place for its tag
-  pub matched-kind : {k d : EventKind} → k ≡ kindOf (eventAt file i) → k ≡ d → (g : Tag) → g .0 ≡ getD file (i + 1) 0 → ofKind d g ≡ eventAt file i
-  matched-kind found case g tag = ap₂ ofKind (sym case ∙ found) (ap tagNo tag) ∙ told
+  pub matched-kind : {k d : EventKind} → k ≡ kindOf (eventAt file i) → k ≡ d → (g : Tag) → g ≡ operand file i → ofKind d g ≡ eventAt file i
+  matched-kind found case g tag = ap₂ ofKind (sym case ∙ found) tag ∙ told
 
   -- and ends inside the file
-  pub kind-ends : {k d : EventKind} → k ≡ kindOf (eventAt file i) → k ≡ d → Ends file i (ofKind d tagAt)
-  kind-ends found case = matched-ends file i refl (sym (matched-kind found case tagAt refl))
+  pub kind-ends : {k d : EventKind} → k ≡ kindOf (eventAt file i) → k ≡ d → Ends file i (ofKind d (operand file i))
+  kind-ends found case = matched-ends file i refl (sym (matched-kind found case (operand file i) refl))

@@ -35,8 +35,8 @@ bytesOf (opening g ∷ d) = 0x21 ∷ g ∷ bytesOf d
 bytesOf (closing g ∷ d) = 0x22 ∷ g ∷ bytesOf d
 bytesOf (finish ∷ d) = 0x2f ∷ bytesOf d
 
--- the operand of the event at the place i
-abbrev operand : List ℕ → ℕ → Tag
+-- the byte past the place i as a tag: an event with a tag has it there
+abbrev pub operand : List ℕ → ℕ → Tag
 operand file i = tagNo (getD file (i + 1) 0)
 
 -- how many bytes an event has; none where there is no event

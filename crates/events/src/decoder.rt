@@ -1,9 +1,7 @@
 // Events of the event file.
 use sdtd::Tag;
 ghost use mathlib.Core.Path.{_≡_};
-ghost use Prim.Native.Nat.{_+_};
-ghost use lib.ListN.{getD};
-ghost use Rattle.events.specs.Events.{eventAt, kindOf, placeAfter};
+ghost use Rattle.events.specs.Events.{operand, eventAt, kindOf, placeAfter};
 
 // the bytes of an event with a tag
 pub const WITH_TAG: usize = 2;
@@ -27,7 +25,7 @@ pub enum EventKind {
 }
 
 // The kind of the event at a place of the file.
-pub fn kind_at(events: &[u8], at: usize) -> EventKind
+pub(crate) fn kind_at(events: &[u8], at: usize) -> EventKind
     ensures { λ r. ⌜ r ≡ kindOf (eventAt (now (events .entry)) at) ⌝ }
 {
     if events.len() <= at {
@@ -52,7 +50,7 @@ pub fn kind_at(events: &[u8], at: usize) -> EventKind
 
 // The byte past a place of the file, as a tag; 0 where the file ends before it. An event with a tag has it there.
 pub fn tag_at(events: &[u8], at: usize) -> Tag
-    ensures { λ r. ⌜ r .0 ≡ getD (now (events .entry)) (at + 1) 0 ⌝ }
+    ensures { λ r. ⌜ r ≡ operand (now (events .entry)) at ⌝ }
 {
     if events.len() <= at {
         return Tag(0);

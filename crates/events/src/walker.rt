@@ -1,10 +1,12 @@
 // A walker over the lent bytes of an event file. It stands at a place, gives the event there, and moves past it.
-// Each function over it is thin: the work is that of `event_at` and `place_after`.
+// Each function over it is thin: the work is that of `event_at`, `kind_at` and `place_after`.
+use crate::decoder::EventKind;
 use crate::decoder::FileEvent;
 use crate::decoder::event_at;
+use crate::decoder::kind_at;
 use crate::decoder::place_after;
 ghost use mathlib.Core.Path.{_≡_};
-ghost use Rattle.events.specs.Events.{eventAt, placeAfter};
+ghost use Rattle.events.specs.Events.{eventAt, kindOf, placeAfter};
 
 pub struct Walker<'a> {
     pub events: &'a [u8],
@@ -24,6 +26,13 @@ impl<'a> Walker<'a> {
         ensures { λ r. ⌜ r ≡ eventAt (now (self .entry .events)) (self .entry .at) ⌝ }
     {
         event_at(self.events, self.at)
+    }
+
+    // What the event at the walker's place is.
+    pub fn kind(self) -> EventKind
+        ensures { λ r. ⌜ r ≡ kindOf (eventAt (now (self .entry .events)) (self .entry .at)) ⌝ }
+    {
+        kind_at(self.events, self.at)
     }
 
     // The walker past that event; where there is none it stays.
@@ -56,4 +65,12 @@ pub fn walk_to(events: &[u8], at: usize) -> PassedEvent
         event,
         past: next.at,
     }
+}
+
+// What a walker over the bytes finds at a place, without its tag.
+pub fn walk_kind(events: &[u8], at: usize) -> EventKind
+    ensures { λ r. ⌜ r ≡ kindOf (eventAt (now (events .entry)) at) ⌝ }
+{
+    let walker = Walker::new(events, at);
+    walker.kind()
 }

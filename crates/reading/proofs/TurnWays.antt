@@ -2,7 +2,7 @@
 use mathlib.Core.Path.{_≡_, refl, ap, _∙_}
 use mathlib.Core.List.{List}
 use Prim.Native.Nat.{ℕ, _+_}
-use lib.ListN.{length, getD}
+use lib.ListN.{length}
 use Rattle.sdtd.specs.declared.Tag.{Tag}
 use Rattle.reading.specs.declared.value.Reading.{Reading}
 use Rattle.reading.specs.declared.calls.EventAnswer.{EventAnswer}
@@ -13,8 +13,8 @@ use Rattle.events.specs.declared.decoder.EventKind.the-variants.{OpenKind, Clos
 use Rattle.events.specs.declared.decoder.FileEvent.the-variants.{Open, Close, Finish}
 use Rattle.reading.specs.declared.event_file.Walking.{Walking}
 use Rattle.reading.specs.declared.steps.Stepped.{Stepped}
-use Rattle.events.specs.Events.{size, eventAt, kindOf}
-use Rattle.events.proofs.EventLaws.{ofKind, tagAt, matched-kind}
+use Rattle.events.specs.Events.{operand, size, eventAt, kindOf}
+use Rattle.events.proofs.EventLaws.{ofKind, matched-kind}
 use Rattle.reading.specs.Steps.{StepTables, readingOf, nextOf, openByRows, closeStepIn, Finishes}
 use Rattle.reading.specs.Turns.{Walked, standingOf, walkedOf, stop, turnBy, turnTo, AfterStep, EndsHere, turnOn, turnOf}
 
@@ -31,12 +31,12 @@ stepped w types sets s past types′ sets′ r x a e =
 
 module _ (t : StepTables) (file : List ℕ) (w : Walking) (types sets : List ℕ) {k : EventKind} (found : k ≡ kindOf (eventAt file (w .at))) where
   -- the turn is that of the kind matched, with the byte past the place for its tag
-  matched : (d : EventKind) → k ≡ d → (g : Tag) → g .0 ≡ getD file (w .at + 1) 0
+  matched : (d : EventKind) → k ≡ d → (g : Tag) → g ≡ operand file (w .at)
       → turnOn t (length file) (walkedOf w types sets) (ofKind d g) ≡ turnOf t file (walkedOf w types sets)
   unfolding turnOf
   matched d case g tag = ap (turnOn t (length file) (walkedOf w types sets)) (matched-kind file (w .at) found case g tag)
 
-  module _ (s : Stepped) (types′ sets′ : List ℕ) (r : Walking) (g : Tag) (tag : g .0 ≡ getD file (w .at + 1) 0) where
+  module _ (s : Stepped) (types′ sets′ : List ℕ) (r : Walking) (g : Tag) (tag : g ≡ operand file (w .at)) where
     pub turn-open : k ≡ OpenKind → nextOf s types′ sets′ ≡ openByRows t (readingOf (standingOf w) types sets) (g .0)
         → AfterStep w s (w .at + size (Open g)) r → walkedOf r types′ sets′ ≡ turnOf t file (walkedOf w types sets)
     turn-open case step after = stepped w types sets s _ types′ sets′ r _ after step ∙ matched OpenKind case g tag
@@ -48,8 +48,8 @@ module _ (t : StepTables) (file : List ℕ) (w : Walking) (types sets : List ℕ
   pub turn-finish : (s : Stepped) (r : Walking) → k ≡ FinishKind → Finishes (standingOf w) s → AfterStep w s (w .at + size Finish) r
       → walkedOf r types sets ≡ turnOf t file (walkedOf w types sets)
   turn-finish s r case step after =
-      stepped w types sets s _ types sets r _ after (step types sets) ∙ matched FinishKind case (tagAt file (w .at)) refl
+      stepped w types sets s _ types sets r _ after (step types sets) ∙ matched FinishKind case (operand file (w .at)) refl
 
   pub turn-ends : (r : Walking) → k ≡ NoKind → EndsHere (length file) w r
       → walkedOf r types sets ≡ turnOf t file (walkedOf w types sets)
-  turn-ends r case after = after types sets ∙ matched NoKind case (tagAt file (w .at)) refl
+  turn-ends r case after = after types sets ∙ matched NoKind case (operand file (w .at)) refl

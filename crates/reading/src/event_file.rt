@@ -11,8 +11,8 @@ use crate::value::LEVELS;
 use events::ALONE;
 use events::EventKind;
 use events::WITH_TAG;
-use events::kind_at;
 use events::tag_at;
+use events::walk_kind;
 use schema::BEGINS;
 use schema::STEPS;
 use schema::Schema;
@@ -123,7 +123,7 @@ fn turn<'a>(
         rooted: w.rooted,
         finished: w.finished,
     };
-    match kind_at(events, w.at) {
+    match walk_kind(events, w.at) {
         EventKind::OpenKind => {
             let g = tag_at(events, w.at);
             let s = step_open(entries, begins, heads, tags, types, sets, standing, g);
@@ -146,7 +146,7 @@ fn turn<'a>(
 fn outside(events: &[u8]) -> EventFile
     ensures { λ r. ⌜ (r .number ≡ outsideNumber (eventAt (now (events .entry)) 0)) × (r .place ≡ 0) × (r .count ≡ 0) ⌝ }
 {
-    match kind_at(events, 0) {
+    match walk_kind(events, 0) {
         EventKind::NoKind => EventFile {
             number: 19,
             place: 0,

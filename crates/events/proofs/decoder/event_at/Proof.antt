@@ -1,7 +1,8 @@
 -- `events::decoder::event_at` meets its contract: the event is that of its kind, with the byte past the place for its tag.
 use mathlib.Core.Path.{refl}
 use borrow.Author.Needs.{needs}
-use Rattle.events.proofs.EventLaws.{tagAt, matched-kind}
+use Rattle.events.specs.Events.{operand}
+use Rattle.events.proofs.EventLaws.{matched-kind}
 use Rattle.events.proofs.decoder.event_at.Statement.{statement}
 use Rattle.events.proofs.decoder.event_at.Tie as tie
 
@@ -44,13 +45,13 @@ returns-3 : tie.Need-returns-3
 returns-3 c =
     let f = c .before .before in
     let a = f .before .before .args in
-    matched-kind (a .events .now) (a .at) (f .kind-at .ensures) (c .enum-told3 .given .1) (tagAt (a .events .now) (a .at)) refl
+    matched-kind (a .events .now) (a .at) (f .kind-at .ensures) (c .enum-told3 .given .1) (operand (a .events .now) (a .at)) refl
 
 returns-4 : tie.Need-returns-4
 returns-4 c =
     let f = c .before .before in
     let a = f .before .before .args in
-    matched-kind (a .events .now) (a .at) (f .kind-at .ensures) (c .enum-told4 .given .1) (tagAt (a .events .now) (a .at)) refl
+    matched-kind (a .events .now) (a .at) (f .kind-at .ensures) (c .enum-told4 .given .1) (operand (a .events .now) (a .at)) refl
 
 pub event-at-spec : {M : Type 1} → statement M
 event-at-spec =

@@ -5,17 +5,17 @@ use Prim.Native.Nat.{ℕ, _+_}
 use native.Mathlib.Nat.{add-zero}
 use native.Mathlib.Omega.{arith}
 use borrow.Author.Needs.{needs}
-use Rattle.events.specs.Events.{size, eventAt, kindOf, placeAfter}
+use Rattle.events.specs.Events.{operand, size, eventAt, kindOf, placeAfter}
 use Rattle.events.specs.declared.decoder.EventKind.{EventKind}
 use Rattle.events.specs.declared.decoder.FileEvent.{FileEvent}
-use Rattle.events.proofs.EventLaws.{ofKind, tagAt, matched-kind, kind-ends}
+use Rattle.events.proofs.EventLaws.{ofKind, matched-kind, kind-ends}
 use Rattle.events.proofs.decoder.place_after.Statement.{statement}
 use Rattle.events.proofs.decoder.place_after.Tie as tie
 
 -- the place past the event of the kind matched
 module _ (file : List ℕ) (i : ℕ) {k d : EventKind} (found : k ≡ kindOf (eventAt file i)) (case : k ≡ d) where
-  after : i + size (ofKind d (tagAt file i)) ≡ placeAfter file i
-  after = ap (λ (x : FileEvent). i + size x) (matched-kind file i found case (tagAt file i) refl)
+  after : i + size (ofKind d (operand file i)) ≡ placeAfter file i
+  after = ap (λ (x : FileEvent). i + size x) (matched-kind file i found case (operand file i) refl)
 
 kind-at-requires : tie.Need-kind-at-requires
 kind-at-requires c κs = search needs

@@ -1,19 +1,20 @@
 -- `events::decoder::tag_at` meets its contract: where the file ends before the byte, it is 0.
-use mathlib.Core.Path.{sym}
+use mathlib.Core.Path.{sym, ap}
 use native.Mathlib.Omega.{arith}
 use borrow.Author.Needs.{needs}
 use lib.ListN.{List·getD-eq-default}
+use Rattle.sdtd.specs.Numbered.{tagNo}
 use Rattle.events.proofs.decoder.tag_at.Statement.{statement}
 use Rattle.events.proofs.decoder.tag_at.Tie as tie
 
 returns : tie.Need-returns
-returns c = let a = c .before .args in sym (List·getD-eq-default (a .events .now) 0 (omega arith))
+returns c = let a = c .before .args in ap tagNo (sym (List·getD-eq-default (a .events .now) 0 (omega arith)))
 
 sub-left : tie.Need-sub-left
 sub-left c = search needs
 
 returns-2 : tie.Need-returns-2
-returns-2 c = let a = c .before .before .args in sym (List·getD-eq-default (a .events .now) 0 (omega arith))
+returns-2 c = let a = c .before .before .args in ap tagNo (sym (List·getD-eq-default (a .events .now) 0 (omega arith)))
 
 add-t4 : tie.Need-add-t4
 add-t4 c = search needs

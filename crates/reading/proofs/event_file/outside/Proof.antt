@@ -6,7 +6,8 @@ use denote.Enum.Declared.{tagOf}
 use Rattle.sdtd.specs.declared.Tag.{Tag}
 use Rattle.events.specs.declared.decoder.EventKind.{EventKind}
 use Rattle.events.specs.declared.decoder.EventKind.the-variants.{OpenKind, CloseKind, FinishKind, NoKind}
-use Rattle.events.proofs.EventLaws.{ofKind, tagAt, matched-kind}
+use Rattle.events.specs.Events.{operand}
+use Rattle.events.proofs.EventLaws.{ofKind, matched-kind}
 use Rattle.events.proofs.decoder.EventKind.{the-type}
 use Rattle.reading.specs.Turns.{outsideNumber}
 use borrow.Author.Needs.{needs}
@@ -20,8 +21,8 @@ event CloseKind o g = refl
 event FinishKind o g = refl
 event NoKind o g = absurd (miss (0 ∷ 1 ∷ 2 ∷ []) 3 tt o)
 
-kind-at-requires : tie.Need-kind-at-requires
-kind-at-requires c κs = search needs
+walk-kind-requires : tie.Need-walk-kind-requires
+walk-kind-requires c κs = search needs
 
 enum-told : tie.Need-enum-told
 enum-told c = search needs
@@ -30,17 +31,17 @@ returns : tie.Need-returns
 returns c =
     let f = c .before .before in
     let file = f .before .before .args .events .now in
-    (ap outsideNumber (matched-kind file 0 (f .kind-at .ensures) (c .enum-told .given .1) (tagAt file 0) refl), refl, refl)
+    (ap outsideNumber (matched-kind file 0 (f .walk-kind .ensures) (c .enum-told .given .1) (operand file 0) refl), refl, refl)
 
 returns-2 : tie.Need-returns-2
 returns-2 c =
     let f = c .before in
     let file = f .before .before .args .events .now in (
-      event (f .kind-at .result) (c .match .keys2) (tagAt file 0)
-          ∙ ap outsideNumber (matched-kind file 0 (f .kind-at .ensures) refl (tagAt file 0) refl),
+      event (f .walk-kind .result) (c .match .keys2) (operand file 0)
+          ∙ ap outsideNumber (matched-kind file 0 (f .walk-kind .ensures) refl (operand file 0) refl),
       refl,
       refl,
     )
 
 pub outside-spec : {M : Type 1} → statement M
-outside-spec = tie.close (tie.spec kind-at-requires enum-told returns returns-2)
+outside-spec = tie.close (tie.spec walk-kind-requires enum-told returns returns-2)

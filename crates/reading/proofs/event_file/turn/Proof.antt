@@ -6,8 +6,8 @@ use Rattle.reading.proofs.TurnWays.{turn-open, turn-close, turn-finish,
 use Rattle.reading.proofs.event_file.turn.Statement.{statement}
 use Rattle.reading.proofs.event_file.turn.Tie as tie
 
-kind-at-requires : tie.Need-kind-at-requires
-kind-at-requires c κs = search needs
+walk-kind-requires : tie.Need-walk-kind-requires
+walk-kind-requires c κs = search needs
 
 enum-told : tie.Need-enum-told
 enum-told c = search needs
@@ -24,7 +24,7 @@ add-after-step c =
     let f = v .before .before in
     let start = f .before .before in
     let a = start .args in
-    omega (arith, start .good .1 .1 .1 .1 .0, kind-ends (a .events .now) (a .w .at) (f .kind-at .ensures) (v .enum-told .given .1))
+    omega (arith, start .good .1 .1 .1 .1 .0, kind-ends (a .events .now) (a .w .at) (f .walk-kind .ensures) (v .enum-told .given .1))
 
 after-step-requires : tie.Need-after-step-requires
 after-step-requires c κs = search needs
@@ -44,7 +44,7 @@ add-after-step-2 c =
     let f = v .before .before in
     let start = f .before .before in
     let a = start .args in
-    omega (arith, start .good .1 .1 .1 .1 .0, kind-ends (a .events .now) (a .w .at) (f .kind-at .ensures) (v .enum-told2 .given .1))
+    omega (arith, start .good .1 .1 .1 .1 .0, kind-ends (a .events .now) (a .w .at) (f .walk-kind .ensures) (v .enum-told2 .given .1))
 
 after-step-requires-2 : tie.Need-after-step-requires-2
 after-step-requires-2 c κs = search needs
@@ -61,7 +61,7 @@ add-after-step-3 c =
     let f = v .before .before in
     let start = f .before .before in
     let a = start .args in
-    omega (arith, start .good .1 .1 .1 .1 .0, kind-ends (a .events .now) (a .w .at) (f .kind-at .ensures) (v .enum-told3 .given .1))
+    omega (arith, start .good .1 .1 .1 .1 .0, kind-ends (a .events .now) (a .w .at) (f .walk-kind .ensures) (v .enum-told3 .given .1))
 
 after-step-requires-3 : tie.Need-after-step-requires-3
 after-step-requires-3 c κs = search needs
@@ -79,7 +79,7 @@ returns c =
     let v = g .before in
     let f = v .before .before in
     let a = f .before .before .args in
-    turn-open _ (a .events .now) (a .w) (a .types .now) (a .sets .now) (f .kind-at .ensures) (o .step-open .result) _ _ (c .after-step .result)
+    turn-open _ (a .events .now) (a .w) (a .types .now) (a .sets .now) (f .walk-kind .ensures) (o .step-open .result) _ _ (c .after-step .result)
     (g .tag-at .result) (g .tag-at .ensures) (v .enum-told .given .1) (o .step-open .ensures) (c .after-step .ensures)
 
 returns-2 : tie.Need-returns-2
@@ -89,7 +89,7 @@ returns-2 c =
     let v = g .before in
     let f = v .before .before in
     let a = f .before .before .args in
-    turn-close _ (a .events .now) (a .w) (a .types .now) (a .sets .now) (f .kind-at .ensures) (o .step-close-in .result) _ _ (c .after-step2 .result)
+    turn-close _ (a .events .now) (a .w) (a .types .now) (a .sets .now) (f .walk-kind .ensures) (o .step-close-in .result) _ _ (c .after-step2 .result)
     (g .tag-at2 .result) (g .tag-at2 .ensures) (v .enum-told2 .given .1) (o .step-close-in .ensures) (c .after-step2 .ensures)
 
 returns-3 : tie.Need-returns-3
@@ -98,7 +98,7 @@ returns-3 c =
     let v = o .before in
     let f = v .before .before in
     let a = f .before .before .args in
-    turn-finish _ (a .events .now) (a .w) (a .types .now) (a .sets .now) (f .kind-at .ensures) (o .step-finish .result) (c .after-step3 .result)
+    turn-finish _ (a .events .now) (a .w) (a .types .now) (a .sets .now) (f .walk-kind .ensures) (o .step-finish .result) (c .after-step3 .result)
     (v .enum-told3 .given .1) (o .step-finish .ensures) (c .after-step3 .ensures)
 
 returns-4 : tie.Need-returns-4
@@ -106,14 +106,14 @@ returns-4 c =
     let v = c .before in
     let f = v .before .before in
     let a = f .before .before .args in
-    turn-ends _ (a .events .now) (a .w) (a .types .now) (a .sets .now) (f .kind-at .ensures) (c .at-no-event .result) (v .enum-told4 .given .1)
+    turn-ends _ (a .events .now) (a .w) (a .types .now) (a .sets .now) (f .walk-kind .ensures) (c .at-no-event .result) (v .enum-told4 .given .1)
     (c .at-no-event .ensures)
 
 pub turn-spec : {M : Type 1} → statement M
 turn-spec =
     tie.close
     (tie.spec
-    kind-at-requires
+    walk-kind-requires
     enum-told
     tag-at-requires
     step-open-requires
