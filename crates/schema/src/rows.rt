@@ -201,12 +201,12 @@ pub(crate) fn clear_rows<'a>(entries: &'a mut [u32; STEPS], begins: &'a mut [u16
 // The rows of a schema inside the limits, by tables of exactly the types that bear a tree and exactly the live states, into tables of zeros.
 pub(crate) fn make_rows<'a>(
     schema: Schema,
-    bears: [u32; TYPES],
-    live: [u32; TYPES],
+    bears: &'a [u32; TYPES],
+    live: &'a [u32; TYPES],
     entries: &'a mut [u32; STEPS],
     begins: &'a mut [u16; BEGINS],
 )
-    requires { ⌜ WithinLimits (meaning schema) × BearsExactly (meaning schema) bears × LiveExactly (meaning schema) live
+    requires { ⌜ WithinLimits (meaning schema) × BearsExactly (meaning schema) (now bears) × LiveExactly (meaning schema) (now live)
         × (rowTables (now entries) (now begins) ≡ noRows) ⌝ }
     ensures { λ _. ⌜ RowsMean (meaning schema) (now (entries .exit)) (now (begins .exit)) ⌝ }
 {
@@ -228,7 +228,7 @@ pub(crate) fn make_rows<'a>(
             &schema.to,
             span,
             &schema.tag,
-            &bears,
+            bears,
             own,
         );
         at = type_rows(entries, begins, a, at, &kept, count, states[a]);

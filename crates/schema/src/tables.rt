@@ -197,7 +197,7 @@ pub fn live_rows<'a>(
             live,
         };
     }
-    make_rows(schema, live, live, entries, begins);
+    make_rows(schema, &live, &live, entries, begins);
     LiveStates { inside: true, live }
 }
 
@@ -258,6 +258,6 @@ pub fn trim<'a>(
             reached: [false; TYPES],
         };
     }
-    make_rows(schema, live, live, entries, begins);
+    make_rows(schema, &live, &live, entries, begins);
     trim_inside(schema, live)
 }

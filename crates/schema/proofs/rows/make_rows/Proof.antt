@@ -19,12 +19,12 @@ use Rattle.schema.proofs.rows.make_rows.Statement.{statement}
 use Rattle.schema.proofs.rows.make_rows.Tie as tie
 
 abbrev Inv-loop : tie.InvT-loop
-Inv-loop entries₀ begins₀ schema bears live kept₀ steps states types at₀ start₀ a₀ entries begins kept at start a =
+Inv-loop bears live entries₀ begins₀ schema kept₀ steps states types at₀ start₀ a₀ entries begins kept at start a =
     (a ≤ types) × (start ≡ offset (schema .steps) a) × (length kept ≡ mostSteps)
     × RowsAdded (rowAt schema bears live) (mostStates * a) start (rowTables entries begins) × (at ≡ getD begins (mostStates * a) 0)
 
 abbrev μ-loop : tie.MeasureT-loop
-μ-loop entries₀ begins₀ schema bears live kept₀ steps states types at₀ start₀ a₀ entries begins kept at start a = types - a
+μ-loop bears live entries₀ begins₀ schema kept₀ steps states types at₀ start₀ a₀ entries begins kept at start a = types - a
 
 -- the value's entries fit their types
 fits : (c : tie.Start Inv-loop μ-loop) → Fits (c .args .t1)
@@ -60,8 +60,8 @@ cast-n c = omega (arith, fit c)
 mul-own : tie.Need-mul-own Inv-loop μ-loop
 mul-own c = search needs
 
-array-read-own : tie.Need-array-read-own Inv-loop μ-loop
-array-read-own c = search (needs, room c .types)
+element-copy-out-own : tie.Need-element-copy-out-own Inv-loop μ-loop
+element-copy-out-own c = search (needs, room c .types)
 
 counted-requires : tie.Need-counted-requires Inv-loop μ-loop
 counted-requires c κs = fit (c .before .before .before .before .before .before .before)
@@ -76,9 +76,9 @@ type-rows-requires c κs =
     let i = k .loop .inv in
     let e = c .before .before .before .counted .ensures in
     let a = k .before .before .before .args in
-    let is = entries-from (a .t1) (a .t2) (a .t3) (k .loop .a) (k .loop .start) (i .1) in
-    let count : c .before .before .before .counted .result ≡ length (typeEntries (a .t1) (a .t2) (a .t3) (k .loop .a)) = e .1 ∙ ap length is in
-    let few = type-few (a .t1) (a .t2) (a .t3) (k .loop .a) in
+    let is = entries-from (a .t1) (a .bears .now) (a .live .now) (k .loop .a) (k .loop .start) (i .1) in
+    let count : c .before .before .before .counted .result ≡ length (typeEntries (a .t1) (a .bears .now) (a .live .now) (k .loop .a)) = e .1 ∙ ap length is in
+    let few = type-few (a .t1) (a .bears .now) (a .live .now) (k .loop .a) in
     let most = fit t in
     let types = room t .types in
     let long : length (c .before .before .before .counted .last .0) ≡ mostSteps = rw (e .0) (put-long _ _ _ ∙ i .2) in
@@ -102,11 +102,11 @@ loop-again c =
     let e = c .before .before .before .before .counted .ensures in
     let a = k .before .before .before .args in
     let types = room t .types in
-    let is = entries-from (a .t1) (a .t2) (a .t3) (k .loop .a) (k .loop .start) (i .1) in
-    let count : c .before .before .before .before .counted .result ≡ length (typeEntries (a .t1) (a .t2) (a .t3) (k .loop .a)) = e .1 ∙ ap length is in
-    let kept : c .before .before .before .before .counted .last .0 ≡ putAll (typeEntries (a .t1) (a .t2) (a .t3) (k .loop .a)) 0 (k .loop .kept) =
+    let is = entries-from (a .t1) (a .bears .now) (a .live .now) (k .loop .a) (k .loop .start) (i .1) in
+    let count : c .before .before .before .before .counted .result ≡ length (typeEntries (a .t1) (a .bears .now) (a .live .now) (k .loop .a)) = e .1 ∙ ap length is in
+    let kept : c .before .before .before .before .counted .last .0 ≡ putAll (typeEntries (a .t1) (a .bears .now) (a .live .now) (k .loop .a)) 0 (k .loop .kept) =
     e .0 ∙ ap (λ es. putAll es 0 (k .loop .kept)) is in
-    let added = type-added (a .t1) (a .t2) (a .t3) (k .loop .kept) (k .loop .a) (k .loop .start) _ (i .2) (omega arith) (fit t) (i .3) in (
+    let added = type-added (a .t1) (a .bears .now) (a .live .now) (k .loop .kept) (k .loop .a) (k .loop .start) _ (i .2) (omega arith) (fit t) (i .3) in (
       omega arith,
       offset-more (a .t1 .steps) (k .loop .a) _ (i .1),
       rw (e .0) (put-long _ _ _ ∙ i .2),
@@ -119,7 +119,7 @@ returns c =
     let start = c .before .before .before .before in
     let a = start .args in
     let all : c .before .loop .a ≡ a .t1 .types = omega arith in
-    rows-exact (fits start) (start .pre .0) (a .t2) (a .t3) (start .pre .1) (start .pre .2) (rw all at (c .before .loop .inv .3 .laid))
+    rows-exact (fits start) (start .pre .0) (a .bears .now) (a .live .now) (start .pre .1) (start .pre .2) (rw all at (c .before .loop .inv .3 .laid))
 
 pub make-rows-spec : {M : Type 1} → statement M
 make-rows-spec =
@@ -133,7 +133,7 @@ make-rows-spec =
     array-read-n
     cast-n
     mul-own
-    array-read-own
+    element-copy-out-own
     counted-requires
     array-read-type-rows
     type-rows-requires
