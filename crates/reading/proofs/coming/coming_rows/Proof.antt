@@ -7,7 +7,6 @@ use native.Mathlib.Nat.{zero-div, div-one}
 use native.Mathlib.Omega.{arith}
 use borrow.Author.Needs.{needs}
 use lib.Dec.{T, eqb}
-use lib.ListN.{getD}
 use lib.Pow.{shr-shr, shr-le}
 use mir.Syntax.{w32}
 use mir.Val.{Fits}

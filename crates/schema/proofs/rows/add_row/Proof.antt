@@ -1,5 +1,4 @@
 -- The row is put where the one before it ends, and its end is noted.
-use mathlib.Core.Path.{_≡_}
 use native.Mathlib.Numerals.{add-one}
 use borrow.Author.Needs.{needs}
 use Rattle.schema.specs.RowMaking.{addRow}
