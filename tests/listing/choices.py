@@ -1,4 +1,7 @@
-"""The program's choice of a witness, taken over if listing confirms it."""
+"""The program's choice of a witness, taken over if listing confirms it.
+
+The schema fixes A and n, so these are compared. J, K and w are free, w among the shortest words.
+"""
 
 import re
 
@@ -8,7 +11,7 @@ from .meaning import Wrong
 from .program import confirm_text
 from .tables import COMPETITION
 
-WITNESS = re.compile(r"(?<=kept \| )\d+(?: \d+){3,}")
+WITNESS = re.compile(r"(?<=kept \| )(\d+) \d+ \d+ (\d+)(?: \d+)*")
 
 
 def taken_over(case, text):
@@ -19,11 +22,24 @@ def taken_over(case, text):
     if case.letter == "J" and case.answers == (COMPETITION,):
         confirm_text(case.first, text.removesuffix("--\n"))
         return text
-    if WITNESS.sub("w", text) != WITNESS.sub("w", case.text) or case.letter not in MEANINGS:
+    if case.letter not in MEANINGS or without_choice(text) != without_choice(case.text):
         raise Wrong(f"committed for a case of {case.kind}: {text!r}, not {case.text!r}")
-    for witness in WITNESS.findall(text):
-        confirm_witness(MEANINGS[case.letter](case), [int(word) for word in witness.split()])
+    for witness in WITNESS.finditer(text):
+        numbers = [int(word) for word in witness[0].split()]
+        confirm_witness(MEANINGS[case.letter](case), numbers)
     return text
+
+
+def without_choice(text):
+    return WITNESS.sub(r"\1 J K \2 w", text)
+
+
+def with_witness(case, witness):
+    """The case's text with A J K n and w of another witness, as far as it states them."""
+    if case.letter == "J":
+        line = "type {} gives {} or {} after {}\n--\n".format(*witness.split())
+        return case.text.split("\n")[0] + "\n" + line
+    return WITNESS.sub(witness, case.text)
 
 
 def schema_meaning(case):

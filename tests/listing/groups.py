@@ -1,6 +1,6 @@
 """The cases of every kind, in the groups in which they are made."""
 
-from . import cases_calls, cases_events, cases_jobs, cases_schema, cases_values
+from . import cases_calls, cases_events, cases_jobs, cases_schema, cases_values, cases_words
 
 GROUPS = (
     cases_schema.CASES,
@@ -10,6 +10,7 @@ GROUPS = (
     *((part,) for part in cases_jobs.RANDOM_CASES),
     cases_jobs.OTHER_CASES,
     cases_values.CASES,
+    cases_words.CASES,
 )
 
 

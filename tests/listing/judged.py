@@ -4,7 +4,7 @@ from functools import lru_cache
 
 from . import schema_file
 from .meaning import Meaning, Wrong
-from .tables import (COMPETITION, LEAST_WITNESS_ROOM, MOST_STATES, MOST_TYPES, MOST_WORD, OUTSIDE_LIMITS,
+from .tables import (COMPETITION, LEAST_WITNESS_ROOM, MOST_STATES, MOST_TYPES, OUTSIDE_LIMITS,
                      SHORT_WITNESS_ROOM, TAKEN)
 from .value import SchemaValue, as_set
 
@@ -57,8 +57,11 @@ def buffer_text(number, meaning):
     """What the witness buffer holds after an answer: past the witness all is kept."""
     if number != COMPETITION:
         return "kept"
-    a, j, k, w = meaning.first_competition()
-    return "kept | " + " ".join(map(str, [a, j, k, len(w), *w]))
+    return f"kept | {witness_text(*meaning.first_competition())}"
+
+
+def witness_text(a, j, k, w):
+    return " ".join(map(str, [a, j, k, len(w), *w]))
 
 
 def value_line(value, room):
@@ -106,7 +109,7 @@ def value_answers(meaning, room):
 
 
 def confirm_witness(meaning, numbers):
-    """Is A J K n and the word's types a witness of this schema?"""
+    """Is A J K n and the word's types a witness of this schema, of a shortest word?"""
     a, j, k, n, *w = numbers
     confirm_type_and_length(meaning, a, n)
     if n != len(w) or (j, k) not in meaning.pairs_after(a, tuple(w)):
@@ -121,5 +124,8 @@ def confirm_length(meaning, a, j, k, n):
 
 
 def confirm_type_and_length(meaning, a, n):
-    if meaning.first_competition()[0] != a or a not in meaning.borne or n > MOST_WORD:
+    """Are they those of the schema: the smallest type in which two compete, and the length of the
+    shortest beginnings after which two compete in it?"""
+    smallest, _, _, shortest = meaning.first_competition()
+    if (a, n) != (smallest, len(shortest)):
         raise Wrong(f"wrong type or length of a witness: {a}, {n}")

@@ -15,6 +15,7 @@ LEAST = {
     "S random bytes": "1 0, 144 2, 16 3, 66 4, 11 6, 4 7, 1 8, 240 cases",
     "S damaged": "34 0, 62 2, 80 3, 82 4, 44 6, 10 7, 38 8, 2 9, 350 cases",
     "S random": "175 0, 30 8, 180 9, 385 cases",
+    "S words": "80 9, 80 cases",
     "C samples": "2 13, 1 14, 1 17, 68 lent, 3 lent refused, 14 ok, 46 type, 5 cases",
     "C no schema": "9 10, 2 18, 1 lent, 4 lent refused, 3 ok, 2 type, 2 cases",
     "C every refusal":
@@ -70,6 +71,7 @@ LEAST = {
     "J deep": "13 0, 36 12, 90 13, 65 14, 23 16, 17 17, 18 18, 99 19, 360 cases",
     "J big files": "1 0, 1 4, 29 5, 1 8, 1 13, 32 cases",
     "J sizes": "2 0, 1 2, 3 3, 1 5, 1 11, 1 14, 1 17, 1 18, 1 19, 3 too long, 12 cases",
+    "J words": "80 9, 80 cases",
     "V samples":
         "7 judge 0, 13 judge 1, 4 judge 10, 1 judge 8, 2 judge 9, 8 search 0, 13 search 1, 4 "
         "search 10, 2 search 9, 27 cases",
@@ -83,6 +85,7 @@ LEAST = {
     "V random":
         "115 judge 0, 42 judge 1, 5 judge 10, 17 judge 8, 20 judge 9, 132 search 0, 42 search 1, "
         "5 search 10, 20 search 9, 200 cases",
+    "V words": "80 judge 9, 80 search 9, 80 cases",
     "P pairs": "512 inside, 16 outside, 528 cases",
     "Q sets":
         "71 below no, 85 below yes, 123 has no, 33 has yes, 68 meets no, 87 meets yes, 156 cases",

@@ -9,8 +9,9 @@ A typed tree is (type, (child, child, ..)). Three facts make the listings whole.
  2. A type stands in a word of A over tree-bearing types exactly if a step by it leads from a state
     that such types come to from 0 to one from which they come to an accepting state.
  3. How a beginning of a word can go on depends on the states in which its paths end, and on
-    nothing else. So of beginnings whose paths end in the same states one is listed: two types
-    compete after it if they do after any of the others.
+    nothing else. So of beginnings whose paths end in the same states one is listed, a shortest:
+    two types compete after it if they do after any of the others. And the first listed after which
+    two compete is a shortest of all after which two do.
 
 The listing of 3 can grow beyond reason: `Meaning` counts the beginnings that it lists and raises
 TooMany above a limit, and a schema that does so is never made a case. The listings of whole trees,
@@ -18,10 +19,10 @@ which are compared with the answers beside that, end at a limit too.
 """
 
 from functools import lru_cache
-from itertools import product
+from itertools import islice, product
 
 from .tables import (MOST_BEGINNINGS, MOST_ELEMENTS, MOST_FORESTS, MOST_LAYER, MOST_LISTED_TREES,
-                     MOST_TREES, SCHEMA_QUESTIONS, TAKEN)
+                     MOST_OF_A_LENGTH, MOST_TREES, MOST_WORD, SCHEMA_QUESTIONS, TAKEN)
 
 
 class TooMany(Exception):
@@ -177,7 +178,19 @@ class Meaning:
             if self.left < 0:
                 raise TooMany
             yield w
-            todo += [w + (j,) for j in self.next_types(a, w)]
+            todo += self.one_longer(a, [w])
+
+    def one_longer(self, a, beginnings):
+        """The beginnings that these and one more type make."""
+        return [w + (j,) for w in beginnings for j in self.next_types(a, w)]
+
+    def by_length(self, a):
+        """All beginnings of words of a over tree-bearing types, a list for each length; it ends
+        before a length that has too many."""
+        longest = [()] if self.begins(a, ()) else []
+        while longest and len(longest) <= MOST_OF_A_LENGTH:
+            yield longest
+            longest = self.one_longer(a, longest)
 
     # Reached types and competition.
 
@@ -198,8 +211,8 @@ class Meaning:
         return [(j, k) for j in types for k in types if j < k and self.tag(j) == self.tag(k)]
 
     def competition(self, a):
-        """Two types that compete in a and the beginning after which, or None: each tag has one
-        type in a's words, or all beginnings were listed."""
+        """Two types that compete in a and a shortest beginning after which two do, or None: each
+        tag has one type in a's words, or all beginnings were listed."""
         types = self.types_in_words(a)
         if len({self.tag(j) for j in types}) == len(types):
             return None
@@ -209,13 +222,14 @@ class Meaning:
         return None
 
     def first_competition(self):
-        """The smallest reached type in which two compete, with them and the beginning; None if
-        there is none."""
+        """The smallest reached type in which two compete, two that do and a shortest beginning
+        after which two do; None if there is none."""
         reached = self.reached()
         for a in sorted(reached):
             found = self.competition(a)
             if found:
                 self.show_two_documents(reached, a, *found)
+                self.show_shortest(a, found[-1])
                 return (a, *found)
         return None
 
@@ -224,8 +238,7 @@ class Meaning:
         paths end in the same states one is listed."""
         layer = [()] if self.begins(a, ()) else []
         for _ in range(length):
-            longer = [w + (i,) for w in layer for i in self.next_types(a, w)]
-            layer = list({self.ends(a, w): w for w in longer}.values())
+            layer = list({self.ends(a, w): w for w in self.one_longer(a, layer)}.values())
             if len(layer) > MOST_LAYER:
                 raise Wrong("too many beginnings to confirm a witness")
         return any((j, k) in self.pairs_after(a, w) for w in layer)
@@ -237,6 +250,13 @@ class Meaning:
         if not (self.is_typing(one) and self.is_typing(other)
                 and agree_and_differ(self, one, other)):
             raise Wrong("a competition without two such documents")
+
+    def show_shortest(self, a, w):
+        """No two compete in a after a beginning of fewer types: all of these are looked at, as
+        long as there are not too many of one length."""
+        shorter = islice(self.by_length(a), len(w))
+        if len(w) > MOST_WORD or any(self.pairs_after(a, v) for words in shorter for v in words):
+            raise Wrong("a competition after a beginning that is not shortest")
 
     def document_tree(self, reached, a, beginning):
         """A valid typed tree that has, in an element of type a, children that begin so."""

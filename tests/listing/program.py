@@ -35,7 +35,7 @@ def refused_text(judged):
 
 
 def confirm_text(file, text):
-    """Is it the right text for a schema refused with 9, whichever choice it states?"""
+    """Is it the right text for a schema refused with 9, whichever J and K it states?"""
     judged = judge(file[:SCHEMA_BYTES])
     numbers = [int(word) for word in text.split() if word.isascii() and word.isdigit()]
     a, j, k, n = numbers[-4:] if len(numbers) == 6 else [None] * 4

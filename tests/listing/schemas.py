@@ -4,7 +4,8 @@ from .judged import judge
 from .meaning import Meaning, TooMany
 from .schema_file import Block, Schema, leaf, once, write
 from .tables import (COMPETITION, LONGEST_FILE, MOST_STATES, MOST_STEPS, MOST_TAGS, MOST_TYPES,
-                     MOST_WORD, TAKEN)
+                     TAKEN)
+from .words import long_way
 
 # By hand.
 
@@ -58,30 +59,6 @@ def cycles(m, n, early=0):
     steps += [(m + 1 + i, 1, m + 1 + (i + 1) % n) for i in range(n)]
     steps += [(m, 2, end), (m + n - early, 3, end)]
     return write(Schema(3, [Block(0, end + 1, [end], steps), leaf(1), leaf(2), leaf(2)]))
-
-
-def long_way():
-    """A shortest word of 527 types: every pair of states comes once on the way. Let d be the
-    distance of a pair and s = 31 the last state. Type 1 leads from each state to the next, so a
-    pair moves up at its distance until it has s in it. There it is {s - d, s}, and a type of its
-    own takes it to {0, d + 1}, the first pair of the next distance; from {s, s}, d = 0, to {0, 1}.
-    So the pairs come by rising distance, and at {0, s} types J from 0 and K from s compete.
-    No pair leads further ahead. For d up to 15 the type is 2, which leads from s - d to d + 1 and
-    from s to 0: two states s - d and s - e go to d + 1 and e + 1, of the same distance and not
-    higher than before. For d from 16 on the type is d - 13, which leads from s - d to 0 and from
-    s to d + 1; no other state has it, so a pair of any other two cannot take it."""
-    s, half = MOST_STATES - 1, MOST_STATES // 2
-    steps = [(p, 1, p + 1) for p in range(s)] + [(s, 2, 0)]
-    steps += [(s - d, 2, d + 1) for d in range(half)]
-    for d in range(half, s):
-        steps += [(s - d, d - half + 3, 0), (s, d - half + 3, d + 1)]
-    j = s - half + 3
-    steps += [(0, j, 0), (s, j + 1, 0)]
-    blocks = [Block(0, MOST_STATES, [0], steps)] + [leaf(a) for a in range(j)] + [leaf(j - 1)]
-    file = write(Schema(j, blocks))
-    a, _, _, w = judge(file).meaning.first_competition()
-    assert a == 0 and len(w) == MOST_WORD
-    return file
 
 
 def chain(depth, falling, tail):

@@ -15,6 +15,7 @@ SCHEMA_BYTES, EVENT_BYTES, PROGRAM_TYPES = 16384, 32768, 16384
 
 # How far is listed, and the rooms and lengths that a case has.
 MOST_BEGINNINGS = 1500      # of one schema's words
+MOST_OF_A_LENGTH = 200      # of one type's words, where all are listed
 MOST_ELEMENTS = 7           # of a listed document
 MOST_FORESTS, MOST_TREES, MOST_LISTED_TREES, MOST_LAYER = 3000, 250, 400, 20000
 MOST_WITNESS_ROOM, MOST_LENGTH = 600, 65535
