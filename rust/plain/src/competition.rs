@@ -27,7 +27,8 @@ impl Competition {
     }
 }
 
-/// A competition in the smallest type that has one, after a shortest word.
+/// A competition in the smallest type that has one, after a shortest of the words after which two
+/// types compete in that type.
 pub fn find(schema: &Schema, trimming: &Trimming) -> Option<Competition> {
     let mut queue = Queue::EMPTY;
     let counts = |&of: &Type| trimming.reached[usize::from(of)] && trimming.bears[usize::from(of)];
@@ -35,12 +36,15 @@ pub fn find(schema: &Schema, trimming: &Trimming) -> Option<Competition> {
     types.find_map(|within| queue.search(&trimming.rows, within))
 }
 
-/// Do the witness's types compete after its word, in the smallest type that has a competition?
+/// Do the witness's types compete after its word, in the smallest type that has a competition, and no
+/// two in that type after a shorter word?
 pub fn confirm(schema: &Schema, trimming: &Trimming, witness: &Witness) -> bool {
-    let is_smallest = |found: Competition| found.within == witness.within;
+    let is_least = |found: Competition| {
+        found.within == witness.within && found.word.len() == witness.word.len()
+    };
     has_form(schema, witness)
         && both_come(trimming, witness)
-        && find(schema, trimming).is_some_and(is_smallest)
+        && find(schema, trimming).is_some_and(is_least)
 }
 
 /// Are its types given, J less than K and of one tag, and the word not too long?
@@ -142,7 +146,9 @@ impl Queue {
         }
     }
 
-    /// Breadth first over the pairs of states that one word leads to in a type.
+    /// Breadth first over the pairs of states that one word leads to in a type: a pair is found by a
+    /// shortest word that leads to it, and pairs of shorter words come before those of longer ones. So
+    /// the first pair with rivals has a shortest word.
     fn search(&mut self, rows: &Rows, within: Type) -> Option<Competition> {
         self.restart();
         let mut place = 0;

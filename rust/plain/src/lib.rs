@@ -59,8 +59,8 @@ pub enum Job {
     },
 }
 
-/// Answers a schema file. On 9 the witness fills 5 + n bytes of the buffer; the rest of it, and on
-/// every other answer all of it, is unchanged.
+/// Answers a schema file. On 9 the witness, of a shortest word, fills 5 + n bytes of the buffer; the
+/// rest of it, and on every other answer all of it, is unchanged.
 pub fn check_schema(schema: &[u8], witness: &mut [u8]) -> SchemaAnswer {
     let mut stated = Schema::BLANK;
     let (number, place) = match accept(schema, witness, &mut stated) {
@@ -85,8 +85,9 @@ pub fn type_document(schema: &[u8], events: &[u8], witness: &mut [u8], types: &m
     }
 }
 
-/// Is this a witness of the schema that the file states? Its types compete after its word, and no two
-/// compete in a smaller type. No if the file states no schema, or one with no valid document.
+/// Is this a witness of the schema that the file states? Its types compete after its word, no two
+/// compete in a smaller type, and in the same type no two do after a shorter word. No if the file
+/// states no schema, or one with no valid document.
 pub fn competes(schema: &[u8], witness: &Witness) -> bool {
     let mut stated = Schema::BLANK;
     if schema_file::read(schema, &mut stated).is_err() {

@@ -2,6 +2,7 @@
 
 mod made_up;
 mod rows;
+mod shortest;
 
 use crate::codes::{CLOSE, FINISH, OPEN};
 use crate::competition::pair_number;
@@ -59,6 +60,17 @@ fn check(schema: &[u8]) -> (u8, usize, Vec<u8>) {
     };
     assert!(buffer[written..].iter().all(|&byte| byte == UNTOUCHED));
     (number, place, buffer[..written].to_vec())
+}
+
+/// Is it a witness of the schema that the file states?
+fn confirmed(schema: &[u8], within: u8, one: u8, other: u8, word: &[u8]) -> bool {
+    let witness = Witness {
+        within,
+        one,
+        other,
+        word,
+    };
+    competes(schema, &witness)
 }
 
 fn refused(schema: &[u8], number: u8, place: usize) {
@@ -172,25 +184,14 @@ fn states_apart_compete() {
     let owner: Block = (0, 4, &[3], &[(0, 1, 1), (0, 1, 2), (1, 2, 3), (2, 3, 3)]);
     let schema = file(3, &[owner, leaf(1), leaf(2), leaf(2)], 0);
     assert_eq!(check(&schema), (9, 0, hex("00 02 03 01 00 01")));
-    let confirmed = |within, one, other, word| {
-        competes(
-            &schema,
-            &Witness {
-                within,
-                one,
-                other,
-                word,
-            },
-        )
-    };
-    assert!(confirmed(0, 2, 3, &[1]));
-    assert!(!confirmed(0, 3, 2, &[1]));
-    assert!(!confirmed(0, 2, 3, &[]));
-    assert!(!confirmed(0, 2, 3, &[1, 1]));
-    assert!(!confirmed(0, 2, 3, &[200]));
-    assert!(!confirmed(1, 2, 3, &[1]));
-    assert!(!confirmed(0, 1, 2, &[1]));
-    assert!(!confirmed(0, 2, 200, &[1]));
+    assert!(confirmed(&schema, 0, 2, 3, &[1]));
+    assert!(!confirmed(&schema, 0, 3, 2, &[1]));
+    assert!(!confirmed(&schema, 0, 2, 3, &[]));
+    assert!(!confirmed(&schema, 0, 2, 3, &[1, 1]));
+    assert!(!confirmed(&schema, 0, 2, 3, &[200]));
+    assert!(!confirmed(&schema, 1, 2, 3, &[1]));
+    assert!(!confirmed(&schema, 0, 1, 2, &[1]));
+    assert!(!confirmed(&schema, 0, 2, 200, &[1]));
 }
 
 #[test]
@@ -429,15 +430,7 @@ fn the_smallest_type_that_has_competition() {
     // Type 1 is never reached, so type 2 is the smallest.
     let schema = file(3, &[chain, bad, bad, leaf(2), leaf(2)], 0);
     assert_eq!(check(&schema), (9, 0, hex("02 03 04 00 00")));
-    assert!(!competes(
-        &schema,
-        &Witness {
-            within: 1,
-            one: 3,
-            other: 4,
-            word: &[]
-        }
-    ));
+    assert!(!confirmed(&schema, 1, 3, 4, &[]));
     // Without it there is none.
     accepted(&file(3, &[leaf(0), bad, bad, leaf(2), leaf(2)], 0));
 }
