@@ -1,5 +1,5 @@
-//! Schemas in which two types compete only after a long word: the two states from which they come are
-//! reached together, but late.
+//! Schemas in which two types compete only after a long word, since the two states from which they
+//! come are reached together, but late; and schemas with longer and shorter words.
 
 use crate::chance::Chance;
 use crate::model::{Model, Type};
@@ -55,6 +55,51 @@ pub fn two_rings(chance: &mut Chance) -> Model {
     owner.add(chance.small(1..=first), ONE, 0);
     owner.add(chance.small(1 + first..=first + second), OTHER, 0);
     under_a_root(chance, owner)
+}
+
+/// A type with ways of two lengths, or two such types.
+pub fn ways(chance: &mut Chance) -> Model {
+    let owner = two_ways(chance);
+    let mut model = under_a_root(chance, owner);
+    if chance.percent(50) {
+        let mut beside = two_ways(chance);
+        beside.tag = model.tags;
+        model.tags += 1;
+        let number = model.types.len() as u8;
+        model.types.push(beside);
+        let root = &mut model.types[usize::from(model.root)];
+        root.add(0, number, root.states - 1);
+    }
+    model
+}
+
+/// Two ways to a state and some steps beside them; from there, and perhaps from any others, the two
+/// types that may compete lead to the end.
+fn two_ways(chance: &mut Chance) -> Type {
+    let most = if chance.once_in(8) { 15 } else { 6 };
+    let (one, other) = (chance.small(1..=most), chance.small(1..=most));
+    let meeting = one + other - 1;
+    let end = meeting + 1;
+    let by = [TURN, NUDGE, PART];
+    let mut owner = Type::new(0, end + 1).accepts(end);
+    for way in [1..one, one..meeting] {
+        let mut state = 0;
+        for next in way.chain([meeting]) {
+            owner.add(state, chance.of(&by), next);
+            state = next;
+        }
+    }
+    for _ in 0..chance.within(0..=4) {
+        let (from, to) = (chance.small(0..=meeting), chance.small(0..=meeting));
+        owner.add(from, chance.of(&by), to);
+    }
+    for of in [ONE, OTHER] {
+        owner.add(meeting, of, end);
+        if chance.once_in(3) {
+            owner.add(chance.small(0..=meeting), of, end);
+        }
+    }
+    owner
 }
 
 /// The owner of five leaves, of which the last two have one tag or, sometimes, two; at the root or below it.

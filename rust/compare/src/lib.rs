@@ -16,5 +16,5 @@ mod tally;
 
 pub use chance::Chance;
 pub use input::Input;
-pub use side_by_side::{Answers, compare};
+pub use side_by_side::{Answers, Fixed, compare};
 pub use tally::Tally;

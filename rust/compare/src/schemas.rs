@@ -38,13 +38,14 @@ const LIMITS: Size = Size {
 pub fn schema(chance: &mut Chance) -> Model {
     let size = size(chance);
     let mut model = match chance.below(100) {
-        0..40 => by_tag(chance, size),
-        40..62 => any(chance, size),
-        62..70 => one_type_a_tag(chance, size),
-        70..80 => nesting(chance, size),
-        80..86 => chain(chance, size),
-        86..93 => far_words::turning(chance),
-        93..96 => far_words::two_rings(chance),
+        0..36 => by_tag(chance, size),
+        36..58 => any(chance, size),
+        58..66 => one_type_a_tag(chance, size),
+        66..76 => nesting(chance, size),
+        76..82 => chain(chance, size),
+        82..89 => far_words::turning(chance),
+        89..92 => far_words::two_rings(chance),
+        92..96 => far_words::ways(chance),
         _ => at_limits(chance),
     };
     if !chance.once_in(6) {

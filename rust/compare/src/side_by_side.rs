@@ -12,6 +12,15 @@ pub struct Answers {
     /// Number and place of the schema file alone.
     pub schema: (u8, usize),
     pub job: Job,
+    /// On 9, what the schema fixes of the witness.
+    pub witness: Option<Fixed>,
+}
+
+/// The type in which two compete, and the length of the word: five bytes more are filled.
+#[derive(Debug, Clone, Copy, PartialEq, Eq)]
+pub struct Fixed {
+    pub within: u8,
+    pub length: usize,
 }
 
 /// The functions that both crates have.
@@ -154,7 +163,7 @@ impl Lent {
 fn run<I: Implementation>(before: &Lent) -> Result<(Answers, Vec<u8>), String> {
     let mut after = before.clone();
     let schema = I::check_schema(after.schema.inner(), after.witness.inner_mut());
-    check_written::<I>(schema.0, 0, before, &after)?;
+    let witness_alone = check_written::<I>(schema.0, 0, before, &after)?;
 
     let Lent {
         schema: schema_file,
@@ -178,20 +187,26 @@ fn run<I: Implementation>(before: &Lent) -> Result<(Answers, Vec<u8>), String> {
         Job::SchemaRefused { number, .. } => (number, 0),
         Job::EventsRead { count, .. } => (NONE, count),
     };
-    check_written::<I>(number, count, before, &after)?;
-    Ok((
-        Answers { schema, job },
-        after.types.inner()[..count].to_vec(),
-    ))
+    let witness = check_written::<I>(number, count, before, &after)?;
+    if witness != witness_alone {
+        return Err(format!("{}: two calls with other witnesses", I::NAME));
+    }
+    let answers = Answers {
+        schema,
+        job,
+        witness,
+    };
+    Ok((answers, after.types.inner()[..count].to_vec()))
 }
 
-/// Is nothing written but, on 9, a witness and, for the openings taken, their types?
+/// Is nothing written but, on 9, a witness and, for the openings taken, their types? What the schema
+/// fixes of the witness.
 fn check_written<I: Implementation>(
     number: u8,
     count: usize,
     before: &Lent,
     after: &Lent,
-) -> Result<(), String> {
+) -> Result<Option<Fixed>, String> {
     let fault = |what: &str| Err(format!("{}: schema answered {number}, {what}", I::NAME));
     if after.schema != before.schema || after.events != before.events {
         return fault("a file changed");
@@ -202,21 +217,25 @@ fn check_written<I: Implementation>(
     if !after.types.unchanged_but(count, &before.types) {
         return fault("bytes changed besides the types of the openings");
     }
-    let length = match number {
+    let witness = match number {
         COMPETITION => match check_witness(after) {
-            Ok(length) => length,
+            Ok(witness) => Some(witness),
             Err(what) => return fault(what),
         },
-        _ => 0,
+        _ => None,
     };
-    if !after.witness.unchanged_but(length, &before.witness) {
+    let filled = witness.map_or(0, |witness| witness.length());
+    if !after.witness.unchanged_but(filled, &before.witness) {
         return fault("bytes changed besides the witness");
     }
-    Ok(())
+    Ok(witness.map(|witness| Fixed {
+        within: witness.within,
+        length: witness.word.len(),
+    }))
 }
 
-/// The length of the witness, if its types compete.
-fn check_witness(lent: &Lent) -> Result<usize, &'static str> {
+/// The witness, if its types compete and its word is a shortest.
+fn check_witness(lent: &Lent) -> Result<Witness<'_>, &'static str> {
     let bytes = lent.witness.inner();
     let witness = Witness::from_bytes(bytes).ok_or("no witness in the buffer")?;
     let parts = typestock::witness(bytes).map(|w| (w.within, w.one, w.other, w.word));
@@ -224,7 +243,7 @@ fn check_witness(lent: &Lent) -> Result<usize, &'static str> {
         return Err("the parts of the witness differ");
     }
     if !plain::competes(lent.schema.inner(), &witness) {
-        return Err("the types of the witness do not compete");
+        return Err("the types of the witness do not compete, or not after a shortest word");
     }
-    Ok(witness.length())
+    Ok(witness)
 }

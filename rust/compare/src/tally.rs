@@ -4,9 +4,8 @@ use std::fmt;
 
 use crate::input::Input;
 use crate::side_by_side::Answers;
-use plain::limits::WITNESS;
+use plain::Job;
 use plain::questions::{COMPETITION, FINISHED, NO_ROOM, NONE};
-use plain::{Job, Witness};
 
 /// How many numbers a schema file and an event file are answered with, 0 among them.
 const SCHEMAS: usize = COMPETITION as usize + 1;
@@ -38,8 +37,8 @@ impl Tally {
             self.deepest = self.deepest.max(levels.max().unwrap_or(0));
             self.longest_schema = self.longest_schema.max(input.schema.len());
         }
-        if answers.schema.0 == COMPETITION {
-            self.longest_word = self.longest_word.max(length_of_word(input));
+        if let Some(witness) = answers.witness {
+            self.longest_word = self.longest_word.max(witness.length);
         }
     }
 
@@ -67,17 +66,10 @@ impl Tally {
         schemas.chain(events.map(|number| ("events", number, self.events[number])))
     }
 
-    /// The longest word of a witness that the plain implementation found.
+    /// The longest word of a witness.
     pub fn longest_word(&self) -> usize {
         self.longest_word
     }
-}
-
-/// The length of the word of the plain implementation's witness, which is a shortest one.
-fn length_of_word(input: &Input) -> usize {
-    let mut buffer = [0; WITNESS];
-    plain::check_schema(&input.schema, &mut buffer);
-    Witness::from_bytes(&buffer).map_or(0, |witness| witness.word.len())
 }
 
 impl fmt::Display for Tally {

@@ -1,6 +1,6 @@
 //! Inputs at the edges of the file forms and of the lent buffers.
 
-use compare::{Answers, Chance, Input, compare};
+use compare::{Answers, Chance, Fixed, Input, compare};
 use plain::Job;
 use plain::codes::{CLOSE, FINISH, OPEN};
 use plain::limits::WITNESS;
@@ -57,6 +57,34 @@ fn a_word_that_fills_the_witness_buffer() {
     let found = typestock::witness(&buffer).expect("a witness");
     assert_eq!((found.within, found.one, found.other), (0, 4, 5));
     assert_eq!(found.word.len(), 527);
+}
+
+/// In type 0 types 1 and 2 compete after five of type 3 and after two of type 4. In type 3 they
+/// compete at once. The steps stand in this order or the other way round.
+fn two_ways(turned: bool) -> Vec<u8> {
+    let mut steps = [[0, 3, 1], [1, 3, 2], [2, 3, 3], [3, 3, 4], [4, 3, 6]].to_vec();
+    steps.extend([[0, 4, 5], [5, 4, 6], [6, 1, 7], [6, 2, 7]]);
+    if turned {
+        steps.reverse();
+    }
+    let mut schema = vec![0x10, 4, 0x11, 0, 8, 0x12, 7];
+    for [from, by, to] in steps {
+        schema.extend([0x13, from, by, to]);
+    }
+    schema.extend([0x11, 1, 1, 0x12, 0].repeat(2));
+    schema.extend([0x11, 2, 2, 0x12, 1, 0x13, 0, 1, 1, 0x13, 0, 2, 1]);
+    schema.extend([0x11, 3, 1, 0x12, 0, 0x14, 0, 0x1F]);
+    schema
+}
+
+#[test]
+fn words_are_shortest_in_the_smallest_type() {
+    let fixed = |schema: &[u8]| both(schema, &[], WITNESS, 0).witness;
+    let after = |length| Some(Fixed { within: 0, length });
+    assert_eq!(fixed(&two_ways(false)), after(2));
+    assert_eq!(fixed(&two_ways(true)), after(2));
+    assert_eq!(fixed(&longest_word()), after(527));
+    assert_eq!(fixed(&NESTING), None);
 }
 
 #[test]
