@@ -5,36 +5,34 @@ use Prim.Native.Nat.{ℕ}
 use Rattle.sdtd.specs.Schema.{Step, step, Schema, blockOf, tagOf}
 use Rattle.sdtd.specs.Trim.{Bears, Live, Useful}
 use Rattle.sdtd.specs.Competition.{CompeteIn, Competition}
-use Rattle.sdtd.proofs.Fixpoint.{PairReached}
 use Rattle.sdtd.proofs.Rivals.{RivalsIn, compete-in-exact}
 use Rattle.sdtd.proofs.Tests.{means-iff, Decision, decision, decided, eq-means, and-means, not-means, Found, any-means, memb-means}
 use Rattle.sdtd.proofs.LiveStates.{live-table}
 use Rattle.sdtd.proofs.StatePairs.{pair-table}
 use Rattle.sdtd.proofs.ReachedTypes.{reached-table, useful-decided}
 
--- the steps leave a reached pair of states, by different tree-bearing types of one tag, for live states
-abbrev AreRivals : Schema → ℕ → Step → Step → Type 0
-AreRivals S a s u =
-    (PairReached S a (s .from) (u .from) × (s .by ≢ u .by))
-    × ((tagOf S (s .by) ≡ tagOf S (u .by)) × ((Bears S (s .by) × Bears S (u .by)) × (Live S a (s .to) × Live S a (u .to))))
+module _ (S : Schema) (a : ℕ) {P : ℕ → ℕ → Type 0} (d : (p q : ℕ) → Decision (P p q)) where
+  -- the steps leave a pair of states with P, by different tree-bearing types of one tag, for live states
+  abbrev AreRivals : Step → Step → Type 0
+  AreRivals s u =
+      (P (s .from) (u .from) × (s .by ≢ u .by))
+      × ((tagOf S (s .by) ≡ tagOf S (u .by)) × ((Bears S (s .by) × Bears S (u .by)) × (Live S a (s .to) × Live S a (u .to))))
 
-are-rivals : (S : Schema) (a : ℕ) (s u : Step) → Decision (AreRivals S a s u)
-are-rivals S a s u =
-    let x = live-table S .1 in
-    let different = and-means (pair-table S a .1 (s .from) (u .from)) (not-means (eq-means (s .by) (u .by))) in
-    let bear = and-means (x .bears (s .by)) (x .bears (u .by)) in
-    let live = and-means (x .live a (s .to)) (x .live a (u .to)) in
-    decision (and-means different (and-means (eq-means (tagOf S (s .by)) (tagOf S (u .by))) (and-means bear live)))
+  are-rivals : (s u : Step) → Decision (AreRivals s u)
+  are-rivals s u =
+      let x = live-table S .1 in
+      let different = and-means (d (s .from) (u .from) .1) (not-means (eq-means (s .by) (u .by))) in
+      let bear = and-means (x .bears (s .by)) (x .bears (u .by)) in
+      let live = and-means (x .live a (s .to)) (x .live a (u .to)) in
+      decision (and-means different (and-means (eq-means (tagOf S (s .by)) (tagOf S (u .by))) (and-means bear live)))
 
--- two steps of a useful type are rivals
-abbrev RivalPair : Schema → ℕ → Type 0
-RivalPair S a = Useful S a × Found (λ s. Found (λ u. AreRivals S a s u) (blockOf S a .steps)) (blockOf S a .steps)
+  -- two steps of a useful type are rivals
+  abbrev RivalPair : Type 0
+  RivalPair = Useful S a × Found (λ s. Found (AreRivals s) (blockOf S a .steps)) (blockOf S a .steps)
 
-rival-pair : (S : Schema) (a : ℕ) → CompeteIn S a ↔ RivalPair S a
-rival-pair S a = (λ c. found (compete-in-exact .0 c), λ p. compete-in-exact .1 (rivals-in p))
-  where
-    found : RivalsIn S a → RivalPair S a
-    found r =
+  rival-pair : RivalsIn S a P ↔ RivalPair
+  rival-pair = (
+    λ r.
         let v = r .rivals in (
           r .useful,
           record {
@@ -47,10 +45,8 @@ rival-pair S a = (λ c. found (compete-in-exact .0 c), λ p. compete-in-exact .1
                   holds = ((r .pair, r .different), (v .one-tag, ((v .bears-j, v .bears-k), (v .live-j, v .live-k))));
                 };
           },
-        )
-
-    rivals-in : RivalPair S a → RivalsIn S a
-    rivals-in p =
+        ),
+    λ p.
         let s = p .1 .member in
         let f = p .1 .holds in
         let u = f .member in
@@ -75,13 +71,18 @@ rival-pair S a = (λ c. found (compete-in-exact .0 c), λ p. compete-in-exact .1
                 live-k = h .1 .1 .1;
               };
           different = f .holds .0 .1;
-        }
+        },
+  )
+
+  -- where P is decided, so is it whether a pair with P has rival steps by different types
+  pub rivals-decided : Decision (RivalsIn S a P)
+  rivals-decided =
+      let steps = blockOf S a .steps in
+      let found = any-means (λ s. any-means (λ u. are-rivals s u .1) steps) steps in
+      decision (means-iff (and-means (useful-decided S a .1) found) rival-pair)
 
 competes : (S : Schema) (a : ℕ) → Decision (CompeteIn S a)
-competes S a =
-    let steps = blockOf S a .steps in
-    let found = any-means (λ s. any-means (λ u. are-rivals S a s u .1) steps) steps in
-    decision (means-iff (and-means (useful-decided S a .1) found) (rival-pair S a))
+competes S a = decision (means-iff (rivals-decided S a (λ p q. decision (pair-table S a .1 p q)) .1) compete-in-exact)
 
 pub compete-decided : (S : Schema) (a : ℕ) → CompeteIn S a ⊎ (¬ CompeteIn S a)
 compete-decided S a = decided (competes S a .1)

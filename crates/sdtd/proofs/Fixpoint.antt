@@ -1,9 +1,11 @@
 -- Live states, reached types and reached pairs of states are least fixpoints: a table that is closed under their rules holds all of them,
 -- and one that is sound too holds nothing else.
-use mathlib.Core.Path.{refl, subst}
+use mathlib.Core.Path.{_≡_, refl, subst, _∙_}
 use mathlib.Core.Logic.{_↔_}
 use mathlib.Core.List.{List, [], _∷_, _++_, List·Memᴰ, List·Memᴰ·head, Memᴰ·append-right}
-use Prim.Native.Nat.{ℕ}
+use Prim.Native.Nat.{ℕ, suc, _+_}
+use native.Mathlib.Omega.{arith}
+use lib.ListN.{length, length-append}
 use Rattle.sdtd.specs.Schema.{Step, step, Schema, blockOf, Leads, stay, go, Word}
 use Rattle.sdtd.specs.Tree.{Tree, Forest, node, empty, more, label, labels, IsRoot, Derived, DerivedAll}
 use Rattle.sdtd.specs.Trim.{Bears, All, none, both, AllBear, Live, Reached, root, child}
@@ -176,6 +178,11 @@ pub record PairReached (S : Schema) (a p q : ℕ) : Type 0 where
   pub right : Leads (blockOf S a) 0 word q
   pub bear : AllBear S word
 
+-- Such a word of n types leads to both.
+pub record PairOfLength (S : Schema) (a n p q : ℕ) : Type 0 where
+  pub pair : PairReached S a p q
+  pub long : length (pair .word) ≡ n
+
 -- P holds for the start state twice, and after two steps by one tree-bearing type from a pair that has it.
 pub record PairClosed (S : Schema) (a : ℕ) (P : ℕ → ℕ → Type 0) : Type 0 where
   pub start : P 0 0
@@ -183,30 +190,60 @@ pub record PairClosed (S : Schema) (a : ℕ) (P : ℕ → ℕ → Type 0) : Type
       (p q j p′ q′ : ℕ) → P p q → List·Memᴰ (step p j p′) (blockOf S a .steps)
       → List·Memᴰ (step q j q′) (blockOf S a .steps) → Bears S j → P p′ q′
 
-module _ {S : Schema} {a : ℕ} {P : ℕ → ℕ → Type 0} (closed : PairClosed S a P) where
-  pair-along :
-      {p q r s : ℕ} {w : List ℕ} → Leads (blockOf S a) p w r → Leads (blockOf S a) q w s → AllBear S w → P p q → P r s
-  pair-along stay stay b h = h
-  pair-along (go {p = p} {j = j} {q = p′} m l) (go {p = q} {q = q′} n k) (both b c) h =
-      pair-along l k c (closed .step p q j p′ q′ h m n b)
+-- The same of a property that counts the steps.
+pub record CountedClosed (S : Schema) (a : ℕ) (P : ℕ → ℕ → ℕ → Type 0) : Type 0 where
+  pub start : P 0 0 0
+  pub step :
+      (n p q j p′ q′ : ℕ) → P n p q → List·Memᴰ (step p j p′) (blockOf S a .steps)
+      → List·Memᴰ (step q j q′) (blockOf S a .steps) → Bears S j → P (suc n) p′ q′
 
-  -- a closed table has every reached pair
-  pub pair-complete : (p q : ℕ) → PairReached S a p q → P p q
-  pair-complete p q r = pair-along (r .left) (r .right) (r .bear) (closed .start)
+module _ {S : Schema} {a : ℕ} {P : ℕ → ℕ → ℕ → Type 0} (closed : CountedClosed S a P) where
+  counted-along :
+      (n m : ℕ) {p q r s : ℕ} {w : List ℕ} → n + length w ≡ m → Leads (blockOf S a) p w r → Leads (blockOf S a) q w s → AllBear S w
+      → P n p q → P m r s
+  counted-along n m {r = r} {s} e stay stay b h = subst (λ (i : ℕ). P i r s) (omega arith) h
+  counted-along n m e (go {p = p} {j = j} {q = p′} x l) (go {p = q} {q = q′} y k) (both b c) h =
+      counted-along (suc n) m (omega arith) l k c (closed .step n p q j p′ q′ h x y b)
 
--- the reached pairs are closed
+  -- a closed table with counts has, at n, every pair that a word of n types reaches
+  pub counted-complete : (n p q : ℕ) → PairOfLength S a n p q → P n p q
+  counted-complete n p q r =
+      counted-along 0 n (omega (arith, r .long)) (r .pair .left) (r .pair .right) (r .pair .bear) (closed .start)
+
+-- a closed table has every reached pair
+pub pair-complete : {S : Schema} {a : ℕ} {P : ℕ → ℕ → Type 0} → PairClosed S a P → (p q : ℕ) → PairReached S a p q → P p q
+pair-complete {P = P} closed p q r =
+    counted-complete {P = λ n. P} (record { start = closed .start; step = λ n. closed .step })
+    (length (r .word)) p q (record { pair = r; long = refl })
+
+-- the reached pairs are closed, counted by the lengths of their words
+pub counted-closed : {S : Schema} {a : ℕ} → CountedClosed S a (PairOfLength S a)
+counted-closed =
+    record {
+      start = record { pair = record { word = []; left = stay; right = stay; bear = none }; long = refl };
+      step =
+          λ n p q j p′ q′ r k l b.
+          let x = r .pair in
+          record {
+            pair =
+                record {
+                  word = x .word ++ (j ∷ []);
+                  left = leads-append (x .left) (go k stay);
+                  right = leads-append (x .right) (go l stay);
+                  bear = all-append (x .bear) (both b none);
+                };
+            long = length-append (x .word) (j ∷ []) ∙ omega (arith, r .long);
+          };
+    }
+
+-- .. and uncounted
 pub pair-closed : {S : Schema} {a : ℕ} → PairClosed S a (PairReached S a)
 pair-closed =
     record {
-      start = record { word = []; left = stay; right = stay; bear = none };
+      start = counted-closed .start .pair;
       step =
-          λ p q j p′ q′ r m n b.
-          record {
-            word = r .word ++ (j ∷ []);
-            left = leads-append (r .left) (go m stay);
-            right = leads-append (r .right) (go n stay);
-            bear = all-append (r .bear) (both b none);
-          };
+          λ p q j p′ q′ r k l b.
+          counted-closed .step (length (r .word)) p q j p′ q′ (record { pair = r; long = refl }) k l b .pair;
     }
 
 -- a sound and closed table has exactly the reached pairs

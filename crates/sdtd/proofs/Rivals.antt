@@ -117,34 +117,39 @@ pub different-word :
 unfolding different-compete
 different-word u r s d = refl
 
--- Rival steps by different types at a reached pair of a useful type.
-pub record RivalsIn (S : Schema) (a : ℕ) : Type 0 where
+-- Rival steps by different types at a pair of states with P, in a useful type.
+pub record RivalsIn (S : Schema) (a : ℕ) (P : ℕ → ℕ → Type 0) : Type 0 where
   pub useful : Useful S a
   pub p : ℕ
   pub q : ℕ
   pub j : ℕ
   pub k : ℕ
-  pub pair : PairReached S a p q
+  pub pair : P p q
   pub rivals : RivalSteps S a p q j k
   pub different : j ≢ k
 
--- types compete in a exactly if there are such steps
-pub compete-in-exact : {S : Schema} {a : ℕ} → CompeteIn S a ↔ RivalsIn S a
-compete-in-exact {S} {a} = (rivals-in, λ r. different-compete (r .useful) (r .pair) (r .rivals) (r .different))
-  where
-    rivals-in : CompeteIn S a → RivalsIn S a
-    rivals-in c =
-        let r = compete-rivals (c .compete) in
-        record {
-          useful = (c .compete .reached, c .compete .bears);
-          p = r .p;
-          q = r .q;
-          j = c .first;
-          k = c .second;
-          pair = record { word = c .word; left = r .left; right = r .right; bear = r .bear };
-          rivals = r .rivals;
-          different = omega arith;
-        }
+-- Types that compete in a have such steps, where P holds for each pair that their word leads to.
+pub rivals-in : {S : Schema} {a : ℕ} (P : ℕ → ℕ → Type 0) (c : CompeteIn S a)
+    → ((p q : ℕ) (r : PairReached S a p q) → r .word ≡ c .word → P p q) → RivalsIn S a P
+rivals-in P c h =
+    let r = compete-rivals (c .compete) in
+    record {
+      useful = (c .compete .reached, c .compete .bears);
+      p = r .p;
+      q = r .q;
+      j = c .first;
+      k = c .second;
+      pair = h (r .p) (r .q) (record { word = c .word; left = r .left; right = r .right; bear = r .bear }) refl;
+      rivals = r .rivals;
+      different = omega arith;
+    }
+
+-- types compete in a exactly if a reached pair has such steps
+pub compete-in-exact : {S : Schema} {a : ℕ} → CompeteIn S a ↔ RivalsIn S a (PairReached S a)
+compete-in-exact {S} {a} = (
+  λ c. rivals-in (PairReached S a) c (λ p q r e. r),
+  λ r. different-compete (r .useful) (r .pair) (r .rivals) (r .different),
+)
 
 -- where no pair of a closed table has rival steps by different types, no types compete
 pub no-rivals :
