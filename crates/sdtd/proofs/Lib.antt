@@ -33,8 +33,10 @@ pub mod LiveStates
 pub mod StatePairs
 pub mod ReachedTypes
 pub mod Competing
+pub mod Shortest
 pub mod Witnesses
 pub mod Candidates
+pub mod SampleRivals
 pub mod SampleSchemas
 pub mod Model
 pub mod Samples

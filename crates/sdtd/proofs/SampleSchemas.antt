@@ -1,5 +1,5 @@
 -- The schemas of the starred samples: which are accepted, which types compete in the others, and which bears no tree.
-use mathlib.Core.Path.{_≡_, refl}
+use mathlib.Core.Path.{_≡_, refl, ap}
 use mathlib.Core.Bool.{Bool, _&&_}
 use mathlib.Core.List.{List, [], _∷_, _++_}
 use Prim.Native.Nat.{ℕ, _≤_, _<_}
@@ -10,7 +10,7 @@ use Rattle.sdtd.specs.Limits.{mostWord}
 use Rattle.sdtd.specs.Schema.{Schema, blockOf, tagOf}
 use Rattle.sdtd.specs.Tree.{IsRoot}
 use Rattle.sdtd.specs.Trim.{AllBear, none, both, root}
-use Rattle.sdtd.specs.Competition.{GoesOn, Accepted, witnessBytes}
+use Rattle.sdtd.specs.Competition.{GoesOn, Compete, Accepted, witnessBytes}
 use Rattle.sdtd.specs.Samples.{schemaR, schemaChoice, schemaNoD, schemaTwoWays, schemaTwoTypes, schemaLastButOne}
 use Rattle.sdtd.specs.Samples.{schemaOptional, schemaEndless, schemaNested, witnessChoice, witnessTwoWays, refuses-8, refuses-9, Holds}
 use Rattle.sdtd.proofs.Bearing.{word-bears}
@@ -18,6 +18,7 @@ use Rattle.sdtd.proofs.Tests.{itself, and-means, every}
 use Rattle.sdtd.proofs.Within.{limitsCheck, limits-means}
 use Rattle.sdtd.proofs.Decide.{LiveTable, bearsIn, LiveExact, rootBears, root-bears-means, live-check, acceptsb, accepts-means}
 use Rattle.sdtd.proofs.Decide.{restrained, restrained-check}
+use Rattle.sdtd.proofs.SampleRivals.{ways-only}
 
 -- inside the limits, the root type bears a tree and the certificate of pairs passes
 accepted : {S : Schema} {L : LiveTable} → LiveExact S L → (pairs : List (List (ℕ × ℕ)))
@@ -83,12 +84,14 @@ goes-on-by-test {S} {L} x a w j u t =
     let r = and-means (accepts-means (blockOf S a) (w ++ (j ∷ u))) (itself (every (bearsIn S L) (w ++ (j ∷ u)))) .says t in
     record { rest = u; word = r .0; bear = all-bear x (w ++ (j ∷ u)) (r .1) }
 
--- inside the limits, the root type bears a tree, and j and k compete in the type 0, which the root may have, after w, before u and v
+-- inside the limits, the root type bears a tree, j and k compete in the type 0, which the root may have, after w, before u and v, and no
+-- types compete in it after a shorter word
 root-witness : {S : Schema} {L : LiveTable} → LiveExact S L → (j k : ℕ) (w u v : List ℕ)
     → IsRoot S 0 → j < k → tagOf S j ≡ tagOf S k → length w ≤ mostWord
+    → ((v : List ℕ) (m n : ℕ) → Compete S 0 v m n → length w ≤ length v)
     → T (limitsCheck S && rootBears S L && (goesOn S L 0 w j u && goesOn S L 0 w k v))
     → Holds (refuses-9 S (witnessBytes 0 j k w))
-root-witness {S} {L} x j k w u v is-root order one-tag short t =
+root-witness {S} {L} x j k w u v is-root order one-tag short least t =
     let goes = and-means (itself (goesOn S L 0 w j u)) (itself (goesOn S L 0 w k v)) in
     let r = and-means (and-means (limits-means S) (root-bears-means x)) goes .says t in
     let goes-j = goes-on-by-test x 0 w j u (r .1 .0) in (
@@ -109,6 +112,7 @@ root-witness {S} {L} x j k w u v is-root order one-tag short t =
               goes-on-k = goes-on-by-test x 0 w k v (r .1 .1);
             };
         smallest = λ a c. omega arith;
+        shortest = λ other. omega (arith, least (other .word) (other .first) (other .second) (other .compete));
         short = short;
         written = refl;
       },
@@ -118,13 +122,13 @@ pub refusedChoice : Holds (refuses-9 schemaChoice witnessChoice)
 refusedChoice =
     root-witness
     (live-check schemaChoice ((0, 0) ∷ (0, 1) ∷ (1, 0) ∷ (1, 1) ∷ (2, 0) ∷ (2, 1) ∷ (3, 0) ∷ (4, 0) ∷ []) tt)
-    1 2 [] [] [] refl (lit< tt) refl (lit≤ tt) tt
+    1 2 [] [] [] refl (lit< tt) refl (lit≤ tt) (λ v m n c. omega arith) tt
 
 pub refusedTwoWays : Holds (refuses-9 schemaTwoWays witnessTwoWays)
 refusedTwoWays =
     root-witness
     (live-check schemaTwoWays ((0, 0) ∷ (0, 1) ∷ (0, 2) ∷ (0, 3) ∷ (1, 0) ∷ (2, 0) ∷ (3, 0) ∷ []) tt)
-    2 3 (1 ∷ []) [] [] refl (lit< tt) refl (lit≤ tt) tt
+    2 3 (1 ∷ []) [] [] refl (lit< tt) refl (lit≤ tt) (λ v m n c. omega (arith, ap length (ways-only v m n c .0))) tt
 
 pub bearsNoneEndless : Holds (refuses-8 schemaEndless)
 bearsNoneEndless = (limits-means schemaEndless .says tt, λ b. root-bears-means (live-check schemaEndless ((0, 1) ∷ []) tt) .passes b)
