@@ -2,6 +2,7 @@
 pub mod Answered
 pub mod FileAnswers
 pub mod OneResult
+pub mod OneWitness
 pub mod FileExists
 pub mod FileSamples
 pub mod Longest
