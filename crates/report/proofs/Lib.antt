@@ -3,5 +3,5 @@ pub mod LineLaws
 pub mod OpeningLaws
 pub mod ReportLaws
 pub mod TextLengths
-pub mod PrintedLaws
 pub mod WitnessLaws
+pub mod PrintedLaws

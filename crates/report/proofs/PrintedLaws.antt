@@ -1,9 +1,9 @@
 -- Texts that are printed for the same files, and the texts of document 01.
 use mathlib.Core.Path.{_≡_, refl, sym, ap, subst, _∙_}
-use mathlib.Core.Logic.{_≢_}
+use mathlib.Core.Logic.{_⊎_, inl, inr, ⊎-elim, _≢_}
 use mathlib.Core.List.{List, _++_}
 use Prim.Native.Nat.{ℕ, _≤_}
-use native.Mathlib.Decide.{decLe}
+use native.Mathlib.Decide.{decLe, ℕ-discrete}
 use native.Mathlib.Omega.{arith}
 use borrow.Author.Tests.{ne-eqb}
 use lib.ListN.{length, take, drop, replicate, length-append, length-replicate}
@@ -26,6 +26,7 @@ use Rattle.text.specs.Decimal.{decimal}
 use Rattle.report.specs.Text.{refusalLine, rivals, witnessLine, openingLine, lastLine, textOf}
 use Rattle.report.specs.Report.{mostSchema, mostEvents, typesHeld, JobPrinted, Printed}
 use Rattle.report.specs.Samples.{PrintedSamples}
+use Rattle.report.proofs.WitnessLaws.{NineTexts, nine-texts}
 
 -- only a refusal with 9 prints of the witness
 by-types : (events types v w : List ℕ) (job : Job) → ((p : ℕ) → ¬ (job ≡ SchemaRefused 9 p))
@@ -50,22 +51,36 @@ job-answer {file} {wasWitness = was} {n = n} {p} j = by (j .file .answer) refl
         let (e, s, m) = j .accepted q in
         let z : _≡_ {A = ℕ} 0 1 = cc in absurd (omega arith)
 
--- Two texts that are printed for the same files are one, unless the schema file is answered 9.
+-- a job refuses the schema with 9, or not
+nine-or-other : (job : Job) → ((p : ℕ) × (job ≡ SchemaRefused 9 p)) ⊎ ((p : ℕ) → ¬ (job ≡ SchemaRefused 9 p))
+nine-or-other (EventsRead e) = inr (λ p q. let z : _≡_ {A = ℕ} 0 1 = cc in absurd (omega arith))
+nine-or-other (SchemaRefused n p) =
+    elim (ℕ-discrete n 9) [
+      | yes e ↦ inl (p, ap (λ (k : ℕ). SchemaRefused k p) e)
+      | no d ↦ inr (λ l q. let e : n ≡ 9 = cc in d e)
+    ]
+
+-- the texts of two jobs on the same files
+one-job-text : {file events s t : List ℕ} → JobPrinted file events s → JobPrinted file events t → (s ≡ t) ⊎ NineTexts file s t
+one-job-text {events = events} a b =
+    let same = one-job (a .means) (b .means) in
+    ⊎-elim
+    (λ z. inr (nine-texts a b (job-answer (subst (JobMeans _ _ _ (a .witness) _ (a .types)) (z .1) (a .means)))))
+    (λ not-9.
+    inl
+    (a .prints
+    ∙ by-types events (a .types) (a .witness) (b .witness) (a .job) not-9
+    ∙ (λ i. textOf events (b .witness) (same .1 i) (same .0 i))
+    ∙ sym (b .prints)))
+    (nine-or-other (a .job))
+
+-- Two texts that are printed for the same files are one; or the schema file is answered 9, and they differ at most in J and K.
 pub one-text : {schema events s t : List ℕ} → Printed schema events s → Printed schema events t
-    → ((p : ℕ) → ¬ AnswerIs (take mostSchema schema) (replicate leastWitness 0) (RefusedAt 9 p)) → s ≡ t
-one-text {schema} {events} x y h =
+    → (s ≡ t) ⊎ NineTexts (take mostSchema schema) s t
+one-text {events = events} x y =
     elim (decLe (length events) mostEvents) [
-      | yes k ↦
-          let a = x .answered k in
-          let b = y .answered k in
-          let same = one-job (a .means) (b .means) in
-          let not-9 : (p : ℕ) → ¬ (a .job ≡ SchemaRefused 9 p) =
-          λ p q. h p (job-answer (subst (JobMeans _ _ _ (a .witness) _ (a .types)) q (a .means))) in
-          a .prints
-          ∙ by-types events (a .types) (a .witness) (b .witness) (a .job) not-9
-          ∙ (λ i. textOf events (b .witness) (same .1 i) (same .0 i))
-          ∙ sym (b .prints)
-      | no n ↦ x .too-long (omega arith) ∙ sym (y .too-long (omega arith))
+      | yes k ↦ one-job-text (x .answered k) (y .answered k)
+      | no n ↦ inl (x .too-long (omega arith) ∙ sym (y .too-long (omega arith)))
     ]
 
 -- the types buffer holds a type for each opening that the count counts

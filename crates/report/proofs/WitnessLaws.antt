@@ -1,5 +1,6 @@
--- The text of a schema that is answered 9: its second line is that of a witness of the schema that the file states.
-use mathlib.Core.Path.{_≡_, refl, ap, subst, _∙_}
+-- The text of a schema that is answered 9: its second line is that of a witness of the schema that the file states, and only its J and K are
+-- the program's choice.
+use mathlib.Core.Path.{_≡_, refl, sym, ap, subst, subst₂, _∙_}
 use mathlib.Core.Logic.{inl, inr}
 use mathlib.Core.List.{List, [], _++_}
 use Prim.Native.Nat.{ℕ, _≤_}
@@ -16,11 +17,13 @@ use Rattle.commands.specs.File.{Stated, Commands, stopped, states, commands, sc
 use Rattle.commands.proofs.Passing.{stopped-most}
 use Rattle.schema_file.specs.Answer.{AnswerBy, AnswerIs, OfStated}
 use Rattle.sdtd.specs.declared.Verdict.the-variants.{RefusedAt}
+use Rattle.sdtd.specs.declared.TypeNo.{TypeNo}
 use Rattle.schema_file.proofs.FileAnswers.{file-unique}
+use Rattle.schema_file.proofs.OneWitness.{one-witness}
 use Rattle.typing.specs.declared.job.Job.the-variants.{SchemaRefused}
 use Rattle.report.specs.Words.{schemaRefused, after, lineEnd}
 use Rattle.report.specs.Text.{numbered, refusalLine, rivals, witnessLine, textOf}
-use Rattle.report.specs.Report.{mostSchema, mostEvents, Printed}
+use Rattle.report.specs.Report.{mostSchema, mostEvents, JobPrinted, Printed}
 
 -- `type A gives J or K after n`, of a witness
 abbrev pub lineOf : {S : Meaning} {bytes : List ℕ} → Witness S bytes → List ℕ
@@ -84,4 +87,47 @@ nine-line {schema} {events} x long r =
           ∙ ap (textOf events (a .witness) (a .types)) job
           ∙ ap (λ (l : List ℕ). refusalLine schemaRefused 9 0 ++ l)
           (ap (λ (l : List ℕ). witnessLine (headOf l)) (w .filled) ∙ line-written (w .witness) (drop (length (w .bytes)) was));
+    }
+
+-- The text for 9 with this A and this n, and some J and K.
+pub record NineText (a n : ℕ) (text : List ℕ) : Type 0 where
+  pub j : ℕ
+  pub k : ℕ
+  pub prints : text ≡ refusalLine schemaRefused 9 0 ++ (rivals a j k ++ (numbered after n ++ lineEnd))
+
+-- The schema file is answered 9, and the two texts for it have one A and one n.
+pub record NineTexts (file s t : List ℕ) : Type 0 where
+  pub answer : AnswerIs file (replicate leastWitness 0) (RefusedAt 9 0)
+  pub a : ℕ
+  pub n : ℕ
+  pub first : NineText a n s
+  pub second : NineText a n t
+
+-- the text of a job that answers 9, by its witness buffer
+nine-text : {file events text : List ℕ} (x : JobPrinted file events text) → x .job ≡ SchemaRefused 9 0
+    → NineText (headOf (x .witness) .of .0) (headOf (x .witness) .word) text
+unfolding textOf witnessLine
+nine-text {events = events} x q =
+    let h = headOf (x .witness) in
+    record { j = h .first .0; k = h .second .0; prints = x .prints ∙ ap (textOf events (x .witness) (x .types)) q }
+
+-- Two texts that are printed for the same files, where the schema file is answered 9, differ at most in J and K.
+pub nine-texts : {file events s t : List ℕ} {p : ℕ} → JobPrinted file events s → JobPrinted file events t
+    → AnswerIs file (replicate leastWitness 0) (RefusedAt 9 p) → NineTexts file s t
+nine-texts {file} {t = t} x y r =
+    let was : List ℕ = replicate leastWitness 0 in
+    let zero : RefusedAt 9 _ ≡ RefusedAt 9 0 = ap (λ (l : ℕ). RefusedAt 9 l) (nine file was r .first-place) in
+    let i = x .means in
+    let j = y .means in
+    let answer : i .file .answer ≡ RefusedAt 9 0 = file-unique file was (i .schema-file .answer) r ∙ zero in
+    let other : j .file .answer ≡ RefusedAt 9 0 = file-unique file was (j .schema-file .answer) r ∙ zero in
+    let same = one-witness (i .schema-file) (j .schema-file) answer in
+    record {
+      answer = subst (AnswerIs file was) zero r;
+      a = headOf (x .witness) .of .0;
+      n = headOf (x .witness) .word;
+      first = nine-text x (i .refused 9 0 answer .0);
+      second =
+          subst₂ (λ (a n : ℕ). NineText a n t) (ap (λ (k : TypeNo). k .0) (sym (same .of))) (sym (same .word))
+          (nine-text y (j .refused 9 0 other .0));
     }

@@ -33,8 +33,8 @@ mostLast = 36
 abbrev pub mostText : ℕ
 mostText = length header + mostLine * typesHeld + mostLast
 
--- The text of a job on the schema's bytes and the events, from buffers of zeros. J, K and w are the program's choice, so the witness
--- line is one of those that the job's promise leaves; all else is fixed by the two files (`one-text`).
+-- The text of a job on the schema's bytes and the events, from buffers of zeros. J and K of the witness line are the program's choice, as the
+-- job's promise leaves them; all else is fixed by the two files (`one-text`).
 pub record JobPrinted (schema events text : List ℕ) : Type 0 where
   pub witness : List ℕ
   pub types : List ℕ
