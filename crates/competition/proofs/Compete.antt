@@ -37,6 +37,15 @@ pub record CompeteEither (S : Schema) (a : ℕ) (w : List ℕ) (j k : ℕ) : Typ
   pub falling : k < j → Compete S a w k j
   pub short : length w ≤ mostWord
 
+-- a step by a tree-bearing type to a live state counts
+pub counts :
+    {S : Schema} {a p j p′ : ℕ} → List·Memᴰ (step p j p′) (blockOf S a .steps) → Bears S j → Live S a p′ → Counts S a (step p j p′)
+counts m b l = record { given = m; bears = b; live = l }
+
+-- a step that counts leads from a live state
+pub from-live : {S : Schema} {a : ℕ} {s : Step} → Counts S a s → Live S a (s .from)
+from-live {a = a} {s} c = live-closed .step a s (c .given) (bears-live .0 (c .bears)) (c .live)
+
 -- The search of the type a goes by the rows of the schema.
 module _ {S : Schema} (within : WithinLimits S) {entries begins : List ℕ} (rows : RowsMean S entries begins) (a : ℕ) where
   abbrev rowAt : ℕ → Row
@@ -57,10 +66,6 @@ module _ {S : Schema} (within : WithinLimits S) {entries begins : List ℕ} (row
       let h = row-has within rows c in
       let r = h .1 in
       record { entry = h .0; stands = record { place = r .place; least = r .least; most = r .most; is = r .is }; reads = h .2 }
-
-  -- a step that counts leads from a live state
-  from-live : {s : Step} → Counts S a s → Live S a (s .from)
-  from-live {s} c = live-closed .step a s (c .given) (bears-live .0 (c .bears)) (c .live)
 
   -- two entries by which a type leads on are steps that count
   leading-counts : {p q j p′ q′ : ℕ} → p < mostStates → q < mostStates → Leading entries (rowAt p) (rowAt q) j p′ q′
@@ -133,6 +138,51 @@ module _ {S : Schema} (within : WithinLimits S) {entries begins : List ℕ} (row
         live-k = ck .live;
       }
 
+  -- steps by one type that count are entries by which it leads on
+  pub counts-leading :
+      {p q j p′ q′ : ℕ} → Counts S a (step p j p′) → Counts S a (step q j q′) → Leading entries (rowAt p) (rowAt q) j p′ q′
+  counts-leading c e =
+      let x = has-entry c in
+      let y = has-entry e in
+      record {
+        entry = x .entry;
+        stands = x .stands;
+        by = x .reads .by-is;
+        other =
+            record {
+              entry = y .entry;
+              stands = y .stands;
+              one-type = y .reads .by-is ∙ sym (x .reads .by-is);
+              first = x .reads .to-is;
+              second = y .reads .to-is;
+            };
+      }
+
+  -- rival steps by different types are rivals, and leave live states
+  pub steps-rivals : {p q j k : ℕ} → RivalSteps S a p q j k → j ≢ k
+      → AreRivals entries (rowAt p) (rowAt q) j k × Live S a p × Live S a q
+  steps-rivals s different =
+      let c = counts (s .step-j) (s .bears-j) (s .live-j) in
+      let e = counts (s .step-k) (s .bears-k) (s .live-k) in
+      let x = has-entry c in
+      let y = has-entry e in (
+        record {
+          entry = x .entry;
+          stands = x .stands;
+          by = x .reads .by-is;
+          rival =
+              record {
+                entry = y .entry;
+                stands = y .stands;
+                by = y .reads .by-is;
+                one-tag = y .reads .tag-is ∙ sym (s .one-tag) ∙ sym (x .reads .tag-is);
+                different = λ same. different (sym (x .reads .by-is) ∙ sym same ∙ y .reads .by-is);
+              };
+        },
+        from-live c,
+        from-live e,
+      )
+
   -- a trail to rivals ends in types that compete after its word
   pub trail-competes : {queue : List ℕ} {at j k : ℕ} → Useful S a → TrailToRivals entries begins a queue at j k
       → CompeteEither S a (wordTo at queue at) j k
@@ -156,31 +206,9 @@ module _ {S : Schema} (within : WithinLimits S) {entries begins : List ℕ} (row
       LivePair : ℕ → ℕ → Type 0
       LivePair p q = Live S a p → Live S a q → T (getD reached (pairNumber p q) false)
 
-      -- steps by one type that count
-      leading : {p q j p′ q′ : ℕ} → Counts S a (step p j p′) → Counts S a (step q j q′) → Leading entries (rowAt p) (rowAt q) j p′ q′
-      leading c e =
-          let x = has-entry c in
-          let y = has-entry e in
-          record {
-            entry = x .entry;
-            stands = x .stands;
-            by = x .reads .by-is;
-            other =
-                record {
-                  entry = y .entry;
-                  stands = y .stands;
-                  one-type = y .reads .by-is ∙ sym (x .reads .by-is);
-                  first = x .reads .to-is;
-                  second = y .reads .to-is;
-                };
-          }
-
-      counts : {p j p′ : ℕ} → List·Memᴰ (step p j p′) (blockOf S a .steps) → Bears S j → Live S a p′ → Counts S a (step p j p′)
-      counts m b l = record { given = m; bears = b; live = l }
-
       closed-step : {p q j p′ q′ : ℕ} → LivePair p q → Counts S a (step p j p′) → Counts S a (step q j q′)
           → T (getD reached (pairNumber p′ q′) false)
-      closed-step {p} {q} {j} {p′} {q′} h c e = d .closed p q j p′ q′ (h (from-live c) (from-live e)) (leading c e)
+      closed-step {p} {q} {j} {p′} {q′} h c e = d .closed p q j p′ q′ (h (from-live c) (from-live e)) (counts-leading c e)
 
       closed : PairClosed S a LivePair
       closed =
@@ -191,24 +219,8 @@ module _ {S : Schema} (within : WithinLimits S) {entries begins : List ℕ} (row
 
       free : (p q j k : ℕ) → LivePair p q → RivalSteps S a p q j k → ¬ (j ≢ k)
       free p q j k h s different =
-          let c = counts (s .step-j) (s .bears-j) (s .live-j) in
-          let e = counts (s .step-k) (s .bears-k) (s .live-k) in
-          let x = has-entry c in
-          let y = has-entry e in
-          d .no-rivals p q j k (h (from-live c) (from-live e))
-          (record {
-            entry = x .entry;
-            stands = x .stands;
-            by = x .reads .by-is;
-            rival =
-                record {
-                  entry = y .entry;
-                  stands = y .stands;
-                  by = y .reads .by-is;
-                  one-tag = y .reads .tag-is ∙ sym (s .one-tag) ∙ sym (x .reads .tag-is);
-                  different = λ same. different (sym (x .reads .by-is) ∙ sym same ∙ y .reads .by-is);
-                };
-          })
+          let r = steps-rivals s different in
+          d .no-rivals p q (h (r .1) (r .2)) j k (r .0)
 
 -- no types compete in a number that is no type
 pub outside-restrained : {S : Schema} {a : ℕ} → length (S .blocks) ≤ a → ¬ CompeteIn S a

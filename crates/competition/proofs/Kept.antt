@@ -13,7 +13,7 @@ use Rattle.sdtd.specs.Limits.{mostPairs}
 use Rattle.sdtd.specs.Competition.{pairNumber}
 use Rattle.sdtd.proofs.Rounds.{count, count-le, count-set}
 use Rattle.competition.specs.Marks.{Marks, firstOf, secondOf, parentOf}
-use Rattle.competition.specs.Queue.{LedTo}
+use Rattle.competition.specs.Queue.{LedTo, Placed, LeadsBefore}
 
 -- the pair with the number n is marked
 abbrev pub IsMarked : Marks → ℕ → Type 0
@@ -26,14 +26,12 @@ entryAt m i = getD (m .queue) i 0
 abbrev pub entryNumber : ℕ → ℕ
 entryNumber e = pairNumber (firstOf e) (secondOf e)
 
--- an entry of the queue has the pair number n
-pub record Placed (m : Marks) (n : ℕ) : Type 0 where
-  pub place : ℕ
-  pub place-below : place < m .count
-  pub is : entryNumber (entryAt m place) ≡ n
+-- all pairs that the entry at the place h leads to stand in the queue before the place `end`
+abbrev pub EntryLeads : List ℕ → List ℕ → ℕ → Marks → ℕ → ℕ → Type 0
+EntryLeads entries begins a m end h = LeadsBefore entries begins a (m .queue) end (firstOf (entryAt m h)) (secondOf (entryAt m h))
 
 -- The marked numbers are those of the entries, each number once; the first entry is the pair 0, 0, and each other was found from an
--- earlier one.
+-- earlier one, in the order of those.
 pub record Kept (entries begins : List ℕ) (a : ℕ) (m : Marks) : Type 0 where
   pub reached-length : length (m .reached) ≡ mostPairs
   pub queue-length : length (m .queue) ≡ mostPairs
@@ -42,9 +40,10 @@ pub record Kept (entries begins : List ℕ) (a : ℕ) (m : Marks) : Type 0 where
   pub most : m .count ≤ mostPairs
   pub first : entryAt m 0 ≡ 0
   pub marked : (i : ℕ) → i < m .count → IsMarked m (entryNumber (entryAt m i))
-  pub placed : (n : ℕ) → IsMarked m n → Placed m n
+  pub placed : (n : ℕ) → IsMarked m n → Placed (m .queue) (m .count) n
   pub linked : (i : ℕ) → 0 < i → i < m .count → parentOf (entryAt m i) < i
   pub led : (i : ℕ) → 0 < i → i < m .count → LedTo entries begins a (m .queue) (entryAt m i)
+  pub in-order : (i : ℕ) → 0 < i → i < m .count → (h : ℕ) → h < parentOf (entryAt m i) → EntryLeads entries begins a m i h
 
 -- a mark set leaves the others as they were
 pub set-marks : (l : List Bool) (n k : ℕ) → T (getD l k false) → T (getD (set l n true) k false)
@@ -98,15 +97,28 @@ module _ {entries begins : List ℕ} {a : ℕ} {m : Marks} (kept : Kept entries 
             subst (λ (j : ℕ). P j (entryAt (joined m n e) j)) is-last (subst (P (m .count)) (sym new-entry) ne)
       ]
 
-  join-placed : (k : ℕ) → IsMarked (joined m n e) k → Placed (joined m n e) k
+  -- what stands in the queue stays there
+  still-placed : {end to k : ℕ} → end ≤ m .count → end ≤ to → Placed (m .queue) end k → Placed (joined m n e .queue) to k
+  still-placed h l r =
+      record {
+        place = r .place;
+        place-below = omega (arith, r .place-below);
+        is = rw (old-entry (r .place) (omega (arith, r .place-below))) (r .is);
+      }
+
+  pub still-leads : {end to h : ℕ} → end ≤ m .count → end ≤ to → h < m .count → EntryLeads entries begins a m end h
+      → EntryLeads entries begins a (joined m n e) to h
+  still-leads {h = h} l k b f = rw (old-entry h b) (λ j p q x. still-placed l k (f j p q x))
+
+  join-placed : (k : ℕ) → IsMarked (joined m n e) k → Placed (joined m n e .queue) (m .count + 1) k
   join-placed k t =
       ⊎-elim
       (λ same. record { place = m .count; place-below = omega arith; is = rw new-entry (rw same is) })
-      (λ u. let r = kept .placed k u in
-      record { place = r .place; place-below = omega (arith, r .place-below); is = rw (old-entry (r .place) (r .place-below)) (r .is) })
+      (λ u. still-placed (omega arith) (omega arith) (kept .placed k u))
       (set-marked (m .reached) n k t)
 
-  module _ (parent : parentOf e < m .count) (new-led : LedTo entries begins a (m .queue) e) where
+  module _ (parent : parentOf e < m .count) (new-led : LedTo entries begins a (m .queue) e)
+      (new-order : (h : ℕ) → h < parentOf e → EntryLeads entries begins a m (m .count) h) where
     join-led : (i : ℕ) → i < m .count + 1 → 0 < i → LedTo entries begins a (joined m n e .queue) (entryAt (joined m n e) i)
     join-led =
         each
@@ -117,6 +129,15 @@ module _ {entries begins : List ℕ} {a : ℕ} {m : Marks} (kept : Kept entries 
         still : (x : ℕ) → parentOf x < m .count → LedTo entries begins a (m .queue) x
             → LedTo entries begins a (joined m n e .queue) x
         still x h f = rw (old-entry (parentOf x) h) f
+
+    join-order : (i : ℕ) → i < m .count + 1 → 0 < i → (h : ℕ) → h < parentOf (entryAt (joined m n e) i)
+        → EntryLeads entries begins a (joined m n e) i h
+    join-order =
+        each
+        (λ i x. 0 < i → (h : ℕ) → h < parentOf x → EntryLeads entries begins a (joined m n e) i h)
+        (λ i l p h b.
+        still-leads (omega arith) (omega arith) (omega (arith, kept .linked i p l)) (kept .in-order i p l h b))
+        (λ p h b. still-leads (omega arith) (omega arith) (omega (arith, parent)) (new-order h b))
 
     pub join-kept : Kept entries begins a (joined m n e)
     join-kept =
@@ -135,4 +156,5 @@ module _ {entries begins : List ℕ} {a : ℕ} {m : Marks} (kept : Kept entries 
           placed = join-placed;
           linked = λ i p h. each (λ j x. 0 < j → parentOf x < j) (λ j l z. kept .linked j z l) (λ z. parent) i h p;
           led = λ i p h. join-led i h p;
+          in-order = λ i p h. join-order i h p;
         }

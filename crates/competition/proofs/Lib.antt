@@ -6,5 +6,6 @@ pub mod MarkGrowth
 pub mod Queues
 pub mod Words
 pub mod Compete
+pub mod Shortest
 pub mod SearchMeaning
 pub mod Answers

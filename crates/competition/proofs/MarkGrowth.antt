@@ -18,7 +18,8 @@ use Rattle.competition.specs.Marks.{markOf, markBoth, markEach, markOver
 use Rattle.competition.specs.Queue.{LedTo}
 use Rattle.competition.specs.declared.rows.Row.{Row}
 use Rattle.competition.proofs.RowLaws.{stands-rest}
-use Rattle.competition.proofs.Kept.{IsMarked, entryAt, entryNumber, Kept, joined, set-marks, room, old-entry, new-mark, join-kept}
+use Rattle.competition.proofs.Kept.{IsMarked, entryAt, entryNumber, EntryLeads, Kept, joined}
+use Rattle.competition.proofs.Kept.{set-marks, room, old-entry, new-mark, still-leads, join-kept}
 
 -- what an entry is made of
 entry-first : (p q l : ℕ) → p < mostStates → firstOf (entryOf p q l) ≡ p
@@ -46,6 +47,7 @@ module _ (entries begins : List ℕ) (a at e : ℕ) where
     pub kept : Kept entries begins a m
     pub queued : at < m .count
     pub here : entryAt m at ≡ e
+    pub earlier : (h : ℕ) → h < at → EntryLeads entries begins a m (m .count) h
 
   -- from m to m′ entries and marks are only added, and the pairs New are marked
   pub record Grows (m m′ : Marks) (New : ℕ → ℕ → Type 0) : Type 0 where
@@ -91,9 +93,10 @@ module _ (entries begins : List ℕ) (a at e : ℕ) where
       record {
         ready =
             record {
-              kept = join-kept (r .kept) n x is below fresh (omega (arith, r .queued)) f;
+              kept = join-kept (r .kept) n x is below fresh (omega (arith, r .queued)) f (λ h l. r .earlier h (omega arith));
               queued = omega (arith, r .queued);
               here = old-entry (r .kept) n x is below fresh at (r .queued) ∙ r .here;
+              earlier = λ h l. still-leads (r .kept) n x is below fresh (omega arith) (omega arith) (omega (arith, r .queued)) (r .earlier h l);
             };
         more = omega arith;
         marks = λ k t. set-marks (m .reached) n k t;

@@ -11,14 +11,14 @@ use lib.ListN.{length, getD, set, replicate, length-set, length-replicate}
 use lib.Seq.{getD-set-same}
 use Rattle.sdtd.specs.Limits.{mostPairs}
 use Rattle.sdtd.specs.Competition.{pairNumber}
-use Rattle.sdtd.proofs.Pairs.{pair-swap-number, pair-one-number}
+use Rattle.sdtd.proofs.Pairs.{pair-swap-number, pair-either}
 use Rattle.sdtd.proofs.Rounds.{count, count-set}
 use Rattle.competition.specs.Rows.{rowOf, Leading}
 use Rattle.competition.specs.Marks.{Marks, firstOf, secondOf, markRows}
 use Rattle.competition.specs.Rivals.{AreRivals}
-use Rattle.competition.specs.Queue.{ClosedPairs, TrailToRivals}
+use Rattle.competition.specs.Queue.{Placed, NoRivals, ClosedPairs, TrailToRivals}
 use Rattle.competition.specs.declared.rows.Row.{Row}
-use Rattle.competition.proofs.Kept.{IsMarked, entryAt, entryNumber, Placed, Kept, set-marked}
+use Rattle.competition.proofs.Kept.{IsMarked, entryAt, entryNumber, EntryLeads, Kept, set-marked}
 use Rattle.competition.proofs.MarkGrowth.{Grows, Led, step-grows}
 
 -- only the pair 0, 0, found from nothing
@@ -28,7 +28,7 @@ firstMarks none queue = record { reached = set none 0 true; queue = set queue 0 
 -- all that the pair p, q leads to is marked, and it has no rivals
 pub record Done (entries begins : List ℕ) (a : ℕ) (m : Marks) (p q : ℕ) : Type 0 where
   pub closed : (j p′ q′ : ℕ) → Leading entries (rowOf begins a p) (rowOf begins a q) j p′ q′ → IsMarked m (pairNumber p′ q′)
-  pub no-rivals : (j k : ℕ) → ¬ AreRivals entries (rowOf begins a p) (rowOf begins a q) j k
+  pub no-rivals : NoRivals entries begins a p q
 
 -- the pairs of the entries before the place `at` are done
 pub record SearchInv (entries begins : List ℕ) (a at : ℕ) (m : Marks) : Type 0 where
@@ -68,7 +68,7 @@ module _ (entries begins : List ℕ) (a n : ℕ) (full : n ≡ mostPairs) (queue
       rw (first-entry, getD-set-same (replicate n false) 0 true false (omega (arith, length-replicate n false))) tt
   first-marked (suc i) h = absurd (omega arith)
 
-  first-placed : (k : ℕ) → IsMarked (firstMarks (replicate n false) queue) k → Placed (firstMarks (replicate n false) queue) k
+  first-placed : (k : ℕ) → IsMarked (firstMarks (replicate n false) queue) k → Placed (set queue 0 0) 1 k
   first-placed k t =
       ⊎-elim
       (λ e. record { place = 0; place-below = omega arith; is = rw first-entry (sym e) })
@@ -88,10 +88,11 @@ module _ (entries begins : List ℕ) (a n : ℕ) (full : n ≡ mostPairs) (queue
         placed = first-placed;
         linked = λ i p h. absurd (omega arith);
         led = λ i p h. absurd (omega arith);
+        in-order = λ i p h. absurd (omega arith);
       }
 
 -- of a pair the states change places
-leading-swap : {entries : List ℕ} {left right : Row} {j p q : ℕ} → Leading entries left right j p q → Leading entries right left j q p
+pub leading-swap : {entries : List ℕ} {left right : Row} {j p q : ℕ} → Leading entries left right j p q → Leading entries right left j q p
 leading-swap l =
     let o = l .other in
     record {
@@ -112,6 +113,10 @@ rivals-swap r =
           record { entry = r .entry; stands = r .stands; by = r .by; one-tag = sym (o .one-tag); different = λ e. o .different (sym e) };
     }
 
+pub none-swap :
+    (entries begins : List ℕ) (a p q : ℕ) → NoRivals entries begins a p q → NoRivals entries begins a q p
+none-swap entries begins a p q none j k r = none k j (rivals-swap r)
+
 module _ {entries begins : List ℕ} {a : ℕ} where
   pub search-first : (queue : List ℕ) → length queue ≡ mostPairs
       → SearchInv entries begins a 0 (firstMarks (replicate mostPairs false) queue)
@@ -125,10 +130,10 @@ module _ {entries begins : List ℕ} {a : ℕ} where
       record { closed = λ j p′ q′ l. g .marks (pairNumber p′ q′) (d .closed j p′ q′ l); no-rivals = d .no-rivals }
 
   done-swap : {m : Marks} {p q : ℕ} → Done entries begins a m p q → Done entries begins a m q p
-  done-swap d =
+  done-swap {p = p} {q} d =
       record {
         closed = λ j p′ q′ l. rw (pair-swap-number p′ q′) (d .closed j q′ p′ (leading-swap l));
-        no-rivals = λ j k r. d .no-rivals k j (rivals-swap r);
+        no-rivals = none-swap entries begins a p q (d .no-rivals);
       }
 
   module _ {at : ℕ} {m : Marks} (inv : SearchInv entries begins a at m) where
@@ -151,10 +156,15 @@ module _ {entries begins : List ℕ} {a : ℕ} where
               rw (last, g .ready .here) (record { closed = λ j p q l. g .new p q (j, l); no-rivals = none })
         ]
 
+    -- all that the entries before the place `at` lead to stands in the queue
+    earlier : (h : ℕ) → h < at → EntryLeads entries begins a m (m .count) h
+    earlier h l j p q x = inv .kept .placed (pairNumber p q) (inv .done h l .closed j p q x)
+
     pub search-next : at < m .count → ((j k : ℕ) → ¬ AreRivals entries left right j k)
         → SearchInv entries begins a (suc at) (markRows entries left right at m)
     search-next queued none =
-        let g = step-grows entries begins a at (entryAt m at) m (record { kept = inv .kept; queued = queued; here = refl }) in
+        let g =
+        step-grows entries begins a at (entryAt m at) m (record { kept = inv .kept; queued = queued; here = refl; earlier = earlier }) in
         record { kept = g .ready .kept; before = g .ready .queued; done = now-done g none }
 
     -- at the end each marked pair is done
@@ -162,18 +172,15 @@ module _ {entries begins : List ℕ} {a : ℕ} where
     done-marked h p q t =
         let r = inv .kept .placed (pairNumber p q) t in
         let e : ℕ = entryAt m (r .place) in
-        let d : Done entries begins a m (firstOf e) (secondOf e) = inv .done (r .place) (omega (arith, r .place-below)) in
-        ⊎-elim
-        (λ s. rw (s .0, s .1) at d)
-        (λ s. done-swap (rw (s .0, s .1) at d))
-        (pair-one-number (firstOf e) (secondOf e) p q (r .is))
+        pair-either {P = Done entries begins a m} (λ x y. done-swap) (firstOf e) (secondOf e) p q (r .is)
+        (inv .done (r .place) (omega (arith, r .place-below)))
 
     pub search-done : m .count ≤ at → ClosedPairs entries begins a (m .reached)
     search-done h =
         record {
           first = rw (inv .kept .first) at (inv .kept .marked 0 (inv .kept .some));
           closed = λ p q j p′ q′ t l. done-marked h p q t .closed j p′ q′ l;
-          no-rivals = λ p q j k t. done-marked h p q t .no-rivals j k;
+          no-rivals = λ p q t. done-marked h p q t .no-rivals;
         }
 
     pub search-rivals : {j k : ℕ} → at < m .count → AreRivals entries left right j k → TrailToRivals entries begins a (m .queue) at j k
@@ -185,6 +192,8 @@ module _ {entries begins : List ℕ} {a : ℕ} where
                 first = (rw (inv .kept .first), rw (inv .kept .first));
                 linked = λ i p l. inv .kept .linked i p (omega arith);
                 led = λ i p l. inv .kept .led i p (omega arith);
+                in-order = λ i p l. inv .kept .in-order i p (omega arith);
               };
           rivals = r;
+          none-before = λ i l. inv .done i l .no-rivals;
         }

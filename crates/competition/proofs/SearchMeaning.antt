@@ -24,6 +24,7 @@ use Rattle.schema.specs.declared.tables.Trimming.{Trimming}
 use Rattle.competition.specs.declared.search.TypeTables.{TypeTables}
 use Rattle.schema.proofs.Values.{types-count}
 use Rattle.competition.proofs.Compete.{CompeteEither, trail-competes, closed-restrained, outside-restrained}
+use Rattle.competition.proofs.Shortest.{trail-shortest}
 
 -- the tables of a schema and its trimming
 abbrev pub tablesOf : Schema → Trimming → TypeTables
@@ -102,6 +103,7 @@ module _
                 word = w;
                 compete = in-order competing;
                 smallest = smallest;
+                shortest = trail-shortest within rows a (in-type .to-rivals);
                 short = competing .short;
                 written = refl;
               };

@@ -133,7 +133,7 @@ fn first_competing<'a>(
 }
 
 // The search of a schema inside the limits by its trimming and its rows: do two types compete? If so, the smallest type in which two compete,
-// the two and a word after which they do go to the witness buffer.
+// the two and a shortest word after which two compete there go to the witness buffer.
 fn competes<'a>(
     schema: Schema,
     trimming: Trimming,

@@ -1,6 +1,6 @@
 -- Pair numbers: each unordered pair of states below n has a number below n (n + 1) / 2 of its own.
-use mathlib.Core.Path.{_≡_, refl, sym, ap}
-use mathlib.Core.Logic.{_⊎_, inl, inr}
+use mathlib.Core.Path.{_≡_, refl, sym, ap, subst₂}
+use mathlib.Core.Logic.{_⊎_, inl, inr, ⊎-elim}
 use Prim.Native.Nat.{ℕ, suc, _+_, _*_, _/_, _≤_, _<_, min, max}
 use native.Mathlib.Nat.{min-comm, max-comm, mul-le-mul, le-antisymm}
 use native.Mathlib.Decide.{ℕ-discrete, decLe}
@@ -40,6 +40,11 @@ pub pair-one-number : (s t s′ t′ : ℕ) → pairNumber s t ≡ pairNumber s�
 pair-one-number s t s′ t′ e =
     let large : max s t ≡ max s′ t′ = le-antisymm (larger s t s′ t′ e) (larger s′ t′ s t (sym e)) in
     same-pair s t s′ t′ large (omega (arith, ap (λ (m : ℕ). m * (m + 1) / 2) large))
+
+-- what holds of a pair of states in either order holds of each pair with its number
+pub pair-either : {P : ℕ → ℕ → Type 0} → ((s t : ℕ) → P s t → P t s) → (s t s′ t′ : ℕ) → pairNumber s t ≡ pairNumber s′ t′ → P s t → P s′ t′
+pair-either {P} swap s t s′ t′ e h =
+    ⊎-elim (λ o. subst₂ P (o .0) (o .1) h) (λ o. swap t′ s′ (subst₂ P (o .0) (o .1) h)) (pair-one-number s t s′ t′ e)
 
 -- Document 01's numbers agree: the pairs of states, words of fewer types than pairs, and 5 bytes and the longest word.
 pub numbers-agree : (mostPairs ≡ mostStates * (mostStates + 1) / 2) × (suc mostWord ≡ mostPairs) × (leastWitness ≡ 5 + mostWord)
