@@ -95,8 +95,10 @@ struct typestock_opening {
  * schema    the file's bytes.
  * witness   a buffer, of TYPESTOCK_WITNESS bytes or more for an answer other than 1. On TYPESTOCK_COMPETITION its first 5 + n bytes say why:
  *           type A, types J and K, the length n of a word in two bytes, the low one first, and the word, a byte a type. After that word
- *           of children an element of type A may go on with J or with K, which have one tag; J < K, A is the smallest type in which two
- *           compete, and n is at most 527. The rest of the buffer is unchanged; on every other answer all of it is.
+ *           of children an element of type A may go on with J or with K, which have one tag; J < K, and A is the smallest type in which two
+ *           compete. The word is shortest: no two types compete in A after fewer children. So A and n are fixed by the schema, n is at most
+ *           527, and J, K and the word are one choice of those that are left. The rest of the buffer is unchanged; on every other answer all
+ *           of it is.
  */
 struct typestock_schema typestock_check_schema(const uint8_t *schema, size_t schema_length, uint8_t *witness, size_t witness_length);
 

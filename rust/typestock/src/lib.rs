@@ -121,7 +121,8 @@ impl Iterator for Openings<'_> {
 impl std::iter::FusedIterator for Openings<'_> {}
 
 /// Why a schema is refused with 9: after the word of children an element of type `within` may go on with type `one` or with type `other`,
-/// which have one tag.
+/// which have one tag. `within` is the smallest type in which two compete, and the word is shortest: no two types compete in it after fewer
+/// children.
 #[derive(Debug, Clone, Copy, PartialEq, Eq)]
 pub struct Witness<'a> {
     pub within: u8,
