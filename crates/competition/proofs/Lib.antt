@@ -9,3 +9,4 @@ pub mod Compete
 pub mod Shortest
 pub mod SearchMeaning
 pub mod Answers
+pub mod OneWitness

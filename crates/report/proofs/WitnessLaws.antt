@@ -121,7 +121,7 @@ nine-texts {file} {t = t} x y r =
     let j = y .means in
     let answer : i .file .answer ≡ RefusedAt 9 0 = file-unique file was (i .schema-file .answer) r ∙ zero in
     let other : j .file .answer ≡ RefusedAt 9 0 = file-unique file was (j .schema-file .answer) r ∙ zero in
-    let same = one-witness (i .schema-file) (j .schema-file) answer in
+    let same = one-witness (i .schema-file) (j .schema-file) answer other in
     record {
       answer = subst (AnswerIs file was) zero r;
       a = headOf (x .witness) .of .0;
