@@ -39,7 +39,7 @@ fn a_word_of_270_types() {
     assert_eq!(answer, refused);
     let found = witness(&bytes).unwrap();
     assert_eq!((found.within, found.one, found.other), (0, 2, 3));
-    assert!(found.word.len() >= 270);
+    assert_eq!(found.word.len(), 270);
     let mut states = vec![0];
     for &a in found.word {
         let steps = long_way();
