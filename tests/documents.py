@@ -22,8 +22,8 @@ beginning, as listing/reading.py says. What a reading holds, and what made-up va
 said by document 01's words on such values, in listing/value.py; where both apply both are taken
 and must agree. Every number of document 01 stands in listing/tables.py. Beside that the valid
 documents of random schemas are listed up to some size and compared (listing/listed.py), and for
-each competition two documents of demand 3 are built and looked at, and all shorter words, if there
-are not too many.
+each competition two documents of demand 3 are built and looked at, and all shorter words are
+listed, if there are not too many.
 
 The schema fixes A and n of a witness; J, K and w are the program's choice, w among the shortest
 words. With a committed stdout given, the choice made there is taken over if the listing confirms

@@ -1,4 +1,5 @@
-//! What a search leaves in a witness buffer. J, K and w, one of the shortest, are free, so two searches are not held to the same bytes: each is held to a witness.
+//! What a search leaves in a witness buffer. J, K and w, one of the shortest, are free, so two searches are not held to the same bytes: each is
+//! held to a witness.
 use plain::Witness;
 use plain::questions::COMPETITION;
 

@@ -1,8 +1,8 @@
 -- What each answer of the two calls about competition means.
 use mathlib.Core.Path.{_≡_, refl, ap, _∙_}
-use mathlib.Core.Logic.{inl, inr, ⊎-elim}
+use mathlib.Core.Logic.{inl, inr}
 use mathlib.Core.Bool.{true, false}
-use mathlib.Core.List.{List, [], _∷_, _++_}
+use mathlib.Core.List.{List, _++_}
 use Prim.Native.Nat.{ℕ, _+_, _*_, _/_, _%_, _≤_, _<_}
 use native.Mathlib.Omega.{arith}
 use lib.ListN.{length}
@@ -13,9 +13,7 @@ use Rattle.sdtd.specs.Competition.{Competition, Witness}
 use Rattle.sdtd.specs.Answer.{Ordered}
 use Rattle.sdtd.specs.Numbered.{typeNo}
 use Rattle.sdtd.proofs.Verdicts.{other-number, refused-not-fine}
-use Rattle.sdtd.specs.declared.Verdict.{Verdict}
 use Rattle.sdtd.specs.declared.Verdict.the-variants.{Fine, RefusedAt}
-use Rattle.competition.specs.Questions.{rootAsked, competitionAsked}
 use Rattle.competition.specs.Witness.{headOf}
 use Rattle.competition.specs.Search.{Written, SearchMeans, judgeQuestions, JudgeMeans}
 use Rattle.competition.specs.Queue.{CompetesMeans}
@@ -37,13 +35,6 @@ head-written w rest =
     let long : length (w .word) % 256 + 256 * (length (w .word) / 256) ≡ length (w .word) = omega arith in
     ap (λ (l : List ℕ). headOf (l ++ rest)) (w .written)
     ∙ (λ i. record { of = typeNo (w .type); first = typeNo (w .first); second = typeNo (w .second); word = long i })
-
--- a schema inside the limits, with a buffer that is long enough, is asked 8 and 9
-pub judged-inside :
-    {S : Schema} {was is : List ℕ} {r : Verdict} → leastWitness ≤ length was → WithinLimits S → JudgeMeans S was is r
-    → Ordered (rootAsked (RefusedAt 8 0) S ∷ competitionAsked (RefusedAt 9 0) S ∷ []) (λ a. a ≡ Fine) r
-judged-inside long within m =
-    ⊎-elim (λ o. absurd (o .0 long)) (λ o. ⊎-elim (λ p. absurd (p .0 within)) (λ p. p .1) (o .1)) (m .answer)
 
 module _ (S : Schema) (was : List ℕ) where
   -- a refusal by another number leaves the buffer as it was

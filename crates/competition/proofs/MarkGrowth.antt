@@ -43,11 +43,12 @@ module _ (entries begins : List ℕ) (a at e : ℕ) where
   abbrev right : Row
   right = rowOf begins a (secondOf e)
 
+  -- what holds while pairs are found from e: e stands at its place, and all that the entries before it lead to stands in the queue
   pub record Ready (m : Marks) : Type 0 where
     pub kept : Kept entries begins a m
     pub queued : at < m .count
     pub here : entryAt m at ≡ e
-    pub earlier : (h : ℕ) → h < at → EntryLeads entries begins a m (m .count) h
+    pub earlier-placed : (h : ℕ) → h < at → EntryLeads entries begins a m (m .count) h
 
   -- from m to m′ entries and marks are only added, and the pairs New are marked
   pub record Grows (m m′ : Marks) (New : ℕ → ℕ → Type 0) : Type 0 where
@@ -93,10 +94,10 @@ module _ (entries begins : List ℕ) (a at e : ℕ) where
       record {
         ready =
             record {
-              kept = join-kept (r .kept) n x is below fresh (omega (arith, r .queued)) f (λ h l. r .earlier h (omega arith));
+              kept = join-kept (r .kept) n x is below fresh (omega (arith, r .queued)) f (λ h l. r .earlier-placed h (omega arith));
               queued = omega (arith, r .queued);
               here = old-entry (r .kept) n x is below fresh at (r .queued) ∙ r .here;
-              earlier = λ h l. still-leads (r .kept) n x is below fresh (omega arith) (omega arith) (omega (arith, r .queued)) (r .earlier h l);
+              earlier-placed = λ h l. still-leads (r .kept) n x is below fresh (omega arith) (omega arith) (omega (arith, r .queued)) (r .earlier-placed h l);
             };
         more = omega arith;
         marks = λ k t. set-marks (m .reached) n k t;

@@ -146,7 +146,7 @@ module _ {entries begins : List ℕ} {a : ℕ} where
 
     -- once its step is taken, the pair at the place `at` is done too
     now-done : {m′ : Marks} → Grows entries begins a at (entryAt m at) m m′ (Led entries begins a at (entryAt m at))
-        → ((j k : ℕ) → ¬ AreRivals entries left right j k)
+        → NoRivals entries begins a (firstOf (entryAt m at)) (secondOf (entryAt m at))
         → (i : ℕ) → i < suc at → Done entries begins a m′ (firstOf (entryAt m′ i)) (secondOf (entryAt m′ i))
     now-done g none i h =
         elim (decLt i at) [
@@ -157,14 +157,14 @@ module _ {entries begins : List ℕ} {a : ℕ} where
         ]
 
     -- all that the entries before the place `at` lead to stands in the queue
-    earlier : (h : ℕ) → h < at → EntryLeads entries begins a m (m .count) h
-    earlier h l j p q x = inv .kept .placed (pairNumber p q) (inv .done h l .closed j p q x)
+    earlier-placed : (h : ℕ) → h < at → EntryLeads entries begins a m (m .count) h
+    earlier-placed h l j p q x = inv .kept .placed (pairNumber p q) (inv .done h l .closed j p q x)
 
-    pub search-next : at < m .count → ((j k : ℕ) → ¬ AreRivals entries left right j k)
+    pub search-next : at < m .count → NoRivals entries begins a (firstOf (entryAt m at)) (secondOf (entryAt m at))
         → SearchInv entries begins a (suc at) (markRows entries left right at m)
     search-next queued none =
         let g =
-        step-grows entries begins a at (entryAt m at) m (record { kept = inv .kept; queued = queued; here = refl; earlier = earlier }) in
+        step-grows entries begins a at (entryAt m at) m (record { kept = inv .kept; queued = queued; here = refl; earlier-placed = earlier-placed }) in
         record { kept = g .ready .kept; before = g .ready .queued; done = now-done g none }
 
     -- at the end each marked pair is done

@@ -61,8 +61,8 @@ module _
       by-type (no n) = outside-restrained (omega (arith, types-count v)) (k .compete-in)
 
   -- the smaller and the larger of the two types compete
-  in-order : {a j k : ℕ} {w : List ℕ} → CompeteEither (meaning v) a w j k → Compete (meaning v) a w (min j k) (max j k)
-  in-order {a} {j} {k} {w} c = by-order (decLt j k)
+  smaller-first : {a j k : ℕ} {w : List ℕ} → CompeteEither (meaning v) a w j k → Compete (meaning v) a w (min j k) (max j k)
+  smaller-first {a} {j} {k} {w} c = by-order (decLt j k)
     where
       by-order : Dec (j < k) → Compete (meaning v) a w (min j k) (max j k)
       by-order (yes l) =
@@ -101,7 +101,7 @@ module _
                 first = min j k;
                 second = max j k;
                 word = w;
-                compete = in-order competing;
+                compete = smaller-first competing;
                 smallest = smallest;
                 shortest = trail-shortest within rows a (in-type .to-rivals);
                 short = competing .short;

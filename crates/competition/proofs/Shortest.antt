@@ -19,27 +19,27 @@ use Rattle.competition.proofs.Queues.{leading-swap, none-swap}
 use Rattle.competition.proofs.Compete.{from-live, counts, counts-leading, steps-rivals}
 
 -- how many types the word to the place i has
-abbrev depth : List ℕ → ℕ → ℕ
-depth queue i = length (wordTo i queue i)
+abbrev wordLength : List ℕ → ℕ → ℕ
+wordLength queue i = length (wordTo i queue i)
 
-later : (queue : List ℕ) (n i : ℕ) → n < depth queue i → 0 < i
+later : (queue : List ℕ) (n i : ℕ) → n < wordLength queue i → 0 < i
 later queue n zero l = absurd (omega (arith, ap length (word-first queue 0)))
 later queue n (suc i) l = omega arith
 
 -- The search of the type a goes by the rows of the schema.
 module _ {S : Schema} (within : WithinLimits S) {entries begins : List ℕ} (rows : RowsMean S entries begins) (a : ℕ) where
   module _ {queue : List ℕ} {at : ℕ} (t : Trail entries begins a queue at) where
-    -- a pair of live states p and q stands before each place that is deeper than n
+    -- a pair of live states p and q stands before each place whose word has more than n types
     abbrev ReachedBefore : ℕ → ℕ → ℕ → Type 0
     ReachedBefore n p q =
-        (i : ℕ) → i ≤ at → n < depth queue i → Live S a p → Live S a q → Placed queue i (pairNumber p q)
+        (i : ℕ) → i ≤ at → n < wordLength queue i → Live S a p → Live S a q → Placed queue i (pairNumber p q)
 
     before-swap : (end p q : ℕ) → LeadsBefore entries begins a queue end p q → LeadsBefore entries begins a queue end q p
     before-swap end p q f j p′ q′ l = rw (pair-swap-number p′ q′) (f j q′ p′ (leading-swap l))
 
-    -- what a pair leads to that stands before the entry which led to the place i stands before i
-    reached-closed : CountedClosed S a ReachedBefore
-    reached-closed =
+    -- all that a pair before the parent of the place i leads to stands before i
+    before-closed : CountedClosed S a ReachedBefore
+    before-closed =
         record {
           start = λ i h l lp lq. record { place = 0; place-below = later queue 0 i l; is = rw (t .first .0, t .first .1) };
           step = λ n p q j p′ q′ before m k b i h l lp lq.
@@ -57,16 +57,16 @@ module _ {S : Schema} (within : WithinLimits S) {entries begins : List ℕ} (row
   pub trail-shortest : {queue : List ℕ} {at j k : ℕ} → TrailToRivals entries begins a queue at j k → (other : CompeteIn S a)
       → length (wordTo at queue at) ≤ length (other .word)
   trail-shortest {queue} {at} r other =
-      elim (decLt (length (other .word)) (depth queue at)) [ yes l ↦ absurd (shorter l) | no n ↦ omega arith ]
+      elim (decLt (length (other .word)) (wordLength queue at)) [ yes l ↦ absurd (shorter l) | no n ↦ omega arith ]
     where
       n : ℕ
       n = length (other .word)
 
-      shorter : n < depth queue at → ⊥
+      shorter : n < wordLength queue at → ⊥
       shorter l =
           let s = rivals-in (PairOfLength S a n) other (λ p q x e. record { pair = x; long = ap length e }) in
           let x = steps-rivals within rows a (s .rivals) (s .different) in
-          let b = counted-complete (reached-closed (r .trail)) n (s .p) (s .q) (s .pair) at (omega arith) l (x .1) (x .2) in
+          let b = counted-complete (before-closed (r .trail)) n (s .p) (s .q) (s .pair) at (omega arith) l (x .1) (x .2) in
           let e : ℕ = getD queue (b .place) 0 in
           pair-either {P = NoRivals entries begins a} (none-swap entries begins a) (firstOf e) (secondOf e) (s .p) (s .q) (b .is)
           (r .none-before (b .place) (b .place-below)) (s .j) (s .k) (x .0)

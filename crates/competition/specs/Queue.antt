@@ -36,8 +36,8 @@ abbrev pub LeadsBefore : List ℕ → List ℕ → ℕ → List ℕ → ℕ → 
 LeadsBefore entries begins a queue end p q =
     (j p′ q′ : ℕ) → Leading entries (rowOf begins a p) (rowOf begins a q) j p′ q′ → Placed queue end (pairNumber p′ q′)
 
--- The entries up to the place `at`: the first is the pair 0, 0; to each further one an earlier one leads, and all that the entries before
--- that one lead to stands before it.
+-- The entries up to the place `at`: the first is the pair 0, 0; to each further one an earlier one leads, its parent, and all that the entries
+-- before its parent lead to stands before the further one.
 pub record Trail (entries begins : List ℕ) (a : ℕ) (queue : List ℕ) (at : ℕ) : Type 0 where
   pub place-below : at < mostPairs
   pub first : (firstOf (getD queue 0 0) ≡ 0) × (secondOf (getD queue 0 0) ≡ 0)

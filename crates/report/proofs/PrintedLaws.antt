@@ -11,7 +11,6 @@ use lib.Seq.{take-all, length-take-le}
 use Rattle.sdtd.specs.Limits.{leastWitness}
 use Rattle.schema_file.specs.Answer.{AnswerIs}
 use Rattle.schema_file.specs.Samples.{FileSample, fileR, fileChoice}
-use Rattle.sdtd.specs.declared.Verdict.{Verdict}
 use Rattle.sdtd.specs.declared.Verdict.the-variants.{Fine, RefusedAt}
 use Rattle.reading.specs.declared.event_file.EventFile.{EventFile}
 use Rattle.events.specs.Events.{eventsOf}
@@ -20,7 +19,7 @@ use Rattle.events.specs.Outline.{outline}
 use Rattle.typing.specs.Samples.{EventSample, SchemaGets, EventsGet, first, second}
 use Rattle.typing.specs.declared.job.Job.{Job}
 use Rattle.typing.specs.declared.job.Job.the-variants.{SchemaRefused, EventsRead}
-use Rattle.typing.proofs.Jobs.{one-job, job-meets, job-lines, job-enough}
+use Rattle.typing.proofs.Jobs.{job-refusal, one-job, job-meets, job-lines, job-enough}
 use Rattle.typing.proofs.SamplesHold.{samples-hold}
 use Rattle.text.specs.Decimal.{decimal}
 use Rattle.report.specs.Text.{refusalLine, rivals, witnessLine, openingLine, lastLine, textOf}
@@ -39,17 +38,7 @@ by-types events types v w (SchemaRefused n p) h =
 -- a job that refuses the schema has the schema file's answer
 job-answer : {file events wasWitness isWitness wasTypes isTypes : List ℕ} {n p : ℕ}
     → JobMeans file events wasWitness isWitness wasTypes isTypes (SchemaRefused n p) → AnswerIs file wasWitness (RefusedAt n p)
-job-answer {file} {wasWitness = was} {n = n} {p} j = by (j .file .answer) refl
-  where
-    by : (a : Verdict) → j .file .answer ≡ a → AnswerIs file was (RefusedAt n p)
-    by (RefusedAt k l) q =
-        let s = j .refused k l q .0 in
-        let x : k ≡ n = cc in
-        let y : l ≡ p = cc in
-        subst (AnswerIs file was) (q ∙ (λ i. RefusedAt (x i) (y i))) (j .schema-file .answer)
-    by Fine q =
-        let (e, s, m) = j .accepted q in
-        let z : _≡_ {A = ℕ} 0 1 = cc in absurd (omega arith)
+job-answer {file} {wasWitness = was} j = subst (AnswerIs file was) (job-refusal j) (j .schema-file .answer)
 
 -- a job refuses the schema with 9, or not
 nine-or-other : (job : Job) → ((p : ℕ) × (job ≡ SchemaRefused 9 p)) ⊎ ((p : ℕ) → ¬ (job ≡ SchemaRefused 9 p))

@@ -1,25 +1,20 @@
 -- The text of a schema that is answered 9: its second line is that of a witness of the schema that the file states, and only its J and K are
 -- the program's choice.
-use mathlib.Core.Path.{_≡_, refl, sym, ap, subst, subst₂, _∙_}
-use mathlib.Core.Logic.{inl, inr}
-use mathlib.Core.List.{List, [], _++_}
+use mathlib.Core.Path.{_≡_, sym, ap, subst, subst₂, _∙_}
+use mathlib.Core.List.{List, _++_}
 use Prim.Native.Nat.{ℕ, _≤_}
-use native.Mathlib.Omega.{arith}
 use lib.ListN.{length, take, drop, replicate}
 use Rattle.sdtd.specs.Limits.{leastWitness}
 use Rattle.sdtd.specs.Schema.{Schema as Meaning}
 use Rattle.sdtd.specs.Competition.{Witness}
-use Rattle.sdtd.proofs.Verdicts.{verdictNumber, verdictPlace, refused-not-fine}
 use Rattle.competition.specs.Witness.{headOf}
-use Rattle.competition.specs.Search.{Written}
 use Rattle.competition.proofs.Answers.{head-written}
-use Rattle.commands.specs.File.{Stated, Commands, stopped, states, commands, schemaBy, unknown, StatesSchema}
-use Rattle.commands.proofs.Passing.{stopped-most}
-use Rattle.schema_file.specs.Answer.{AnswerBy, AnswerIs, OfStated}
+use Rattle.commands.specs.File.{StatesSchema}
+use Rattle.schema_file.specs.Answer.{AnswerIs}
 use Rattle.sdtd.specs.declared.Verdict.the-variants.{RefusedAt}
 use Rattle.sdtd.specs.declared.TypeNo.{TypeNo}
 use Rattle.schema_file.proofs.FileAnswers.{file-unique}
-use Rattle.schema_file.proofs.OneWitness.{one-witness}
+use Rattle.schema_file.proofs.OneWitness.{AnsweredNine, nine-zero, nine-written, one-witness}
 use Rattle.typing.specs.declared.job.Job.the-variants.{SchemaRefused}
 use Rattle.report.specs.Words.{schemaRefused, after, lineEnd}
 use Rattle.report.specs.Text.{numbered, refusalLine, rivals, witnessLine, textOf}
@@ -43,48 +38,32 @@ line-written : {S : Meaning} {bytes : List ℕ} (w : Witness S bytes) (rest : Li
 unfolding witnessLine
 line-written w rest = ap witnessLine (head-written w rest)
 
--- a file that is answered 9: the place is 0, and it passes questions 2 to 7
-record Nine (file : List ℕ) (place : ℕ) : Type 0 where
-  pub first-place : place ≡ 0
-  pub stated : Stated
-  pub passes : commands file ≡ states stated
-  pub known : unknown stated ≡ []
-
-nine-by : (file : List ℕ) {p : ℕ} (k : Commands) → commands file ≡ k → AnswerBy k (RefusedAt 9 p) → Nine file p
-nine-by file (stopped n l) e r = absurd (omega (arith, ap verdictNumber r, stopped-most file e))
-nine-by file (states g) e (inl o) = absurd (omega (arith, ap verdictNumber (o .1)))
-nine-by file (states g) e (inr (k, inl o)) = absurd (omega (arith, ap verdictNumber (o .1)))
-nine-by file (states g) e (inr (k, inr (b, inl o))) = record { first-place = ap verdictPlace (o .1); stated = g; passes = e; known = k }
-nine-by file (states g) e (inr (k, inr (b, inr (n, o)))) = refused-not-fine refl o
-
-nine : (file was : List ℕ) {p : ℕ} → AnswerIs file was (RefusedAt 9 p) → Nine file p
-nine file was (inl o) = absurd (omega (arith, ap verdictNumber (o .1)))
-nine file was (inr o) = nine-by file (commands file) refl (o .1)
+-- a job's schema file is answered 9, and its witness buffer left so
+abbrev answered : {file events text : List ℕ} {p : ℕ} (x : JobPrinted file events text) → AnswerIs file (replicate leastWitness 0) (RefusedAt 9 p)
+    → AnsweredNine file (x .witness)
+answered {file} {p = p} x r =
+    let was : List ℕ = replicate leastWitness 0 in
+    let j = x .means in
+    record { was = was; read = j .file; means = j .schema-file; place = p; answer = file-unique file was (j .schema-file .answer) r }
 
 -- Where the schema file is answered 9, the second line printed is that of a witness of the schema that the file states.
 pub nine-line : {schema events text : List ℕ} {p : ℕ} → Printed schema events text → length events ≤ mostEvents
     → AnswerIs (take mostSchema schema) (replicate leastWitness 0) (RefusedAt 9 p) → NinePrinted (take mostSchema schema) text
 unfolding textOf
-nine-line {schema} {events} x long r =
-    let file = take mostSchema schema in
+nine-line {events = events} x long r =
     let was : List ℕ = replicate leastWitness 0 in
     let a = x .answered long in
-    let j = a .means in
-    let k = nine file was r in
-    let answer : j .file .answer ≡ RefusedAt 9 0 =
-    file-unique file was (j .schema-file .answer) r ∙ ap (λ (l : ℕ). RefusedAt 9 l) (k .first-place) in
-    let w : Written (schemaBy (k .stated)) was (a .witness) =
-    subst (λ (c : Commands). OfStated c (λ g. Written (schemaBy g) was (a .witness))) (k .passes)
-    (j .schema-file .buffer .0 answer) in
-    let job : a .job ≡ SchemaRefused 9 0 = j .refused 9 0 answer .0 in
+    let k = answered a r in
+    let n = nine-written k in
+    let w = n .written in
     record {
-      schema = schemaBy (k .stated);
-      stated = record { stated = k .stated; passes = k .passes; known = k .known; schema = refl };
+      schema = n .schema;
+      stated = n .stated;
       bytes = w .bytes;
       witness = w .witness;
       prints =
           a .prints
-          ∙ ap (textOf events (a .witness) (a .types)) job
+          ∙ ap (textOf events (a .witness) (a .types)) (a .means .refused 9 0 (nine-zero k) .0)
           ∙ ap (λ (l : List ℕ). refusalLine schemaRefused 9 0 ++ l)
           (ap (λ (l : List ℕ). witnessLine (headOf l)) (w .filled) ∙ line-written (w .witness) (drop (length (w .bytes)) was));
     }
@@ -115,19 +94,15 @@ nine-text {events = events} x q =
 pub nine-texts : {file events s t : List ℕ} {p : ℕ} → JobPrinted file events s → JobPrinted file events t
     → AnswerIs file (replicate leastWitness 0) (RefusedAt 9 p) → NineTexts file s t
 nine-texts {file} {t = t} x y r =
-    let was : List ℕ = replicate leastWitness 0 in
-    let zero : RefusedAt 9 _ ≡ RefusedAt 9 0 = ap (λ (l : ℕ). RefusedAt 9 l) (nine file was r .first-place) in
-    let i = x .means in
-    let j = y .means in
-    let answer : i .file .answer ≡ RefusedAt 9 0 = file-unique file was (i .schema-file .answer) r ∙ zero in
-    let other : j .file .answer ≡ RefusedAt 9 0 = file-unique file was (j .schema-file .answer) r ∙ zero in
-    let same = one-witness (i .schema-file) (j .schema-file) answer other in
+    let u = answered x r in
+    let v = answered y r in
+    let same = one-witness u v in
     record {
-      answer = subst (AnswerIs file was) zero r;
+      answer = subst (AnswerIs file (replicate leastWitness 0)) (nine-zero u) (x .means .schema-file .answer);
       a = headOf (x .witness) .of .0;
       n = headOf (x .witness) .word;
-      first = nine-text x (i .refused 9 0 answer .0);
+      first = nine-text x (x .means .refused 9 0 (nine-zero u) .0);
       second =
           subst₂ (λ (a n : ℕ). NineText a n t) (ap (λ (k : TypeNo). k .0) (sym (same .of))) (sym (same .word))
-          (nine-text y (j .refused 9 0 other .0));
+          (nine-text y (y .means .refused 9 0 (nine-zero v) .0));
     }

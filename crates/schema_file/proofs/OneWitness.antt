@@ -1,21 +1,76 @@
--- On 9 the promise leaves one A and one n, whatever the buffers are and whichever types and word a call chooses.
-use mathlib.Core.Path.{_≡_}
-use mathlib.Core.List.{List}
+-- The answer 9: its place is 0, a witness of the schema that the file states is written, and every call that gives it leaves one A and one n,
+-- whatever the buffer is and whichever types and word the call chooses.
+use mathlib.Core.Path.{_≡_, refl, ap, subst, _∙_}
+use mathlib.Core.Logic.{inl, inr}
+use mathlib.Core.List.{List, []}
 use Prim.Native.Nat.{ℕ}
+use native.Mathlib.Omega.{arith}
+use Rattle.sdtd.specs.Schema.{Schema}
+use Rattle.sdtd.proofs.Verdicts.{verdictNumber, verdictPlace, refused-not-fine}
 use Rattle.competition.specs.Search.{Written}
 use Rattle.competition.proofs.OneWitness.{SameTypeAndLength, same-written}
-use Rattle.commands.specs.File.{Commands, stopped, states, commands, schemaBy}
-use Rattle.schema_file.specs.Answer.{OfStated, FileMeans}
+use Rattle.commands.specs.File.{Stated, Commands, stopped, states, commands, schemaBy, unknown, StatesSchema}
+use Rattle.commands.proofs.Passing.{stopped-most}
+use Rattle.schema_file.specs.Answer.{AnswerBy, AnswerIs, OfStated, FileMeans}
 use Rattle.sdtd.specs.declared.Verdict.the-variants.{RefusedAt}
 use Rattle.schema_file.specs.declared.file.SchemaFile.{SchemaFile}
+
+-- a file that is answered 9: the place is 0, and it passes questions 2 to 7
+record Nine (file : List ℕ) (place : ℕ) : Type 0 where
+  first-place : place ≡ 0
+  stated : Stated
+  passes : commands file ≡ states stated
+  known : unknown stated ≡ []
+
+nine-by : (file : List ℕ) {p : ℕ} (k : Commands) → commands file ≡ k → AnswerBy k (RefusedAt 9 p) → Nine file p
+nine-by file (stopped n l) e r = absurd (omega (arith, ap verdictNumber r, stopped-most file e))
+nine-by file (states g) e (inl o) = absurd (omega (arith, ap verdictNumber (o .1)))
+nine-by file (states g) e (inr (k, inl o)) = absurd (omega (arith, ap verdictNumber (o .1)))
+nine-by file (states g) e (inr (k, inr (b, inl o))) = record { first-place = ap verdictPlace (o .1); stated = g; passes = e; known = k }
+nine-by file (states g) e (inr (k, inr (b, inr (n, o)))) = refused-not-fine refl o
+
+nine : (file was : List ℕ) {p : ℕ} → AnswerIs file was (RefusedAt 9 p) → Nine file p
+nine file was (inl o) = absurd (omega (arith, ap verdictNumber (o .1)))
+nine file was (inr o) = nine-by file (commands file) refl (o .1)
+
+-- A call answered 9 to the file and left the witness buffer so.
+pub record AnsweredNine (file is : List ℕ) : Type 0 where
+  pub was : List ℕ
+  pub read : SchemaFile
+  pub means : FileMeans file was is read
+  pub place : ℕ
+  pub answer : read .answer ≡ RefusedAt 9 place
+
+-- what it left: a witness of the schema that the file states
+pub record NineWritten (file was is : List ℕ) : Type 0 where
+  pub schema : Schema
+  pub stated : StatesSchema file schema
+  pub written : Written schema was is
+
+module _ {file is : List ℕ} (x : AnsweredNine file is) where
+  nine-of : Nine file (x .place)
+  nine-of = nine file (x .was) (subst (AnswerIs file (x .was)) (x .answer) (x .means .answer))
+
+  -- the place is 0
+  pub nine-zero : x .read .answer ≡ RefusedAt 9 0
+  nine-zero = x .answer ∙ ap (λ (p : ℕ). RefusedAt 9 p) (nine-of .first-place)
+
+  pub nine-written : NineWritten file (x .was) is
+  nine-written =
+      let k = nine-of in
+      record {
+        schema = schemaBy (k .stated);
+        stated = record { stated = k .stated; passes = k .passes; known = k .known; schema = refl };
+        written =
+            subst (λ (c : Commands). OfStated c (λ g. Written (schemaBy g) (x .was) is)) (k .passes) (x .means .buffer .0 nine-zero);
+      }
 
 by-stated : (was₁ is₁ was₂ is₂ : List ℕ) (c : Commands) → OfStated c (λ g. Written (schemaBy g) was₁ is₁)
     → OfStated c (λ g. Written (schemaBy g) was₂ is₂) → SameTypeAndLength is₁ is₂
 by-stated was₁ is₁ was₂ is₂ (stopped n p) x y = absurd x
 by-stated was₁ is₁ was₂ is₂ (states g) x y = same-written x y
 
--- Two results that meet the promise and answer 9 to one file: their buffers have one A and one n.
-pub one-witness : {file was₁ is₁ was₂ is₂ : List ℕ} {r s : SchemaFile} → FileMeans file was₁ is₁ r → FileMeans file was₂ is₂ s
-    → r .answer ≡ RefusedAt 9 0 → s .answer ≡ RefusedAt 9 0 → SameTypeAndLength is₁ is₂
-one-witness {file} {was₁} {is₁} {was₂} {is₂} m n nine other =
-    by-stated was₁ is₁ was₂ is₂ (commands file) (m .buffer .0 nine) (n .buffer .0 other)
+-- Two calls that answered 9 to one file: their buffers have one A and one n.
+pub one-witness : {file is₁ is₂ : List ℕ} → AnsweredNine file is₁ → AnsweredNine file is₂ → SameTypeAndLength is₁ is₂
+one-witness {file} {is₁} {is₂} x y =
+    by-stated (x .was) is₁ (y .was) is₂ (commands file) (x .means .buffer .0 (nine-zero x)) (y .means .buffer .0 (nine-zero y))

@@ -252,10 +252,6 @@ pub pair-exact :
     → (p q : ℕ) → PairReached S a p q ↔ P p q
 pair-exact closed sound p q = (pair-complete closed p q, sound p q)
 
--- pairs are unordered
-pub pair-swap : {S : Schema} {a p q : ℕ} → PairReached S a p q → PairReached S a q p
-pair-swap r = record { word = r .word; left = r .right; right = r .left; bear = r .bear }
-
 -- a state is reached exactly if its pair with itself is
 pub forward-pair : {S : Schema} {a p : ℕ} → Forward S a p ↔ PairReached S a p p
 forward-pair = (

@@ -88,7 +88,7 @@ goes-on-by-test {S} {L} x a w j u t =
 -- types compete in it after a shorter word
 root-witness : {S : Schema} {L : LiveTable} → LiveExact S L → (j k : ℕ) (w u v : List ℕ)
     → IsRoot S 0 → j < k → tagOf S j ≡ tagOf S k → length w ≤ mostWord
-    → ((v : List ℕ) (m n : ℕ) → Compete S 0 v m n → length w ≤ length v)
+    → ((other : List ℕ) (m n : ℕ) → Compete S 0 other m n → length w ≤ length other)
     → T (limitsCheck S && rootBears S L && (goesOn S L 0 w j u && goesOn S L 0 w k v))
     → Holds (refuses-9 S (witnessBytes 0 j k w))
 root-witness {S} {L} x j k w u v is-root order one-tag short least t =

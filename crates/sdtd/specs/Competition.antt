@@ -43,8 +43,9 @@ pairNumber s t = max s t * (max s t + 1) / 2 + min s t
 abbrev pub witnessBytes : ℕ → ℕ → ℕ → List ℕ → List ℕ
 witnessBytes a j k w = a ∷ j ∷ k ∷ length w % 256 ∷ length w / 256 ∷ w
 
--- The bytes are a witness of S: "A is the smallest type in which two compete." w is shortest: "every other beginning after which two types of
--- one tag compete in that same type A has at least as many types. J and K remain free." "w has at most 527 types."
+-- The bytes are a witness of S: J and K compete in A after w. "A is the smallest type in which two compete." w is shortest: "every other
+-- beginning after which two types of one tag compete in that same type A has at least as many types. J and K remain free." "w has at most 527
+-- types."
 pub record Witness (S : Schema) (bytes : List ℕ) : Type 0 where
   pub type : ℕ
   pub first : ℕ

@@ -11,7 +11,11 @@ use Rattle.schema_file.specs.Answer.{AnswerBy, AnswerIs}
 use Rattle.sdtd.specs.declared.Verdict.{Verdict}
 use Rattle.sdtd.specs.declared.Verdict.the-variants.{Fine, RefusedAt}
 use Rattle.reading.specs.declared.event_file.EventFile.{EventFile}
-use Rattle.typing.specs.declared.job.Job.the-variants.{EventsRead}
+use Rattle.schema_file.proofs.OneWitness.{AnsweredNine}
+use Rattle.typing.specs.Job.{JobMeans}
+use Rattle.typing.specs.declared.job.Job.{Job}
+use Rattle.typing.specs.declared.job.Job.the-variants.{SchemaRefused, EventsRead}
+use Rattle.typing.proofs.Jobs.{job-nine}
 use Rattle.typestock_c.specs.Numbers.{schemaNumbers, documentNumbers}
 use Rattle.typestock_c.specs.Exports.{SchemaMeans, DocumentMeans}
 use Rattle.typestock_c.specs.declared.TypestockSchema.{TypestockSchema}
@@ -65,6 +69,21 @@ zero-accepted {file} {was} m z =
     accepted-by (m .read .answer) (known file was (m .read .answer) (m .means .answer))
     (sym (ap (λ (x : TypestockSchema). x .number) (m .numbers)) ∙ z)
 
+nine-by : (a : Verdict) → schemaNumbers a .number ≡ 9 → a ≡ RefusedAt 9 (schemaNumbers a .place)
+nine-by Fine z = absurd (omega arith)
+nine-by (RefusedAt n p) z = ap (λ (k : ℕ). RefusedAt k p) z
+
+-- A schema that is answered 9 left a witness, of the A and the n of every other call on the file (`one-witness`).
+pub schema-nine : {file was is : List ℕ} {r : TypestockSchema} → SchemaMeans file was is r → r .number ≡ 9 → AnsweredNine file is
+schema-nine {was = was} m z =
+    record {
+      was = was;
+      read = m .read;
+      means = m .means;
+      place = schemaNumbers (m .read .answer) .place;
+      answer = nine-by (m .read .answer) (sym (ap (λ (x : TypestockSchema). x .number) (m .numbers)) ∙ z);
+    }
+
 -- A job's numbers where its schema is refused: the schema's 1 to 9 and its place, twice, and no opening.
 pub record RefusedNumbers (r : TypestockDocument) : Type 0 where
   pub above : 1 ≤ r .«schema_number»
@@ -103,3 +122,16 @@ module _ {schema events wasWitness isWitness wasTypes isTypes : List ℕ} {r : T
   -- So did one whose document is answered 0.
   pub zero-taken : r .number ≡ 0 → (e : EventFile) × (m .job ≡ EventsRead e)
   zero-taken z = ⊎-elim (λ e. e) (λ h. absurd (omega arith)) read-or-not
+
+document-nine-by : {schema events wasWitness isWitness wasTypes isTypes : List ℕ} (job : Job)
+    → JobMeans schema events wasWitness isWitness wasTypes isTypes job → documentNumbers job .«schema_number» ≡ 9
+    → AnsweredNine schema isWitness
+document-nine-by {schema} {events} {wasWitness} {isWitness} {wasTypes} {isTypes} (SchemaRefused n p) j z =
+    job-nine (subst (λ (k : ℕ). JobMeans schema events wasWitness isWitness wasTypes isTypes (SchemaRefused k p)) z j)
+document-nine-by (EventsRead e) j z = absurd (omega arith)
+
+-- So did a job whose schema is answered 9.
+pub document-nine : {schema events wasWitness isWitness wasTypes isTypes : List ℕ} {r : TypestockDocument}
+    → DocumentMeans schema events wasWitness isWitness wasTypes isTypes r → r .«schema_number» ≡ 9 → AnsweredNine schema isWitness
+document-nine m z =
+    document-nine-by (m .job) (m .means) (sym (ap (λ (x : TypestockDocument). x .«schema_number») (m .numbers)) ∙ z)

@@ -16,6 +16,7 @@ use Rattle.sdtd.specs.declared.Verdict.the-variants.{Fine, RefusedAt}
 use Rattle.schema_file.specs.declared.file.SchemaFile.{SchemaFile}
 use Rattle.sdtd.proofs.Verdicts.{refused-not-fine}
 use Rattle.schema_file.proofs.FileAnswers.{file-unique, accepted-file}
+use Rattle.schema_file.proofs.OneWitness.{AnsweredNine}
 use Rattle.events.specs.Events.{eventsOf}
 use Rattle.reading.specs.EventFile.{verdictWith, typesWith, EventsMean}
 use Rattle.reading.specs.declared.event_file.EventFile.{EventFile}
@@ -50,6 +51,28 @@ module _ {file wasWitness isWitness : List ℕ} {f : SchemaFile} (m : FileMeans 
         refused = λ n p h. refused-not-fine h q;
         accepted = λ a. (e, refl, k);
       }
+
+-- a job that refuses the schema has the schema file's answer
+module _ {file events wasWitness isWitness wasTypes isTypes : List ℕ} {n p : ℕ}
+    (j : JobMeans file events wasWitness isWitness wasTypes isTypes (SchemaRefused n p)) where
+  refusal-by : (a : Verdict) → j .file .answer ≡ a → j .file .answer ≡ RefusedAt n p
+  refusal-by (RefusedAt k l) q =
+      let s = j .refused k l q .0 in
+      let x : k ≡ n = cc in
+      let y : l ≡ p = cc in
+      q ∙ (λ i. RefusedAt (x i) (y i))
+  refusal-by Fine q =
+      let (e, s, m) = j .accepted q in
+      let z : _≡_ {A = ℕ} 0 1 = cc in absurd (omega arith)
+
+  pub job-refusal : j .file .answer ≡ RefusedAt n p
+  job-refusal = refusal-by (j .file .answer) refl
+
+-- a job that refuses the schema with 9 left a witness as the schema file's call does
+pub job-nine : {file events wasWitness isWitness wasTypes isTypes : List ℕ} {p : ℕ}
+    → JobMeans file events wasWitness isWitness wasTypes isTypes (SchemaRefused 9 p) → AnsweredNine file isWitness
+job-nine {wasWitness = was} {p = p} j =
+    record { was = was; read = j .file; means = j .schema-file; place = p; answer = job-refusal j }
 
 -- two values of the schema that the commands state mean one schema
 one-meaning : (k : Commands) (v w : Schema) → OfStated k (λ g. StatedValue g v) → OfStated k (λ g. StatedValue g w)

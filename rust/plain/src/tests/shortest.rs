@@ -114,18 +114,37 @@ fn one_type_on(steps: &[Step], pairs: &BTreeSet<(u8, u8)>) -> BTreeSet<(u8, u8)>
         .collect()
 }
 
-#[test]
-fn a_shortest_word_of_527_types() {
-    let schema = over_leaves(32, 0, &ring());
-    let (number, place, bytes) = check(&schema);
+/// In a type with these steps J and K, which lead from state 0 and from state 31, compete after 527
+/// types: no word of fewer types leads to both states.
+fn after_527(schema: &[u8], steps: &[Step], j: u8, k: u8) {
+    let (number, place, bytes) = check(schema);
     assert_eq!((number, place, bytes.len()), (9, 0, WITNESS));
-    assert_eq!(bytes[..5], hex("00 01 02 0F 02"));
-    assert!(confirmed(&schema, 0, 1, 2, &bytes[5..]));
-    // No word of fewer types leads to the last state and to the first.
+    assert_eq!(bytes[..5], [0, j, k, 0x0F, 0x02]);
+    assert!(confirmed(schema, 0, j, k, &bytes[5..]));
     let mut pairs = BTreeSet::from([(0, 0)]);
     for _ in 0..527 {
         assert!(!pairs.contains(&(0, 31)));
-        pairs = one_type_on(&ring(), &pairs);
+        pairs = one_type_on(steps, &pairs);
     }
     assert!(pairs.contains(&(0, 31)));
+}
+
+#[test]
+fn a_shortest_word_of_527_types() {
+    after_527(&over_leaves(32, 0, &ring()), &ring(), 1, 2);
+}
+
+/// The schema of the test cases' longest word, `long_way` of tests/listing/words.py: pair after pair
+/// by rising distance, and each leads at the furthest to the next.
+#[test]
+fn the_longest_word_of_the_cases() {
+    let mut steps: Vec<Step> = (0..31).map(|p| (p, 1, p + 1)).collect();
+    steps.push((31, 2, 0));
+    steps.extend((0..16).map(|d| (31 - d, 2, d + 1)));
+    steps.extend((16..31).flat_map(|d| [(31 - d, d - 13, 0), (31, d - 13, d + 1)]));
+    steps.extend([(0, 18, 0), (31, 19, 0)]);
+    let owner: Block = (0, 32, &[0], &steps);
+    let leaves: Vec<Block> = (0..18).chain([17]).map(leaf).collect();
+    let schema = file(18, &[&[owner][..], &leaves].concat(), 0);
+    after_527(&schema, &steps, 18, 19);
 }
