@@ -189,7 +189,10 @@ fn run<I: Implementation>(before: &Lent) -> Result<(Answers, Vec<u8>), String> {
     };
     let witness = check_written::<I>(number, count, before, &after)?;
     if witness != witness_alone {
-        return Err(format!("{}: the witnesses of two calls have other types or lengths", I::NAME));
+        return Err(format!(
+            "{}: the witnesses of two calls have other types or lengths",
+            I::NAME
+        ));
     }
     let answers = Answers {
         schema,
