@@ -23,7 +23,8 @@ said by document 01's words on such values, in listing/value.py; where both appl
 and must agree. Every number of document 01 stands in listing/tables.py. Beside that the valid
 documents of random schemas are listed up to some size and compared (listing/listed.py), and for
 each competition two documents of demand 3 are built and looked at, and all shorter words are
-listed, if there are not too many.
+listed, if there are not too many. Of content written as an expression the words are listed too, and
+the automaton is made from them by the request's wording (listing/expression.py).
 
 The schema fixes A and n of a witness; J, K and w are the program's choice, w among the shortest
 words. With a committed stdout given, the choice made there is taken over if the listing confirms
@@ -32,12 +33,13 @@ it; otherwise this fails.
 
 import sys
 from collections import Counter
+from itertools import islice
 from multiprocessing import Pool
 from pathlib import Path
 
 sys.dont_write_bytecode = True
 
-from listing import choices, least
+from listing import cases_under_expressions, choices, least
 from listing.case import HEAD
 from listing.cases_jobs import damaged_cases, named_size_cases, random_cases, sample_cases
 from listing.groups import GROUPS, made
@@ -106,9 +108,11 @@ def write_folders(count, folder):
     """Jobs as folders for tests/program."""
     cases = list(random_cases("folders", count // 5, count // 15, count // 30, lists=4))
     cases += list(damaged_cases(count // 10))
+    cases += list(islice(cases_under_expressions.random_job_cases(), count // 10))
     named = [(f"sample-{n}", case) for n, case in enumerate(sample_cases())]
     named += [(f"random-{n}", case) for n, case in enumerate(cases)]
-    for name, case in [*named, *named_size_cases()]:
+    named += [*named_size_cases(), *cases_under_expressions.named_size_cases()]
+    for name, case in named:
         here = folder / name
         here.mkdir(parents=True)
         (here / "schema.tab").write_bytes(case.first)

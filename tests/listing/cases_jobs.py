@@ -2,8 +2,8 @@
 
 The answer 20 cannot come up: events of at most 32,768 bytes have at most 16,384 openings of two
 bytes each, and the program's buffer holds 16,384 types. Nor can a byte of `schema.tab` past its
-first 16,384 matter: commands that are not refused fill at most 8,389 bytes, so the refusal comes
-long before.
+first 16,384 matter here: without expressions commands that are not refused fill at most 8,389
+bytes, so the refusal comes long before. cases_under_expressions has longer files.
 """
 
 import random

@@ -4,14 +4,14 @@ from .event_file import calls_of, event_bytes, events_of
 from .event_lists import every_event, random_event, walk_to_refusal
 from .reading import Reading, Taken
 from .schema_file import commands_of, operand_count
-from .tables import (BYTE, CLOSE, COMMANDS, DONE, EVENTS, FIELDS, FINISH, IN_BLOCK, MOST_LEVELS,
-                     MOST_STATES, MOST_STEPS, MOST_TAGS, MOST_TYPES, OPEN, ROOT, STEP, TAGS, TYPE,
-                     WORD)
+from .tables import (BYTE, CLOSE, DONE, EVENTS, FIELDS, FINISH, IN_BLOCK, MOST_LEVELS,
+                     MOST_STATES, MOST_STEPS, MOST_TAGS, MOST_TYPES, OPEN, ROOT, STATE_COMMANDS,
+                     STEP, TAGS, TYPE, WORD)
 
 # Bytes at which something begins or ends.
 EDGES = sorted({0, 1, 2, 3, 4, 5, MOST_STATES - 1, MOST_STATES, MOST_STATES + 1, MOST_TAGS,
                 MOST_TYPES - 1, MOST_TYPES, BYTE})
-COMMAND_BYTES = sorted(COMMANDS)
+COMMAND_BYTES = sorted(STATE_COMMANDS)
 NO_EVENTS = (0, 1, ord("\n"), OPEN - 1, CLOSE + 1, FINISH - 1, FINISH + 1, BYTE)
 
 

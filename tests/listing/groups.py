@@ -1,6 +1,7 @@
 """The cases of every kind, in the groups in which they are made."""
 
-from . import cases_calls, cases_events, cases_jobs, cases_schema, cases_values, cases_words
+from . import (cases_calls, cases_events, cases_expressions, cases_jobs, cases_schema,
+               cases_under_expressions, cases_values, cases_words)
 
 GROUPS = (
     cases_schema.CASES,
@@ -11,6 +12,8 @@ GROUPS = (
     cases_jobs.OTHER_CASES,
     cases_values.CASES,
     cases_words.CASES,
+    cases_expressions.CASES,
+    cases_under_expressions.CASES,
 )
 
 

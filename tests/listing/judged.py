@@ -13,8 +13,8 @@ NO_SCHEMA = SchemaValue.of(schema_file.Schema())
 
 
 class Judged:
-    """A schema file's answer to questions 2 to 9; its meaning where it has passed 7; the value
-    beside the answer."""
+    """A schema file's answer to questions 2 to 9 and 21 to 23; its meaning where it has passed
+    7; the value beside the answer."""
 
     def __init__(self, file):
         self.meaning, self.value = None, NO_SCHEMA

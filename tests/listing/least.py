@@ -1,7 +1,7 @@
 """How often each kind of case must have each answer at the least, written as documents.py counts;
 `lent` is a lent call that was taken."""
 
-TOTALS = {"S": 3800, "C": 1300, "E": 11400, "J": 27400, "V": 500, "P": 1024, "Q": 300}
+TOTALS = {"S": 8700, "C": 1390, "E": 13100, "J": 28300, "V": 670, "P": 1024, "Q": 300}
 
 LEAST = {
     "S samples": "3 0, 1 2, 1 4, 1 8, 1 9, 6 cases",
@@ -16,6 +16,24 @@ LEAST = {
     "S damaged": "34 0, 62 2, 80 3, 82 4, 44 6, 10 7, 38 8, 2 9, 350 cases",
     "S random": "175 0, 30 8, 180 9, 385 cases",
     "S words": "80 9, 80 cases",
+    "S expressions, samples": "6 0, 1 8, 2 9, 9 cases",
+    "S expressions, by hand": "16 0, 16 cases",
+    "S expressions, competition": "9 0, 12 9, 21 cases",
+    "S expressions, no tree": "2 0, 6 8, 8 cases",
+    "S expressions, buffers": "2 0, 10 1, 2 3, 2 9, 2 21, 2 22, 20 cases",
+    "S expressions, order": "48 0, 81 2, 90 3, 15 21, 234 cases",
+    "S expressions, every text": "136 0, 22 8, 344 21, 503 cases",
+    "S expressions, outside": "6 0, 10 2, 55 3, 71 cases",
+    "S expressions, types": "4 0, 1 2, 1 3, 10 4, 2 5, 6 7, 1 8, 3 21, 28 cases",
+    "S expressions, brackets": "28 0, 2 2, 1 3, 1 4, 2 21, 29 23, 62 cases",
+    "S expressions, uses": "8 0, 3 2, 1 3, 2 4, 1 21, 18 22, 33 cases",
+    "S expressions, steps": "10 0, 1 2, 1 3, 2 4, 12 5, 4 21, 1 22, 1 23, 32 cases",
+    "S expressions, large": "40 0, 40 cases",
+    "S expressions, empty": "40 0, 3 9, 43 cases",
+    "S expressions, not given": "4 3, 53 7, 4 8, 1 9, 4 21, 66 cases",
+    "S expressions, cut": "1 0, 103 2, 16 3, 5 4, 3 7, 130 cases",
+    "S expressions, damaged": "48 0, 279 2, 254 3, 254 4, 1 6, 45 7, 4 8, 6 9, 151 21, 1043 cases",
+    "S expressions, random": "125 0, 25 8, 75 9, 225 cases",
     "C samples": "2 13, 1 14, 1 17, 68 lent, 3 lent refused, 14 ok, 46 type, 5 cases",
     "C no schema": "9 10, 2 18, 1 lent, 4 lent refused, 3 ok, 2 type, 2 cases",
     "C every refusal":
@@ -45,6 +63,9 @@ LEAST = {
     "C random values":
         "148 10, 99 11, 110 12, 448 13, 35 14, 45 15, 226 16, 93 17, 175 18, 317 lent, 700 lent "
         "refused, 241 ok, 423 type, 130 cases",
+    "C expressions":
+        "127 11, 253 12, 210 13, 47 15, 175 16, 37 17, 91 18, 275 lent, 460 lent refused, 269 ok, "
+        "314 type, 46 cases",
     "E samples": "3 0, 1 11, 1 13, 1 14, 1 17, 2 19, 1 20, 8 cases",
     "E cut": "7 0, 123 19, 129 cases",
     "E buffers": "46 0, 46 11, 46 12, 46 19, 116 20, 298 cases",
@@ -61,6 +82,9 @@ LEAST = {
     "E random, damaged":
         "129 0, 5 11, 162 12, 227 13, 53 15, 138 16, 62 17, 55 18, 123 19, 159 20, 1110 cases",
     "E random, any bytes": "41 12, 10 13, 1 15, 1 16, 12 18, 56 19, 1 20, 120 cases",
+    "E expressions":
+        "83 0, 4 10, 38 11, 166 12, 158 13, 2 14, 28 15, 118 16, 22 17, 47 18, 139 19, 66 20, 873 "
+        "cases",
     "J samples": "4 0, 1 2, 1 4, 1 8, 1 9, 2 13, 1 14, 2 17, 10 cases",
     "J random":
         "2819 0, 170 8, 280 9, 595 11, 844 12, 1466 13, 763 15, 733 16, 1063 17, 1117 18, 2363 "
@@ -72,6 +96,9 @@ LEAST = {
     "J big files": "1 0, 1 4, 29 5, 1 8, 1 13, 32 cases",
     "J sizes": "2 0, 1 2, 3 3, 1 5, 1 11, 1 14, 1 17, 1 18, 1 19, 3 too long, 12 cases",
     "J words": "80 9, 80 cases",
+    "J expressions":
+        "102 0, 8 2, 10 8, 21 9, 16 11, 31 12, 63 13, 1 14, 25 15, 30 16, 29 17, 30 18, 89 19, "
+        "453 cases",
     "V samples":
         "7 judge 0, 13 judge 1, 4 judge 10, 1 judge 8, 2 judge 9, 8 search 0, 13 search 1, 4 "
         "search 10, 2 search 9, 27 cases",
@@ -86,6 +113,8 @@ LEAST = {
         "115 judge 0, 42 judge 1, 5 judge 10, 17 judge 8, 20 judge 9, 132 search 0, 42 search 1, "
         "5 search 10, 20 search 9, 200 cases",
     "V words": "80 judge 9, 80 search 9, 80 cases",
+    "V expressions":
+        "50 judge 0, 5 judge 8, 30 judge 9, 55 search 0, 30 search 9, 85 cases",
     "P pairs": "512 inside, 16 outside, 528 cases",
     "Q sets":
         "71 below no, 85 below yes, 123 has no, 33 has yes, 68 meets no, 87 meets yes, 156 cases",

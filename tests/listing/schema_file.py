@@ -1,11 +1,14 @@
-"""The schema file's questions 2 to 7, command by command, and the writer of schema files."""
+"""The schema file's questions 2 to 7 and 21 to 23, command by command, and the writer of schema
+files."""
 
 from collections import Counter
 from dataclasses import dataclass, field
 
-from .tables import (COMMAND_QUESTIONS, COMMANDS, DONE, FILE_QUESTIONS, FINAL, MOST_COMMANDS,
-                     MOST_STATES, MOST_TAGS, MOST_TYPES, NO_COMMAND, ONCE_IN_BLOCK, ROOT, STEP,
-                     TAGS, TYPE)
+from .expression import automaton
+from .tables import (CLOSE_BRACKET, COMMAND_QUESTIONS, COMMANDS, DONE, END_EXPRESSION, EXPRESSION,
+                     EXPRESSION_COMMANDS, FILE_QUESTIONS, FINAL, MOST_BRACKETS, MOST_COMMANDS,
+                     MOST_STATES, MOST_STEPS, MOST_TAGS, MOST_TYPES, MOST_USES, NO_COMMAND,
+                     ONCE_IN_BLOCK, OPEN_BRACKET, REPEAT, ROOT, STEP, TAGS, TYPE, USE)
 
 
 class Refused(Exception):
@@ -27,6 +30,14 @@ class Block:
 
 
 @dataclass
+class Content:
+    """A type whose content is written as an expression, the bytes without those around it."""
+
+    tag: int
+    text: bytes
+
+
+@dataclass
 class Schema:
     """What a schema file states; a type's number is its place in `blocks`."""
 
@@ -38,7 +49,7 @@ class Schema:
 RANGES = {
     "tag count": lambda schema: range(1, MOST_TAGS + 1),
     "tag": lambda schema: range(schema.tags),
-    "state count": lambda schema: range(1, MOST_STATES + 1),
+    "state count": lambda schema: range(MOST_STATES + 1),       # 0: an expression follows
     "state": lambda schema: range(schema.blocks[-1].states),
     "step's type": lambda schema: range(MOST_TYPES),
     "given type": lambda schema: range(len(schema.blocks)),
@@ -51,7 +62,8 @@ class Reader:
     def __init__(self, data):
         self.data, self.at, self.last = data, 0, None
         self.schema, self.counts, self.given = Schema(), Counter(), set()
-        self.step_places = []
+        self.text, self.in_text = [], Counter()     # of the expression, as far as it is read
+        self.named = []         # the types that STEPs and uses name, each with the place
 
     def read(self):
         """The schema that the file states, or Refused."""
@@ -86,7 +98,28 @@ class Reader:
         return all(operand in RANGES[kind](self.schema)
                    for kind, operand in zip(kinds, self.operands))
 
+    def can_follow(self):
+        """May this command of an expression stand here? A bracket is closed that is open, a factor
+        repeated right after it and once, the end comes with no bracket open."""
+        if self.command == CLOSE_BRACKET:
+            return self.brackets() > 0
+        if self.command == REPEAT:
+            return self.last in (USE, CLOSE_BRACKET)
+        return self.command != END_EXPRESSION or self.brackets() == 0
+
+    def has_use_left(self):
+        return self.command != USE or self.in_text[USE] < MOST_USES
+
+    def has_bracket_left(self):
+        return self.command != OPEN_BRACKET or self.brackets() < MOST_BRACKETS
+
+    def brackets(self):
+        """How many are open."""
+        return self.in_text[OPEN_BRACKET] - self.in_text[CLOSE_BRACKET]
+
     def is_within_limits(self):
+        if self.command == END_EXPRESSION:
+            return self.counts[STEP] + len(automaton(tuple(self.text)).steps) <= MOST_STEPS
         most = MOST_COMMANDS.get(self.command)
         return most is None or self.counts[self.command] < most
 
@@ -97,10 +130,9 @@ class Reader:
     def is_new(self):
         return self.command not in ONCE_IN_BLOCK or self.key() not in self.given
 
-    def step_by_no_type(self):
-        """The place of the first STEP that names a type not given, or None."""
-        return next((place for by, place in self.step_places
-                     if by >= len(self.schema.blocks)), None)
+    def named_but_not_given(self):
+        """The place of the first STEP or use that names a type not given, or None."""
+        return next((place for by, place in self.named if by >= len(self.schema.blocks)), None)
 
     def enter(self):
         """Enters the command's part of the schema and goes on to the next."""
@@ -111,14 +143,28 @@ class Reader:
             [schema.tags] = operands
         elif self.command == TYPE:
             schema.blocks.append(Block(*operands))
+            self.text, self.in_text = [], Counter()
         elif self.command == FINAL:
             schema.blocks[-1].accepting.append(operands[0])
         elif self.command == STEP:
             schema.blocks[-1].steps.append(operands)
-            self.step_places.append((operands[1], self.at))
+            self.named.append((operands[1], self.at))
         elif self.command == ROOT:
             [schema.root] = operands
-        self.at, self.last = self.at + 1 + len(operands), self.command
+        elif self.command == END_EXPRESSION:
+            self.enter_content(*automaton(tuple(self.text)))
+        elif self.command in EXPRESSION_COMMANDS:
+            self.text.append((self.command, operands))
+            self.in_text[self.command] += 1
+            self.named += [(by, self.at) for by in operands]
+        begun = self.command == TYPE and operands[1] == 0
+        self.at, self.last = self.at + 1 + len(operands), EXPRESSION if begun else self.command
+
+    def enter_content(self, states, accepting, steps):
+        """The automaton that the expression becomes is the content of the last type."""
+        block = self.schema.blocks[-1]
+        block.states, block.accepting, block.steps = states, list(accepting), list(steps)
+        self.counts[STEP] += len(steps)
 
 
 def operand_count(command):
@@ -144,6 +190,9 @@ def write(schema, shuffle=lambda commands: None):
     """A file that states the schema; `shuffle` may reorder a block's commands."""
     out = bytearray([TAGS, schema.tags])
     for block in schema.blocks:
+        if isinstance(block, Content):
+            out += bytes([TYPE, block.tag, 0, *block.text, END_EXPRESSION])
+            continue
         out += bytes([TYPE, block.tag, block.states])
         commands = [[FINAL, state] for state in block.accepting]
         commands += [[STEP, *step] for step in block.steps]

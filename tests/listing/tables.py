@@ -1,4 +1,5 @@
-"""Document 01's numbers, each at this one place: limits, commands, events, calls, questions.
+"""The numbers of document 01 and of the requests, each at this one place: limits, commands, events,
+calls, questions.
 
 A question is (number, name of the method that answers it). The readers of a schema file and of
 events ask in the order of these tables, so a new command, event, question or limit is a line here
@@ -9,7 +10,8 @@ from typing import NamedTuple
 
 # Limits.
 MOST_TAGS, MOST_TYPES, MOST_STATES, MOST_STEPS, MOST_LEVELS = 32, 64, 32, 1024, 64
-LONGEST_FILE = 8389         # of the accepted schema files
+MOST_USES, MOST_BRACKETS = 31, 16       # of one expression
+LONGEST_FILE = 8389         # of the accepted schema files with no expression
 MOST_WORD, LEAST_WITNESS_ROOM = 527, 532
 SCHEMA_BYTES, EVENT_BYTES, PROGRAM_TYPES = 16384, 32768, 16384
 
@@ -17,6 +19,7 @@ SCHEMA_BYTES, EVENT_BYTES, PROGRAM_TYPES = 16384, 32768, 16384
 MOST_BEGINNINGS = 1500      # of one schema's words
 MOST_OF_A_LENGTH = 200      # of one type's words, where all are listed
 MOST_ELEMENTS = 7           # of a listed document
+MOST_LISTED_WORDS, MOST_WORDS_COMPARED = 4000, 100      # of one expression
 MOST_FORESTS, MOST_TREES, MOST_LISTED_TREES, MOST_LAYER = 3000, 250, 400, 20000
 MOST_WITNESS_ROOM, MOST_LENGTH = 600, 65535
 
@@ -42,28 +45,43 @@ NO_WORD = 17
 NOT_WHOLE = 18
 NO_EVENT = 19
 NO_ROOM = 20
+CANNOT_FOLLOW = 21
+TOO_MANY_USES = 22
+TOO_MANY_BRACKETS = 23
 
 
 # The schema file.
 
 class Command(NamedTuple):
-    """The kinds of its operands (their ranges stand in schema_file.RANGES), and the commands
-    that it may follow; the file begins after the command None."""
+    """The kinds of its operands (their ranges stand in schema_file.RANGES), and what it may
+    follow: commands, None at the file's beginning, EXPRESSION after a TYPE of state count 0."""
 
     operands: tuple
     follows: tuple
 
 
 TAGS, TYPE, FINAL, STEP, ROOT, DONE = 0x10, 0x11, 0x12, 0x13, 0x14, 0x1F
+OPEN_BRACKET, CLOSE_BRACKET, USE, NEXT_SEQUENCE, REPEAT = 0x30, 0x31, 0x32, 0x33, 0x34
+END_EXPRESSION, EXPRESSION = 0x3F, "expression"
 IN_BLOCK = (TYPE, FINAL, STEP)
-COMMANDS = {
+IN_EXPRESSION = (EXPRESSION, OPEN_BRACKET, CLOSE_BRACKET, USE, NEXT_SEQUENCE, REPEAT)
+STATE_COMMANDS = {
     TAGS: Command(("tag count",), (None,)),
-    TYPE: Command(("tag", "state count"), (TAGS, *IN_BLOCK)),
+    TYPE: Command(("tag", "state count"), (TAGS, *IN_BLOCK, END_EXPRESSION)),
     FINAL: Command(("state",), IN_BLOCK),
     STEP: Command(("state", "step's type", "state"), IN_BLOCK),
-    ROOT: Command(("given type",), IN_BLOCK),
+    ROOT: Command(("given type",), (*IN_BLOCK, END_EXPRESSION)),
     DONE: Command((), (ROOT,)),
 }
+EXPRESSION_COMMANDS = {
+    OPEN_BRACKET: Command((), IN_EXPRESSION),
+    CLOSE_BRACKET: Command((), IN_EXPRESSION),
+    USE: Command(("step's type",), IN_EXPRESSION),
+    NEXT_SEQUENCE: Command((), IN_EXPRESSION),
+    REPEAT: Command((), IN_EXPRESSION),
+    END_EXPRESSION: Command((), IN_EXPRESSION),
+}
+COMMANDS = {**STATE_COMMANDS, **EXPRESSION_COMMANDS}
 MOST_COMMANDS = {TYPE: MOST_TYPES, STEP: MOST_STEPS}
 ONCE_IN_BLOCK = (FINAL, STEP)
 
@@ -73,11 +91,14 @@ COMMAND_QUESTIONS = (
     (NO_COMMAND, "is_whole"),
     (OUT_OF_ORDER, "is_in_order"),
     (OUT_OF_RANGE, "is_in_range"),
+    (CANNOT_FOLLOW, "can_follow"),
+    (TOO_MANY_USES, "has_use_left"),
+    (TOO_MANY_BRACKETS, "has_bracket_left"),
     (TOO_MANY, "is_within_limits"),
     (REPEATED, "is_new"),
 )
 # After DONE, of the file and then of its schema; the method gives the place, or None for yes.
-FILE_QUESTIONS = ((TYPE_NOT_GIVEN, "step_by_no_type"),)
+FILE_QUESTIONS = ((TYPE_NOT_GIVEN, "named_but_not_given"),)
 SCHEMA_QUESTIONS = ((NO_TREE, "root_without_tree"), (COMPETITION, "competition_place"))
 
 

@@ -6,37 +6,40 @@ use types.Run.{OneOf, miss}
 use denote.Enum.Declared.{tagOf}
 use Rattle.command.specs.Cases.{onType, onFinal, onStep}
 use Rattle.command.specs.declared.Command.{Command}
-use Rattle.command.specs.declared.Command.the-variants.{Tags, TypeBlock, Final, Step, Root, Done, NoCommand}
+use Rattle.command.specs.declared.Command.the-variants.{Tags, TypeBlock, Final, Step, Root, Done, Expression, NoCommand}
 use Rattle.command.proofs.Command.{the-type}
 
-pub no-type : {A : Type 0} (f : ℕ → ℕ → A) (x : A) (c : Command) → OneOf (0 ∷ 2 ∷ 3 ∷ 4 ∷ 5 ∷ 6 ∷ []) (tagOf the-type c)
+pub no-type : {A : Type 0} (f : ℕ → ℕ → A) (x : A) (c : Command) → OneOf (0 ∷ 2 ∷ 3 ∷ 4 ∷ 5 ∷ 6 ∷ 7 ∷ []) (tagOf the-type c)
     → x ≡ onType f x c
 no-type f x (Tags n) k = refl
-no-type f x (TypeBlock g s) k = absurd (miss (0 ∷ 2 ∷ 3 ∷ 4 ∷ 5 ∷ 6 ∷ []) 1 tt k)
+no-type f x (TypeBlock g s) k = absurd (miss (0 ∷ 2 ∷ 3 ∷ 4 ∷ 5 ∷ 6 ∷ 7 ∷ []) 1 tt k)
 no-type f x (Final q) k = refl
 no-type f x (Step p j q) k = refl
 no-type f x (Root a) k = refl
 no-type f x Done k = refl
+no-type f x (Expression y) k = refl
 no-type f x NoCommand k = refl
 
-pub no-final : {A : Type 0} (f : ℕ → A) (x : A) (c : Command) → OneOf (0 ∷ 1 ∷ 3 ∷ 4 ∷ 5 ∷ 6 ∷ []) (tagOf the-type c)
+pub no-final : {A : Type 0} (f : ℕ → A) (x : A) (c : Command) → OneOf (0 ∷ 1 ∷ 3 ∷ 4 ∷ 5 ∷ 6 ∷ 7 ∷ []) (tagOf the-type c)
     → x ≡ onFinal f x c
 no-final f x (Tags n) k = refl
 no-final f x (TypeBlock g s) k = refl
-no-final f x (Final q) k = absurd (miss (0 ∷ 1 ∷ 3 ∷ 4 ∷ 5 ∷ 6 ∷ []) 2 tt k)
+no-final f x (Final q) k = absurd (miss (0 ∷ 1 ∷ 3 ∷ 4 ∷ 5 ∷ 6 ∷ 7 ∷ []) 2 tt k)
 no-final f x (Step p j q) k = refl
 no-final f x (Root a) k = refl
 no-final f x Done k = refl
+no-final f x (Expression y) k = refl
 no-final f x NoCommand k = refl
 
-pub no-step : {A : Type 0} (f : ℕ → ℕ → ℕ → A) (x : A) (c : Command) → OneOf (0 ∷ 1 ∷ 2 ∷ 4 ∷ 5 ∷ 6 ∷ []) (tagOf the-type c)
+pub no-step : {A : Type 0} (f : ℕ → ℕ → ℕ → A) (x : A) (c : Command) → OneOf (0 ∷ 1 ∷ 2 ∷ 4 ∷ 5 ∷ 6 ∷ 7 ∷ []) (tagOf the-type c)
     → x ≡ onStep f x c
 no-step f x (Tags n) k = refl
 no-step f x (TypeBlock g s) k = refl
 no-step f x (Final q) k = refl
-no-step f x (Step p j q) k = absurd (miss (0 ∷ 1 ∷ 2 ∷ 4 ∷ 5 ∷ 6 ∷ []) 3 tt k)
+no-step f x (Step p j q) k = absurd (miss (0 ∷ 1 ∷ 2 ∷ 4 ∷ 5 ∷ 6 ∷ 7 ∷ []) 3 tt k)
 no-step f x (Root a) k = refl
 no-step f x Done k = refl
+no-step f x (Expression y) k = refl
 no-step f x NoCommand k = refl
 
 -- by two rules that agree
@@ -47,4 +50,5 @@ step-same x e (Final q) = refl
 step-same x e (Step p j q) = e p (j .0) q
 step-same x e (Root a) = refl
 step-same x e Done = refl
+step-same x e (Expression y) = refl
 step-same x e NoCommand = refl

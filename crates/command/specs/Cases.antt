@@ -1,7 +1,8 @@
 -- What a command of one kind gives, by its operands; any other gives what stands beside.
 use Prim.Native.Nat.{ℕ}
 use Rattle.command.specs.declared.Command.{Command}
-use Rattle.command.specs.declared.Command.the-variants.{Tags, TypeBlock, Final, Step, Root, Done, NoCommand}
+use Rattle.command.specs.declared.Part.{Part}
+use Rattle.command.specs.declared.Command.the-variants.{Tags, TypeBlock, Final, Step, Root, Done, Expression, NoCommand}
 
 abbrev pub onType : {A : Type 0} → (ℕ → ℕ → A) → A → Command → A
 onType f x (Tags n) = x
@@ -10,6 +11,7 @@ onType f x (Final q) = x
 onType f x (Step p j q) = x
 onType f x (Root a) = x
 onType f x Done = x
+onType f x (Expression y) = x
 onType f x NoCommand = x
 
 abbrev pub onFinal : {A : Type 0} → (ℕ → A) → A → Command → A
@@ -19,6 +21,7 @@ onFinal f x (Final q) = f q
 onFinal f x (Step p j q) = x
 onFinal f x (Root a) = x
 onFinal f x Done = x
+onFinal f x (Expression y) = x
 onFinal f x NoCommand = x
 
 abbrev pub onStep : {A : Type 0} → (ℕ → ℕ → ℕ → A) → A → Command → A
@@ -28,4 +31,15 @@ onStep f x (Final q) = x
 onStep f x (Step p j q) = f p (j .0) q
 onStep f x (Root a) = x
 onStep f x Done = x
+onStep f x (Expression y) = x
 onStep f x NoCommand = x
+
+abbrev pub onExpression : {A : Type 0} → (Part → A) → A → Command → A
+onExpression f x (Tags n) = x
+onExpression f x (TypeBlock g s) = x
+onExpression f x (Final q) = x
+onExpression f x (Step p j q) = x
+onExpression f x (Root a) = x
+onExpression f x Done = x
+onExpression f x (Expression y) = f y
+onExpression f x NoCommand = x

@@ -2,7 +2,9 @@
 use sdtd::Tag;
 use sdtd::TypeNo;
 ghost use mathlib.Core.Path.{_≡_};
-ghost use Rattle.command.specs.Command.{commandAt, size};
+ghost use Prim.Native.Nat.{_<_};
+ghost use lib.ListN.{length, getD};
+ghost use Rattle.command.specs.Command.{expressionCommand, commandAt, partSize, size};
 
 // the bytes of a command with no operand, with one, with two, with three
 const ALONE: usize = 1;
@@ -13,6 +15,16 @@ const WITH_TWO: usize = 3;
 
 const WITH_THREE: usize = 4;
 
+// A command of an expression: 30 and 31 around a choice, 32 with a type, 33 between sequences, 34 after what it repeats, 3F at the end.
+pub enum Part {
+    OpenBracket,
+    CloseBracket,
+    Use(TypeNo),
+    Or,
+    Repeat,
+    End,
+}
+
 // A command with its operands, or that there is none.
 pub enum Command {
     Tags(u8),
@@ -21,7 +33,37 @@ pub enum Command {
     Step(u8, TypeNo, u8),
     Root(TypeNo),
     Done,
+    Expression(Part),
     NoCommand,
+}
+
+// The command of an expression that begins with the byte b at a place of the file.
+fn expression_command(file: &[u8], at: usize, b: u8) -> Command
+    requires { ⌜ at < length (now file) ⌝ }
+    ensures { λ r. ⌜ r ≡ expressionCommand (now (file .entry)) at b ⌝ }
+{
+    if b == 0x30 {
+        return Command::Expression(Part::OpenBracket);
+    }
+    if b == 0x31 {
+        return Command::Expression(Part::CloseBracket);
+    }
+    if b == 0x32 {
+        if file.len() - at < WITH_ONE {
+            return Command::NoCommand;
+        }
+        return Command::Expression(Part::Use(TypeNo(file[at + 1])));
+    }
+    if b == 0x33 {
+        return Command::Expression(Part::Or);
+    }
+    if b == 0x34 {
+        return Command::Expression(Part::Repeat);
+    }
+    if b == 0x3f {
+        return Command::Expression(Part::End);
+    }
+    Command::NoCommand
 }
 
 // The command at a place of the file.
@@ -66,7 +108,21 @@ pub fn command_at(file: &[u8], at: usize) -> Command
     if b == 0x1f {
         return Command::Done;
     }
-    Command::NoCommand
+    expression_command(file, at, b)
+}
+
+// How many bytes a command of an expression has.
+fn size_of_part(part: Part) -> usize
+    ensures { λ r. ⌜ r ≡ partSize part ⌝ }
+{
+    match part {
+        Part::Use(_) => WITH_ONE,
+        Part::OpenBracket => ALONE,
+        Part::CloseBracket => ALONE,
+        Part::Or => ALONE,
+        Part::Repeat => ALONE,
+        Part::End => ALONE,
+    }
 }
 
 // How many bytes a command has; where there is none, none.
@@ -80,6 +136,7 @@ pub fn size_of(command: Command) -> usize
         Command::Step(_, _, _) => WITH_THREE,
         Command::Root(_) => WITH_ONE,
         Command::Done => ALONE,
+        Command::Expression(part) => size_of_part(part),
         Command::NoCommand => 0,
     }
 }

@@ -16,23 +16,29 @@ use Rattle.sdtd.specs.declared.TypeNo.{TypeNo}
 use Rattle.schema.specs.Value.{upFrom, offset, blockAt, meaning}
 use Rattle.command.specs.Command.{commandAt, size}
 use Rattle.command.specs.declared.Command.{Command}
-use Rattle.command.specs.declared.Command.the-variants.{Tags, TypeBlock, Final, Step, Root, Done, NoCommand}
+use Rattle.command.specs.declared.Command.the-variants.{Tags, TypeBlock, Final, Step, Root, Done, Expression, NoCommand}
 use Rattle.command.proofs.CommandLaws.{command-in-file, size-some}
 use Rattle.command.proofs.CaseLaws.{step-same}
+use Rattle.expression.specs.Expression.{Expression as Exp}
+use Rattle.expression.specs.Tests.{allSteps}
+use Rattle.expression.specs.Content.{Name, Content, broken, whole, contentAt}
+use Rattle.expression.proofs.WholeContents.{rise-most, whole-content}
 use Rattle.commands.specs.Questions.{rank, samePhase, failed}
-use Rattle.commands.specs.File.{Placed, Stated, nothingStated, current, stepCount, hasStep, seenOf, after, stopped, states, commandsFrom}
+use Rattle.commands.specs.File.{Stated, nothingStated, current, stepCount, hasStep, seenOf, after, afterExpression, Commands, stopped, states}
+use Rattle.commands.specs.File.{byContent, commandsFrom}
 use Rattle.commands.specs.File.{schemaBy}
 use Rattle.commands.specs.Value.{EmptyFrom, StatedValue}
-use Rattle.commands.specs.Progress.{nothingRead, givenLast, lastType, progressAfter}
+use Rattle.commands.specs.Progress.{nothingRead, givenLast, lastType, progressAfter, progressWith}
 use Rattle.commands.proofs.SchemaTables.{SchemaTables}
 use Rattle.commands.specs.declared.progress.Phase.{Phase}
-use Rattle.commands.specs.declared.progress.Phase.the-variants.{BeforeTags, BeforeTypes, InBlock, AfterRoot, AfterDone}
+use Rattle.commands.specs.declared.progress.Phase.the-variants.{BeforeTags, BeforeTypes, InBlock, InExpression, AfterExpression, AfterRoot, AfterDone}
 use Rattle.commands.specs.declared.progress.Progress.{Progress}
 use Rattle.commands.proofs.Passing.{passed, passed-command}
 use Rattle.commands.proofs.Holding.{seenIn, tablesAfter, DraftHolds, Sized, EmptyPast, Holds}
 use Rattle.commands.proofs.TableLaws.{current-holds, current-count, given-holds, type-sized, type-blocks, type-empty}
 use Rattle.commands.proofs.TableLaws.{accepting-sized, final-blocks, final-count, final-steps, accepting-empty}
 use Rattle.commands.proofs.TableLaws.{step-sized, step-blocks, step-count, step-steps, step-empty}
+use Rattle.commands.proofs.ExpressionTables.{tablesWith, automaton-sized, automaton-blocks, automaton-empty, automaton-count, automaton-total}
 use Rattle.commands.proofs.StatedLaws.{offset-back, valueIn, blocks-back}
 
 -- before any command: tables of zeros hold that nothing is stated
@@ -48,6 +54,7 @@ first-holds k e =
       types-most = omega arith;
       steps-most = omega arith;
       some = omega arith;
+      fresh = λ p. refl;
       blocks = tt;
       empty = e;
     }
@@ -88,12 +95,12 @@ module _ {g : Stated} {s : Progress} {t : SchemaTables} (h : Holds g s t) where
       }
 
   -- a command that changes neither the blocks nor the tables, and after which the file is in no block
-  stays : (phase : Phase) (tags : ℕ) (root : TypeNo) → rank phase ≢ rank InBlock
+  stays : (phase : Phase) (tags : ℕ) (root : TypeNo) → (rank InBlock ≤ rank phase → 0 < s .types) → rank phase ≢ rank InExpression
       → Holds
-      (record { phase = phase; tags = tags; blocks = g .blocks; root = root .0 })
+      (record { phase = phase; tags = tags; blocks = g .blocks; names = g .names; root = root .0 })
       (record { phase = phase; tags = tags; types = s .types; root = root; steps = s .steps })
       t
-  stays phase tags root o =
+  stays phase tags root some o =
       record {
         sized = h .sized;
         phase = refl;
@@ -103,7 +110,8 @@ module _ {g : Stated} {s : Progress} {t : SchemaTables} (h : Holds g s t) where
         steps = h .steps;
         types-most = h .types-most;
         steps-most = h .steps-most;
-        some = λ e. absurd (o e);
+        some = some;
+        fresh = λ e. absurd (o e);
         blocks = h .blocks;
         empty = h .empty;
       }
@@ -125,17 +133,18 @@ module _ {g : Stated} {s : Progress} {t : SchemaTables} (h : Holds g s t) where
         types-most = omega (arith, h .types);
         steps-most = h .steps-most;
         some = omega arith;
+        fresh = λ p. refl;
         blocks = type-blocks t (h .sized) (g .blocks) (s .types % mostTypes) (a .0) k i (omega (arith, h .types)) (omega arith) z (h .blocks);
         empty = type-empty (h .empty) (s .types % mostTypes) (a .0) k (omega (arith, h .types));
       }
 
   -- in a block
   module _ (in-block : rank (g .phase) ≡ rank InBlock) where
-    pub some-blocks : 0 < length (g .blocks)
-    some-blocks = omega (arith, h .some in-block, h .types)
+    some-blocks : 0 < length (g .blocks)
+    some-blocks = omega (arith, h .some (omega arith), h .types)
 
     last-block : suc (lastType (s .types)) ≡ length (g .blocks)
-    last-block = omega (arith, h .some in-block, h .types, h .types-most)
+    last-block = omega (arith, h .some (omega arith), h .types, h .types-most)
 
     phase-block : s .phase ≡ InBlock
     phase-block = h .phase ∙ only (g .phase) in-block
@@ -144,6 +153,8 @@ module _ {g : Stated} {s : Progress} {t : SchemaTables} (h : Holds g s t) where
         only BeforeTags e = absurd (omega arith)
         only BeforeTypes e = absurd (omega arith)
         only InBlock e = refl
+        only InExpression e = absurd (omega arith)
+        only AfterExpression e = absurd (omega arith)
         only AfterRoot e = absurd (omega arith)
         only AfterDone e = absurd (omega arith)
 
@@ -160,7 +171,8 @@ module _ {g : Stated} {s : Progress} {t : SchemaTables} (h : Holds g s t) where
           steps = h .steps ∙ final-steps q (g .blocks);
           types-most = h .types-most;
           steps-most = h .steps-most;
-          some = λ p. h .some in-block;
+          some = λ p. h .some (omega arith);
+          fresh = λ p. absurd (omega arith);
           blocks = final-blocks t (h .sized) (g .blocks) a q last-block (omega arith) (h .blocks);
           empty = accepting-empty (h .empty) a q (omega (arith, h .types, last-block));
         }
@@ -172,7 +184,7 @@ module _ {g : Stated} {s : Progress} {t : SchemaTables} (h : Holds g s t) where
         let a = lastType (s .types) in
         let m = s .steps % mostSteps in
         let n : m ≡ stepCount (g .blocks) = omega (arith, h .steps) in
-        let y : Placed = record { step = step p (j .0) q; place = i } in
+        let y = step p (j .0) q in
         record {
           sized = step-sized t (h .sized) a m p (j .0) q;
           phase = phase-block;
@@ -182,21 +194,49 @@ module _ {g : Stated} {s : Progress} {t : SchemaTables} (h : Holds g s t) where
           steps = omega (arith, h .steps, step-steps y (g .blocks) some-blocks);
           types-most = h .types-most;
           steps-most = omega (arith, h .steps);
-          some = λ p. h .some in-block;
-          blocks = step-blocks t (h .sized) (g .blocks) a m p (j .0) q i last-block (omega arith) n (omega arith) (h .blocks);
+          some = λ p. h .some (omega arith);
+          fresh = λ p. absurd (omega arith);
+          blocks = step-blocks t (h .sized) (g .blocks) a m p (j .0) q last-block (omega arith) n (omega arith) (h .blocks);
           empty = step-empty (h .empty) a m p (j .0) q (omega (arith, h .types, last-block)) (omega (arith, h .steps));
         }
 
   -- after a command that passed its questions, they hold what is stated then
   pub after-holds : (i : ℕ) (c : Command) → failed (seenOf g c) c ≡ 0 → Holds (after g i c) (progressAfter s c) (tablesAfter s t c)
   unfolding after progressAfter
-  after-holds i (Tags n) e = rw (← h .root) (stays BeforeTypes n (s .root) (omega arith))
+  after-holds i (Tags n) e = rw (← h .root) (stays BeforeTypes n (s .root) (omega arith) (omega arith))
   after-holds i (TypeBlock a k) e = after-type i a k (passed g (TypeBlock a k) e .5)
   after-holds i (Final q) e = after-final (passed g (Final q) e .0) i q
   after-holds i (Step p j q) e = let r = passed g (Step p j q) e in after-step (r .0) i p j q (r .3)
-  after-holds i (Root a) e = rw (← h .tags) (stays AfterRoot (s .tags) a (omega arith))
-  after-holds i Done e = rw (← h .tags, ← h .root) (stays AfterDone (s .tags) (s .root) (omega arith))
+  after-holds i (Root a) e =
+      let r = passed g (Root a) e in
+      rw (← h .tags) (stays AfterRoot (s .tags) a (λ l. h .some (r .0)) (omega arith))
+  after-holds i Done e =
+      let r = passed g Done e in
+      rw (← h .tags, ← h .root) (stays AfterDone (s .tags) (s .root) (λ l. h .some (omega arith)) (omega arith))
+  after-holds i (Expression x) e = absurd (passed g (Expression x) e)
   after-holds i NoCommand e = h
+
+  -- after an expression whose steps fit, too
+  pub expression-holds : rank (g .phase) ≡ rank InExpression → (e : Exp) (ns : List Name) → s .steps + length (allSteps e) ≤ mostSteps
+      → Holds (afterExpression g e ns) (progressWith s (s .steps + length (allSteps e))) (tablesWith t (lastType (s .types)) (s .steps) e)
+  expression-holds inside e ns fits =
+      let a = lastType (s .types) in
+      let some = h .some (omega arith) in
+      let last : suc a ≡ length (g .blocks) = omega (arith, h .types, h .types-most) in
+      record {
+        sized = automaton-sized t (h .sized) a (s .steps) e;
+        phase = refl;
+        tags = h .tags;
+        root = h .root;
+        types = h .types ∙ automaton-count e (g .blocks);
+        steps = automaton-total e (g .blocks) (h .fresh inside) (omega arith) (h .steps);
+        types-most = h .types-most;
+        steps-most = fits;
+        some = λ l. some;
+        fresh = λ p. absurd (omega arith);
+        blocks = automaton-blocks t (h .sized) a (s .steps) e (g .blocks) last (omega arith) (h .steps) (h .fresh inside) fits (h .blocks);
+        empty = automaton-empty t (h .sized) a (s .steps) e (omega arith) (h .empty);
+      }
 
   -- the schema value made of them is that of what is stated
   pub stated-value : StatedValue g (valueIn s t)
@@ -229,6 +269,15 @@ under : {A : Type 0} (b : Bool) {x y : A} (z : A) → (T b → x ≡ y) → cond
 under true z f = f tt
 under false z f = refl
 
+-- what follows an expression is the same where the rest after it is
+content-same : (g : Stated) (rest rest′ : ℕ → Stated → Commands) (k : Content)
+    → ((e : Exp) (ns : List Name) (p : ℕ) → k ≡ whole e ns p → rest (p + 1) (afterExpression g e ns) ≡ rest′ (p + 1) (afterExpression g e ns))
+    → byContent g rest k ≡ byContent g rest′ k
+unfolding byContent
+content-same g rest rest′ (broken n p) f = refl
+content-same g rest rest′ (whole e ns p) f =
+    ap (λ (k : Commands). cond (leb (stepCount (g .blocks) + length (allSteps e)) mostSteps) k (stopped 5 p)) (f e ns p refl)
+
 -- fuel above the bytes left makes no difference
 pub fuel-enough : (file : List ℕ) (f f′ i : ℕ) (g : Stated) → length file - i < f → length file - i < f′
     → commandsFrom f file i g ≡ commandsFrom f′ file i g
@@ -239,10 +288,16 @@ fuel-enough file (suc f) (suc f′) i g l l′ =
     let c = commandAt file i in
     let n = failed (seenOf g c) c in
     let next = fuel-enough file f f′ (i + size c) (after g i c) in
-    ap (cond (samePhase (g .phase) AfterDone) (cond (leb (length file) i) (states g) (stopped 3 i)))
-    (under (eqb n 0) (stopped n i)
+    let command = under (eqb n 0) (stopped n i)
     λ e.
     let k = passed-command g c (eqb→eq n 0 e) in
     let in-file = command-in-file file i k in
     let some = size-some c k in
-    next (omega arith) (omega arith))
+    next (omega arith) (omega arith) in
+    let expression = content-same g (commandsFrom f file) (commandsFrom f′ file) (contentAt file i) λ e ns p h.
+    let w = whole-content file i h in
+    let b = rise-most i ns p (w .rises) in
+    let m = w .ends in
+    fuel-enough file f f′ (p + 1) (afterExpression g e ns) (omega arith) (omega arith) in
+    ap (cond (samePhase (g .phase) AfterDone) (cond (leb (length file) i) (states g) (stopped 3 i)))
+    (λ j. cond (samePhase (g .phase) InExpression) (expression j) (command j))

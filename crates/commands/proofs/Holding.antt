@@ -7,12 +7,13 @@ use Rattle.sdtd.specs.Limits.{mostTypes, mostSteps}
 use Rattle.schema.specs.Value.{stepAt}
 use Rattle.command.specs.declared.Command.{Command}
 use Rattle.commands.specs.Questions.{rank}
-use Rattle.commands.specs.File.{Placed, Draft, Stated, stepCount}
+use Rattle.sdtd.specs.Schema.{Step}
+use Rattle.commands.specs.File.{Draft, Stated, current, stepCount}
 use Rattle.commands.specs.Value.{EmptyFrom}
 use Rattle.commands.specs.Progress.{seenBy, lastType, givenAlready, tagAfter, statesAfter, acceptingAfter}
 use Rattle.commands.proofs.SchemaTables.{SchemaTables}
 use Rattle.commands.specs.Progress.{countsAfter, fromAfter, byAfter, toAfter}
-use Rattle.commands.specs.declared.progress.Phase.the-variants.{InBlock}
+use Rattle.commands.specs.declared.progress.Phase.the-variants.{InBlock, InExpression}
 use Rattle.commands.specs.declared.progress.Progress.{Progress}
 use Rattle.commands.specs.declared.questions.Seen.{Seen}
 
@@ -37,10 +38,10 @@ tablesAfter s t c =
     }
 
 -- the steps of a block, the last first, stand from the place s of the tables on
-abbrev pub StepsHold : SchemaTables → List Placed → ℕ → Type 0
+abbrev pub StepsHold : SchemaTables → List Step → ℕ → Type 0
 StepsHold t [] s = Unit
 StepsHold t (x ∷ xs) s =
-    (stepAt (t .from) (t .by) (t .to) (s + length xs) ≡ x .step) × StepsHold t xs s
+    (stepAt (t .from) (t .by) (t .to) (s + length xs) ≡ x) × StepsHold t xs s
 
 -- the block d is the type a, whose steps stand from the place s on
 pub record DraftHolds (t : SchemaTables) (d : Draft) (a s : ℕ) : Type 0 where
@@ -85,6 +86,7 @@ pub record Holds (g : Stated) (s : Progress) (t : SchemaTables) : Type 0 where
   pub steps : s .steps ≡ stepCount (g .blocks)
   pub types-most : s .types ≤ mostTypes
   pub steps-most : s .steps ≤ mostSteps
-  pub some : rank (g .phase) ≡ rank InBlock → 0 < s .types
+  pub some : rank InBlock ≤ rank (g .phase) → 0 < s .types
+  pub fresh : rank (g .phase) ≡ rank InExpression → current (g .blocks) .steps ≡ []
   pub blocks : BlocksHold t (g .blocks)
   pub empty : EmptyPast t (s .types) (s .steps)

@@ -1,23 +1,39 @@
--- A file whose commands all pass has at most 8,389 bytes.
-use mathlib.Core.Path.{_≡_, refl, sym, subst}
-use mathlib.Core.Logic.{inl, inr, _≢_}
-use mathlib.Core.List.{List, [], _∷_, List·Memᴰ·head}
+-- A file of old commands that all pass has at most 8,389 bytes.
+use mathlib.Core.Path.{_≡_, refl, sym, ap, subst, _∙_}
+use mathlib.Core.Logic.{_⊎_, inl, inr, ⊎-elim, _≢_}
+use mathlib.Core.Bool.{cond}
+use mathlib.Core.List.{List, [], _∷_, _++_, append-nil, append-assoc, List·Memᴰ, List·Memᴰ·head, Memᴰ·append-right}
 use Prim.Native.Nat.{ℕ, _+_, _-_, _*_, _^_, _≤_, _<_, min}
 use native.Mathlib.Omega.{arith}
-use lib.Dec.{T}
+use borrow.Author.Tests.{lt-leb}
+use lib.Dec.{T, eqb}
 use lib.ListN.{length}
 use Rattle.sdtd.specs.Schema.{step}
-use Rattle.schema.specs.States.{member, insert, members}
+use Rattle.sdtd.specs.Schema.{Step as StepOf}
+use Rattle.schema.specs.States.{member, insert, members, noStates}
 use Rattle.schema.proofs.Bits.{insert-below, member-insert, members-most, absent, absent-falls}
-use Rattle.command.specs.Command.{size}
+use Rattle.command.specs.Command.{isCommand, isOld, bytesOf, fileOf, size, commandAt}
+use Rattle.command.proofs.CommandLaws.{file-append, length-more, read-back}
+use Rattle.expression.proofs.WholeContents.{first-command}
 use Rattle.sdtd.specs.Limits.{mostStates}
 use Rattle.commands.specs.Questions.{rank}
-use Rattle.commands.specs.declared.progress.Phase.the-variants.{BeforeTypes, InBlock, AfterRoot}
-use Rattle.commands.specs.File.{Placed, Draft, Stated, current, stepCount, withFinal, withStep, after, states, commands, mostBytes}
+use Rattle.commands.specs.declared.progress.Phase.the-variants.{BeforeTypes, InBlock, InExpression, AfterExpression, AfterRoot}
+use Rattle.commands.specs.File.{Draft, Stated, current, stepCount, withFinal, withStep, after, states, commands, OnlyOld, mostBytes}
 use Rattle.command.specs.declared.Command.{Command}
-use Rattle.command.specs.declared.Command.the-variants.{Tags, TypeBlock, Final, Step, Root, Done, NoCommand}
+use Rattle.command.specs.declared.Command.the-variants.{Tags, TypeBlock, Final, Step, Root, Done, Expression, NoCommand}
 use Rattle.commands.proofs.Passing.{Passed, Kept, kept-to-end}
-use Rattle.commands.proofs.StatedLimits.{Each, DraftWithin, StatedWithin, nothing-within, within-kept}
+use Rattle.commands.proofs.StatedLimits.{Each, DraftWithin, StatedWithin, nothing-within, type-phase, within-kept}
+
+-- an old command is one
+old-command : (c : Command) → T (isOld c) → T (isCommand c)
+old-command (Tags n) t = tt
+old-command (TypeBlock g s) t = tt
+old-command (Final q) t = tt
+old-command (Step p j q) t = tt
+old-command (Root a) t = tt
+old-command Done t = tt
+old-command (Expression x) t = tt
+old-command NoCommand t = t
 
 -- a new state makes a set longer
 more-members : (q x : ℕ) → q < mostStates → x < 2 ^ mostStates → ¬ T (member q x) → length (members x) < length (members (insert q x))
@@ -39,12 +55,23 @@ bytes-most (d ∷ ds) = omega (arith, bytes-most ds, members-most mostStates (d 
 
 -- the bytes of TAGS, ROOT and DONE, as far as the file has them at the n-th phase
 abbrev otherBytes : ℕ → ℕ
-otherBytes n = 2 * min n (rank BeforeTypes) + 2 * min (n - rank InBlock) 1 + min (n - rank AfterRoot) 1
+otherBytes n = 2 * min n (rank BeforeTypes) + 2 * min (n - rank AfterExpression) 1 + min (n - rank AfterRoot) 1
+
+-- before ROOT only those of TAGS
+tags-only : (n : ℕ) → rank BeforeTypes ≤ n → n ≤ rank AfterExpression → otherBytes n ≡ 2
+tags-only n l m = omega arith
 
 -- The commands before the place i have no more bytes than what is stated tells.
 record Counted (i : ℕ) (g : Stated) : Type 0 where
   within : StatedWithin g
   bytes : i ≤ otherBytes (rank (g .phase)) + bytesIn (g .blocks)
+
+-- the place i stands between two of the commands
+record Between (cs : List Command) (i : ℕ) : Type 0 where
+  before : List Command
+  after : List Command
+  split : cs ≡ before ++ after
+  place : i ≡ length (fileOf before)
 
 -- a FINAL that is new counts 2, a STEP 4
 final-bytes : {tags : ℕ} (q : ℕ) (ds : List Draft) → Each (DraftWithin tags) ds → q < current ds .states
@@ -54,7 +81,7 @@ final-bytes q (d ∷ ds) every l new =
     let h = every d (List·Memᴰ·head refl) in
     omega (arith, more-members q (d .accepting) (omega arith) (h .below) new)
 
-step-bytes : (s : Placed) (ds : List Draft) → s .step .from < current ds .states → bytesIn ds + 4 ≤ bytesIn (withStep s ds)
+step-bytes : (s : StepOf) (ds : List Draft) → s .from < current ds .states → bytesIn ds + 4 ≤ bytesIn (withStep s ds)
 step-bytes s [] l = absurd (omega arith)
 step-bytes s (d ∷ ds) l = omega arith
 
@@ -63,20 +90,65 @@ counted : (i : ℕ) (g : Stated) (c : Command) → Passed g c → StatedWithin g
     → i + size c ≤ otherBytes (rank (after g i c .phase)) + bytesIn (after g i c .blocks)
 unfolding after
 counted i g (Tags n) p h l = omega arith
-counted i g (TypeBlock t s) p h l = omega arith
+counted i g (TypeBlock t s) p h l =
+    let o = type-phase s in
+    let before = tags-only (rank (g .phase)) (p .0) (p .1) in
+    let behind = tags-only (rank (cond (eqb s 0) InExpression InBlock)) (omega arith) (omega arith) in
+    rw behind (one-more (bytesIn (g .blocks)) (rw before at l))
+  where
+    one-more : (n : ℕ) → i ≤ 2 + n → i + 3 ≤ 2 + (n + (3 + 2 * length (members noStates) + 4 * 0))
+    one-more n l = omega arith
 counted i g (Final q) p h l = omega (arith, final-bytes q (g .blocks) (h .blocks) (p .1) (p .2))
-counted i g (Step x j y) p h l =
-    let s : Placed = record { step = step x (j .0) y; place = i } in
-    omega (arith, step-bytes s (g .blocks) (p .1))
+counted i g (Step x j y) p h l = omega (arith, step-bytes (step x (j .0) y) (g .blocks) (p .1))
 counted i g (Root a) p h l = omega arith
 counted i g Done p h l = omega arith
+counted i g (Expression x) p h l = absurd p
 counted i g NoCommand p h l = absurd p
 
-counted-kept : Kept Counted
-counted-kept i g c p h = record { within = within-kept i g c p (h .within); bytes = counted i g c p (h .within) (h .bytes) }
+-- where no command is left there is none
+none-at-end : (file : List ℕ) (i : ℕ) → length file ≤ i → commandAt file i ≡ NoCommand
+none-at-end file i l = rw (lt-leb (i + 1) (length file) (omega arith))
 
--- "The longest accepted file has 8,389 bytes."
-pub longest : (file : List ℕ) (g : Stated) → commands file ≡ states g → length file ≤ mostBytes
-longest file g e =
-    let r = kept-to-end counted-kept file e (record { within = nothing-within; bytes = omega arith }) in
-    omega (arith, bytes-most (g .blocks))
+-- the command at such a place is the next of them, and the place behind it is one
+module _ (cs : List Command) (every : (c : Command) → List·Memᴰ c cs → T (isOld c)) where
+  next-command : (i : ℕ) → Between cs i → (T (isOld (commandAt (fileOf cs) i)) × Between cs (i + size (commandAt (fileOf cs) i)))
+      ⊎ (commandAt (fileOf cs) i ≡ NoCommand)
+  next-command i b = go (b .after) (b .split)
+    where
+      go : (rest : List Command) → cs ≡ b .before ++ rest → (T (isOld (commandAt (fileOf cs) i)) × Between cs (i + size (commandAt (fileOf cs) i)))
+          ⊎ (commandAt (fileOf cs) i ≡ NoCommand)
+      go [] e = inr (none-at-end (fileOf cs) i (rw (b .place, e, append-nil (b .before)) (omega arith)))
+      go (d ∷ ds) e =
+          let old = every d (rw e (Memᴰ·append-right (b .before) (List·Memᴰ·head refl))) in
+          let f : fileOf cs ≡ fileOf (b .before) ++ (bytesOf d ++ fileOf ds) = rw (e, file-append (b .before) (d ∷ ds)) (unfold fileOf in refl) in
+          let r : commandAt (fileOf cs) i ≡ d = rw (b .place) (read-back (fileOf (b .before)) (fileOf ds) d (old-command d old) f) in
+          inl
+          (rw r (
+            old,
+            record {
+              before = b .before ++ (d ∷ []);
+              after = ds;
+              split = e ∙ sym (append-assoc (b .before) (d ∷ []) ds);
+              place = rw (length-more (b .before) d) (ap (λ (n : ℕ). n + size d) (b .place));
+            },
+          ))
+
+  counted-kept : Kept (fileOf cs) (λ i g. Counted i g × Between cs i)
+  counted-kept =
+      record {
+        by-command = λ i g c e p h. (
+          record { within = within-kept i g c p (h .0 .within); bytes = counted i g c p (h .0 .within) (h .0 .bytes) },
+          ⊎-elim (λ n. rw (← e) (n .1)) (λ n. absurd (subst (Passed g) (sym e ∙ n) p)) (next-command i (h .1)),
+        );
+        by-expression = λ i g e ns p r h.
+            let f = first-command (fileOf cs) i (r .content) in
+            ⊎-elim (λ n. absurd (rw (f .is) at (n .0))) (λ n. absurd (let z : _≡_ {A = ℕ} 0 1 = cc in omega arith)) (next-command i (h .1));
+      }
+
+-- "The longest accepted file has 8,389 bytes", of files of old commands.
+pub longest : (file : List ℕ) → OnlyOld file → (g : Stated) → commands file ≡ states g → length file ≤ mostBytes
+longest file o g e =
+    let f = o .bytes in
+    let r = kept-to-end (fileOf (o .given)) (counted-kept (o .given) (o .old)) (rw f at e)
+    (record { within = nothing-within; bytes = omega arith }, record { before = []; after = o .given; split = refl; place = unfold fileOf in refl }) in
+    rw f (omega (arith, bytes-most (g .blocks)))

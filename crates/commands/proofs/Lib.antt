@@ -1,13 +1,19 @@
 -- Laws of the commands and of what they state.
+pub mod LayingLaws
+pub mod GroupLaws
 pub mod SchemaTables
 pub mod Passing
 pub mod Holding
 pub mod TableLaws
+pub mod ExpressionTables
 pub mod StatedLaws
 pub mod Drafts
 pub mod Places
+pub mod ExpressionReads
 pub mod OneByOne
+pub mod ExpressionTurns
 pub mod StatedLimits
+pub mod StatedExpressions
 pub mod Lengths
 pub mod Runs
 pub mod LongestFile

@@ -1,9 +1,10 @@
 -- A file of 8,389 bytes that is accepted: 64 types of 32 states, all accepting, and in the first all the 1,024 steps by one type.
-use mathlib.Core.Path.{_≡_, refl, sym, ap, _∙_, subst}
+use mathlib.Core.Path.{_≡_, refl, sym, ap, subst}
 use mathlib.Core.Logic.{⊎-elim}
-use mathlib.Core.Bool.{false, _&&_}
-use mathlib.Core.List.{List, [], _∷_, _++_, map, reverseAux, append-nil, List·Memᴰ, List·Memᴰ·not-nil, List·Memᴰ·cases-cons}
-use Prim.Native.Nat.{ℕ, zero, suc, _+_, _*_, _/_, _%_, _^_, _-_, _≤_, _<_}
+use mathlib.Core.Bool.{true, false, _&&_}
+use mathlib.Core.List.{List, [], _∷_, _++_, map, reverseAux, List·Memᴰ, List·Memᴰ·not-nil, List·Memᴰ·cases-cons}
+use mathlib.Core.List.{List·Memᴰ·append-cases, List·Memᴰ·eq-of-singleton}
+use Prim.Native.Nat.{ℕ, zero, suc, _+_, _*_, _/_, _%_, _-_, _≤_, _<_}
 use native.Mathlib.Decide.{ℕ-discrete}
 use native.Mathlib.Omega.{arith}
 use lib.Dec.{T, eqb}
@@ -17,15 +18,18 @@ use Rattle.sdtd.proofs.Basics.{is-false}
 use Rattle.sdtd.proofs.Bearing.{word-bears}
 use Rattle.sdtd.proofs.Rivals.{compete-rivals}
 use Rattle.schema.specs.States.{member, insert}
-use Rattle.schema.proofs.Bits.{member-none, insert-below, member-insert, mem-members}
+use Rattle.schema.proofs.Bits.{mem-members}
 use Rattle.sdtd.specs.Numbered.{tagNo, typeNo}
 use Rattle.sdtd.specs.Limits.{mostTags, mostTypes, mostStates, mostSteps}
 use Rattle.commands.specs.Questions.{failed}
 use Rattle.commands.specs.declared.progress.Phase.{Phase}
 use Rattle.commands.specs.declared.progress.Phase.the-variants.{BeforeTypes, InBlock, AfterDone}
-use Rattle.commands.specs.File.{Placed, Draft, Stated, hasStep, seenOf, after, states, commands}
-use Rattle.commands.specs.File.{blockBy, schemaBy, unknownIn, unknownBy, unknown, mostBytes}
-use Rattle.command.specs.Command.{fileOf}
+use Rattle.commands.specs.File.{Draft, Stated, hasStep, seenOf, after, states, commands}
+use Rattle.commands.specs.File.{blockBy, schemaBy, unknownIn, unknown, OnlyOld, mostBytes}
+use Rattle.expression.specs.Content.{Name}
+use Rattle.expression.specs.Answer.{setOf}
+use Rattle.expression.proofs.TestSets.{set-below, member-set}
+use Rattle.command.specs.Command.{isOld, fileOf}
 use Rattle.command.specs.declared.Command.{Command}
 use Rattle.command.specs.declared.Command.the-variants.{Tags, TypeBlock, Final, Step, Root, Done}
 use Rattle.command.proofs.CommandLaws.{length-more}
@@ -102,56 +106,86 @@ longest-length =
     let cs = thenBlocks firstCommands (mostTypes - 1) in
     omega (arith, length-more (cs ++ (rootCommand ∷ [])) Done, length-more cs rootCommand, blocks-length firstCommands (mostTypes - 1), first-length)
 
+-- all of them are old commands
+abbrev AllOld : List Command → Type 0
+AllOld cs = (c : Command) → List·Memᴰ c cs → T (isOld c)
+
+old-more : (cs : List Command) (c : Command) → T (isOld c) → AllOld cs → AllOld (cs ++ (c ∷ []))
+old-more cs c t h d m = ⊎-elim (h d) (λ k. subst (λ (x : Command). T (isOld x)) (sym (List·Memᴰ·eq-of-singleton k)) t) (List·Memᴰ·append-cases cs m)
+
+old-finals : (cs : List Command) (n : ℕ) → AllOld cs → AllOld (thenFinals cs n)
+unfolding thenFinals
+old-finals cs zero h = h
+old-finals cs (suc n) h = old-more (thenFinals cs n) (Final n) tt (old-finals cs n h)
+
+old-steps : (cs : List Command) (n : ℕ) → AllOld cs → AllOld (thenSteps cs n)
+unfolding thenSteps
+old-steps cs zero h = h
+old-steps cs (suc n) h = old-more (thenSteps cs n) (stepCommand n) tt (old-steps cs n h)
+
+old-block : (cs : List Command) → AllOld cs → AllOld (thenBlock cs)
+unfolding thenBlock
+old-block cs h = old-finals (cs ++ (typeCommand ∷ [])) mostStates (old-more cs typeCommand tt h)
+
+old-blocks : (cs : List Command) (n : ℕ) → AllOld cs → AllOld (thenBlocks cs n)
+unfolding thenBlocks
+old-blocks cs zero h = h
+old-blocks cs (suc n) h = old-block (thenBlocks cs n) (old-blocks cs n h)
+
+pub longest-old : OnlyOld longestFile
+unfolding longestFile longestCommands firstCommands
+longest-old =
+    let tags : AllOld (Tags mostTags ∷ []) = λ c m. subst (λ (x : Command). T (isOld x)) (sym (List·Memᴰ·eq-of-singleton m)) tt in
+    let first = old-steps (thenBlock (Tags mostTags ∷ [])) mostSteps (old-block (Tags mostTags ∷ []) tags) in
+    let cs = thenBlocks firstCommands (mostTypes - 1) in
+    let blocks : AllOld cs = old-blocks firstCommands (mostTypes - 1) first in
+    record {
+      given = longestCommands;
+      bytes = refl;
+      old = old-more (cs ++ (rootCommand ∷ [])) Done tt (old-more cs rootCommand tt blocks);
+    }
+
 -- the states below n as a set
-firstStates : ℕ → ℕ
-firstStates zero = 0
-firstStates (suc n) = insert n (firstStates n)
+abbrev firstStates : ℕ → ℕ
+firstStates n = setOf (λ q. true) n
 
-first-below : (n : ℕ) → firstStates n < 2 ^ mostStates
-unfolding firstStates
-first-below zero = omega arith
-first-below (suc n) = insert-below n (firstStates n) (first-below n)
-
--- only those are in it
-first-only : (n q : ℕ) → T (member q (firstStates n)) → q < n
-unfolding firstStates
-first-only zero q m = absurd (member-none q m)
-first-only (suc n) q m =
-    ⊎-elim (λ h. omega (arith, first-only n q h)) (λ h. omega arith) (member-insert n q (firstStates n) (first-below n) .0 m)
-
-first-new : (n : ℕ) → member n (firstStates n) ≡ false
-first-new n = is-false (member n (firstStates n)) (λ m. omega (arith, first-only n n m))
+first-new : (n : ℕ) → n ≤ mostStates → member n (firstStates n) ≡ false
+first-new n l = is-false (member n (firstStates n)) (λ m. omega (arith, member-set (λ q. true) n n l .0 m))
 
 -- a block with n FINALs whose TYPE is at the place i, and what is stated with these blocks
 abbrev plain : ℕ → ℕ → Draft
 plain i n = record { place = i; tag = 0; states = mostStates; accepting = firstStates n; steps = [] }
 
-abbrev stated : Phase → List Draft → Stated
-stated phase ds = record { phase = phase; tags = mostTags; blocks = ds; root = 0 }
+abbrev stated : Phase → List Draft → List Name → Stated
+stated phase ds ns = record { phase = phase; tags = mostTags; blocks = ds; names = ns; root = 0 }
 
 -- a run of FINALs
-finals-pass : {cs : List Command} (i : ℕ) (ds : List Draft) (n : ℕ) → n ≤ mostStates → CommandsPass cs (stated InBlock (plain i 0 ∷ ds))
-    → CommandsPass (thenFinals cs n) (stated InBlock (plain i n ∷ ds))
-unfolding thenFinals after firstStates
-finals-pass i ds zero l r = r
-finals-pass i ds (suc n) l r = pass-more (Final n) (finals-pass i ds n (omega arith) r) (rw (lt-ltb n mostStates l, first-new n))
+finals-pass : {cs : List Command} (i : ℕ) (ds : List Draft) (ns : List Name) (n : ℕ) → n ≤ mostStates
+    → CommandsPass cs (stated InBlock (plain i 0 ∷ ds) ns) → CommandsPass (thenFinals cs n) (stated InBlock (plain i n ∷ ds) ns)
+unfolding thenFinals after setOf
+finals-pass i ds ns zero l r = r
+finals-pass i ds ns (suc n) l r = pass-more (Final n) (finals-pass i ds ns n (omega arith) r) (rw (lt-ltb n mostStates l, first-new n (omega arith)))
 
 -- a block, where its TYPE passes
-block-pass : {cs : List Command} (phase : Phase) (ds : List Draft) → failed (seenOf (stated phase ds) typeCommand) typeCommand ≡ 0
-    → CommandsPass cs (stated phase ds) → CommandsPass (thenBlock cs) (stated InBlock (plain (length (fileOf cs)) mostStates ∷ ds))
-unfolding thenBlock after firstStates
-block-pass {cs} phase ds z r = finals-pass (length (fileOf cs)) ds mostStates (omega arith) (pass-more typeCommand r z)
+block-pass : {cs : List Command} (phase : Phase) (ds : List Draft) (ns : List Name)
+    → failed (seenOf (stated phase ds ns) typeCommand) typeCommand ≡ 0
+    → CommandsPass cs (stated phase ds ns) → CommandsPass (thenBlock cs) (stated InBlock (plain (length (fileOf cs)) mostStates ∷ ds) ns)
+unfolding thenBlock after setOf
+block-pass {cs} phase ds ns z r = finals-pass (length (fileOf cs)) ds ns mostStates (omega arith) (pass-more typeCommand r z)
 
--- the steps of n STEPs, the last first, with their places
-stepsGiven : List Command → ℕ → List Placed
-stepsGiven cs zero = []
-stepsGiven cs (suc n) =
-    record { step = step (n / mostStates) 1 (n % mostStates); place = length (fileOf (thenSteps cs n)) } ∷ stepsGiven cs n
+-- the steps of n STEPs, the last first, and what they name with their places
+stepsGiven : ℕ → List StepOf
+stepsGiven zero = []
+stepsGiven (suc n) = step (n / mostStates) 1 (n % mostStates) ∷ stepsGiven n
 
-given-count : (cs : List Command) (n : ℕ) → length (stepsGiven cs n) ≡ n
+namesGiven : List Command → ℕ → List Name
+namesGiven cs zero = []
+namesGiven cs (suc n) = record { type = 1; place = length (fileOf (thenSteps cs n)) } ∷ namesGiven cs n
+
+given-count : (n : ℕ) → length (stepsGiven n) ≡ n
 unfolding stepsGiven
-given-count cs zero = refl
-given-count cs (suc n) = ap suc (given-count cs n)
+given-count zero = refl
+given-count (suc n) = ap suc (given-count n)
 
 -- pairs of states with different numbers differ
 pair-differs : (n m : ℕ) → n < m → (eqb (n / mostStates) (m / mostStates) && (eqb 1 1 && eqb (n % mostStates) (m % mostStates))) ≡ false
@@ -161,25 +195,25 @@ pair-differs n m l = elim (ℕ-discrete (n / mostStates) (m / mostStates)) [
 ]
 
 -- the pair with a later number is not among the steps
-step-new : (cs : List Command) (n m : ℕ) → n ≤ m → hasStep (m / mostStates) 1 (m % mostStates) (stepsGiven cs n) ≡ false
+step-new : (n m : ℕ) → n ≤ m → hasStep (m / mostStates) 1 (m % mostStates) (stepsGiven n) ≡ false
 unfolding stepsGiven
-step-new cs zero m l = refl
-step-new cs (suc n) m l = rw (pair-differs n m l, step-new cs n m (omega arith))
+step-new zero m l = refl
+step-new (suc n) m l = rw (pair-differs n m l, step-new n m (omega arith))
 
 -- the first block with n steps
-abbrev stepped : ℕ → List Command → ℕ → Draft
-stepped i cs n = record { place = i; tag = 0; states = mostStates; accepting = firstStates mostStates; steps = stepsGiven cs n }
+abbrev stepped : ℕ → ℕ → Draft
+stepped i n = record { place = i; tag = 0; states = mostStates; accepting = firstStates mostStates; steps = stepsGiven n }
 
 -- a run of STEPs
-steps-pass : {cs : List Command} (i n : ℕ) → n ≤ mostSteps → CommandsPass cs (stated InBlock (plain i mostStates ∷ []))
-    → CommandsPass (thenSteps cs n) (stated InBlock (stepped i cs n ∷ []))
-unfolding thenSteps after stepsGiven
+steps-pass : {cs : List Command} (i n : ℕ) → n ≤ mostSteps → CommandsPass cs (stated InBlock (plain i mostStates ∷ []) [])
+    → CommandsPass (thenSteps cs n) (stated InBlock (stepped i n ∷ []) (namesGiven cs n))
+unfolding thenSteps after stepsGiven namesGiven
 steps-pass i zero l r = r
 steps-pass {cs} i (suc n) l r =
     let from-below = lt-ltb (n / mostStates) mostStates (omega arith) in
     let to-below = lt-ltb (n % mostStates) mostStates (omega arith) in
-    let few = lt-ltb (0 + length (stepsGiven cs n)) mostSteps (omega (arith, given-count cs n)) in
-    pass-more (stepCommand n) (steps-pass i n (omega arith) r) (rw (from-below, to-below, few, step-new cs n n (omega arith)))
+    let few = lt-ltb (0 + length (stepsGiven n)) mostSteps (omega (arith, given-count n)) in
+    pass-more (stepCommand n) (steps-pass i n (omega arith) r) (rw (from-below, to-below, few, step-new n n (omega arith)))
 
 -- n blocks of FINALs alone after the others
 plains : List Command → List Draft → ℕ → List Draft
@@ -191,50 +225,48 @@ unfolding plains
 plains-count cs ds zero = omega arith
 plains-count cs ds (suc n) = omega (arith, plains-count cs ds n)
 
-blocks-pass : {cs : List Command} (ds : List Draft) (n : ℕ) → length ds + n ≤ mostTypes → CommandsPass cs (stated InBlock ds)
-    → CommandsPass (thenBlocks cs n) (stated InBlock (plains cs ds n))
+blocks-pass : {cs : List Command} (ds : List Draft) (ns : List Name) (n : ℕ) → length ds + n ≤ mostTypes → CommandsPass cs (stated InBlock ds ns)
+    → CommandsPass (thenBlocks cs n) (stated InBlock (plains cs ds n) ns)
 unfolding thenBlocks plains
-blocks-pass ds zero l r = r
-blocks-pass {cs} ds (suc n) l r =
+blocks-pass ds ns zero l r = r
+blocks-pass {cs} ds ns (suc n) l r =
     let few = lt-ltb (length (plains cs ds n)) mostTypes (omega (arith, plains-count cs ds n)) in
-    block-pass InBlock (plains cs ds n) (rw few) (blocks-pass ds n (omega arith) r)
+    block-pass InBlock (plains cs ds n) ns (rw few) (blocks-pass ds ns n (omega arith) r)
 
 -- the first block, and all the blocks
 firstBlock : Draft
-firstBlock = stepped (length (fileOf (Tags mostTags ∷ []))) (thenBlock (Tags mostTags ∷ [])) mostSteps
+firstBlock = stepped (length (fileOf (Tags mostTags ∷ []))) mostSteps
+
+allNames : List Name
+allNames = namesGiven (thenBlock (Tags mostTags ∷ [])) mostSteps
 
 allBlocks : List Draft
 allBlocks = plains firstCommands (firstBlock ∷ []) (mostTypes - 1)
 
-first-pass : CommandsPass firstCommands (stated InBlock (firstBlock ∷ []))
-unfolding firstCommands firstBlock after
+first-pass : CommandsPass firstCommands (stated InBlock (firstBlock ∷ []) allNames)
+unfolding firstCommands firstBlock allNames after
 first-pass =
     steps-pass (length (fileOf (Tags mostTags ∷ []))) mostSteps (omega arith)
-    (block-pass BeforeTypes [] refl (pass-more (Tags mostTags) pass-none refl))
+    (block-pass BeforeTypes [] [] refl (pass-more (Tags mostTags) pass-none refl))
 
-longest-pass : CommandsPass longestCommands (stated AfterDone allBlocks)
+longest-pass : CommandsPass longestCommands (stated AfterDone allBlocks allNames)
 unfolding longestCommands after allBlocks
 longest-pass =
-    let r = blocks-pass (firstBlock ∷ []) (mostTypes - 1) (omega arith) first-pass in
+    let r = blocks-pass (firstBlock ∷ []) allNames (mostTypes - 1) (omega arith) first-pass in
     let given = lt-ltb 0 (length allBlocks) (omega (arith, plains-count firstCommands (firstBlock ∷ []) (mostTypes - 1))) in
     pass-more Done (pass-more rootCommand r (rw given)) refl
 
 -- each step names a given type
-known-steps : (cs : List Command) (n : ℕ) → unknownIn mostTypes (stepsGiven cs n) ≡ []
-unfolding stepsGiven
-known-steps cs zero = refl
-known-steps cs (suc n) = rw (known-steps cs n)
+known-names : (cs : List Command) (n : ℕ) → unknownIn mostTypes (namesGiven cs n) ≡ []
+unfolding namesGiven
+known-names cs zero = refl
+known-names cs (suc n) = rw (known-names cs n)
 
-known-plains : (cs : List Command) (ds : List Draft) (n : ℕ) → unknownBy mostTypes (plains cs ds n) ≡ unknownBy mostTypes ds
-unfolding plains
-known-plains cs ds zero = refl
-known-plains cs ds (suc n) = append-nil (unknownBy mostTypes (plains cs ds n)) ∙ known-plains cs ds n
-
-known : unknown (stated AfterDone allBlocks) ≡ []
-unfolding allBlocks firstBlock
+known : unknown (stated AfterDone allBlocks allNames) ≡ []
+unfolding allBlocks firstBlock allNames
 known =
     rw (plains-count firstCommands (firstBlock ∷ []) (mostTypes - 1))
-    (known-plains firstCommands (firstBlock ∷ []) (mostTypes - 1) ∙ known-steps (thenBlock (Tags mostTags ∷ [])) mostSteps)
+    (known-names (thenBlock (Tags mostTags ∷ [])) mostSteps)
 
 -- the first block in the schema is the first in the file
 first-block : (cs : List Command) (d : Draft) (n : ℕ) (ds : List Draft)
@@ -244,11 +276,11 @@ first-block cs d zero ds = refl
 first-block cs d (suc n) ds = first-block cs d n (plain (length (fileOf (thenBlocks cs n))) mostStates ∷ ds)
 
 start-accepts : List·Memᴰ 0 (blockBy firstBlock .accepting)
-unfolding firstBlock firstStates insert
-start-accepts = mem-members 0 (firstStates mostStates) (first-below mostStates) .1 tt
+unfolding firstBlock setOf insert
+start-accepts = mem-members 0 (firstStates mostStates) (set-below (λ q. true) mostStates) .1 tt
 
 -- the root type bears the tree of one element
-root-bears : RootBears (schemaBy (stated AfterDone allBlocks))
+root-bears : RootBears (schemaBy (stated AfterDone allBlocks allNames))
 unfolding allBlocks schemaBy
 root-bears =
     let m = subst (λ (b : Block). List·Memᴰ 0 (b .accepting)) (sym (first-block firstCommands firstBlock (mostTypes - 1) [])) start-accepts in
@@ -258,12 +290,11 @@ root-bears =
 abbrev OneType : List StepOf → Type 0
 OneType steps = (s : StepOf) → List·Memᴰ s steps → s .by ≡ 1
 
-one-type-steps : (cs : List Command) (n : ℕ) (ss : List Placed) → OneType (map (λ (s : Placed). s .step) ss)
-    → OneType (map (λ (s : Placed). s .step) (reverseAux (stepsGiven cs n) ss))
+one-type-steps : (n : ℕ) (ss : List StepOf) → OneType ss → OneType (reverseAux (stepsGiven n) ss)
 unfolding stepsGiven
-one-type-steps cs zero ss h = h
-one-type-steps cs (suc n) ss h =
-    one-type-steps cs n (_ ∷ ss) (λ s m. ⊎-elim (λ e. ap (λ (x : StepOf). x .by) e) (h s) (List·Memᴰ·cases-cons m))
+one-type-steps zero ss h = h
+one-type-steps (suc n) ss h =
+    one-type-steps n (_ ∷ ss) (λ s m. ⊎-elim (λ e. ap (λ (x : StepOf). x .by) e) (h s) (List·Memᴰ·cases-cons m))
 
 -- so do they in each block
 abbrev OneTypeEach : List Draft → Type 0
@@ -283,7 +314,7 @@ one-type-blocks cs d h (suc n) ds hs =
 
 first-one-type : OneType (blockBy firstBlock .steps)
 unfolding firstBlock
-first-one-type = one-type-steps (thenBlock (Tags mostTags ∷ [])) mostSteps [] (λ s m. absurd (List·Memᴰ·not-nil m))
+first-one-type = one-type-steps mostSteps [] (λ s m. absurd (List·Memᴰ·not-nil m))
 
 -- types that compete in a block are types of two of its steps, and these are never different
 one-type-free : {S : Schema} → ((a : ℕ) → OneType (blockOf S a .steps)) → ¬ Competition S
@@ -295,7 +326,7 @@ one-type-free h c =
     let l = k .order in
     omega arith
 
-no-competition : ¬ Competition (schemaBy (stated AfterDone allBlocks))
+no-competition : ¬ Competition (schemaBy (stated AfterDone allBlocks allNames))
 unfolding allBlocks schemaBy
 no-competition = one-type-free (one-type-blocks firstCommands firstBlock first-one-type (mostTypes - 1) [] (λ a s m. absurd (List·Memᴰ·not-nil m)))
 
@@ -311,7 +342,7 @@ pub longest-stated : LongestStates
 unfolding longestFile
 longest-stated =
     record {
-      longest-states = stated AfterDone allBlocks;
+      longest-states = stated AfterDone allBlocks allNames;
       commands-pass = pass-all longest-pass refl;
       steps-known = known;
       bears-tree = root-bears;

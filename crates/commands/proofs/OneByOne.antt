@@ -1,47 +1,61 @@
 -- Reading the commands one by one: a command that passes its questions ends inside the file, what is left of the file then decides, and the
 -- answer at the end.
 use mathlib.Core.Path.{_≡_, sym, ap, subst, _∙_}
-use mathlib.Core.Bool.{Bool, true, false}
+use mathlib.Core.Bool.{true, false}
 use mathlib.Core.Logic.{inl, inr}
-use mathlib.Core.List.{List}
+use mathlib.Core.List.{List, reverseAux-eq}
 use Prim.Native.Nat.{ℕ, suc, _+_, _-_, _≤_, _<_}
 use native.Mathlib.Omega.{arith}
-use borrow.Author.Tests.{le-leb, lt-leb, ne-eqb}
+use borrow.Author.Tests.{le-leb, lt-leb, eqb-true, ne-eqb}
 use lib.Dec.{T}
-use lib.ListN.{length, getD, replicate}
-use Rattle.sdtd.specs.Limits.{mostTypes}
+use lib.ListN.{length, replicate}
+use Rattle.sdtd.specs.Limits.{mostTypes, mostSteps}
 use Rattle.sdtd.specs.declared.Verdict.the-variants.{Fine}
 use Rattle.command.specs.Command.{isCommand, commandAt, size}
 use Rattle.command.specs.declared.Command.{Command}
 use Rattle.command.proofs.CommandLaws.{command-in-file, size-some}
-use Rattle.commands.specs.Questions.{samePhase, failed}
-use Rattle.commands.specs.File.{Stated, nothingStated, seenOf, after, Commands, stopped, states, commandsFrom, commands}
+use Rattle.expression.specs.Expression.{Expression as Exp}
+use Rattle.expression.specs.Tests.{allSteps}
+use Rattle.expression.specs.Content.{Name, broken, whole, contentAt}
+use Rattle.expression.proofs.WholeContents.{rise-most, WholeContent, whole-content}
+use Rattle.commands.specs.Questions.{rank, samePhase, failed}
+use Rattle.commands.specs.File.{Stated, nothingStated, stepCount, seenOf, after, afterExpression}
+use Rattle.commands.specs.File.{Commands, stopped, states, byContent, commandsFrom, commands}
 use Rattle.commands.specs.Value.{StatedValue}
 use Rattle.commands.specs.Answer.{stoppedAt, CommandsBy}
-use Rattle.commands.specs.Progress.{nothingRead, progressAfter, seenBy, lastType, givenAlready, placesAfter, boundAfter, leastFrom}
+use Rattle.commands.specs.Progress.{nothingRead, progressAfter, progressWith, lastType, placesAfter, boundAfter}
+use Rattle.commands.specs.Progress.{placesWith, boundWith, leastFrom}
 use Rattle.commands.proofs.SchemaTables.{SchemaTables}
 use Rattle.commands.specs.declared.commands.StatedSchema.{StatedSchema}
-use Rattle.commands.specs.declared.progress.Phase.the-variants.{AfterDone}
+use Rattle.commands.specs.declared.progress.Phase.{Phase}
+use Rattle.commands.specs.declared.progress.Phase.the-variants.{InExpression, AfterDone}
 use Rattle.commands.specs.declared.progress.Progress.{Progress}
-use Rattle.commands.specs.declared.questions.Seen.{Seen}
 use Rattle.commands.proofs.Passing.{passed-command}
 use Rattle.commands.proofs.Passing.{passed as passed-by}
 use Rattle.commands.proofs.Holding.{seenIn, tablesAfter, Holds, Sized, EmptyPast}
 use Rattle.commands.proofs.StatedLaws.{valueIn}
-use Rattle.commands.proofs.Drafts.{first-holds, seen-holds, some-blocks, after-holds, stated-value, fuel-enough}
-use Rattle.commands.proofs.Places.{PlacesHold, first-places, places-after, first-named, none-named}
+use Rattle.commands.proofs.Drafts.{first-holds, seen-holds, after-holds, expression-holds, stated-value, fuel-enough}
+use Rattle.commands.proofs.ExpressionTables.{tablesWith}
+use Rattle.commands.proofs.Places.{PlacesHold, first-places, places-after, places-with, first-named, none-named}
 
 -- one command, and what is left of the file
 module _ (fuel : ℕ) (file : List ℕ) (i : ℕ) (g : Stated) where
-  pub goes-on : samePhase (g .phase) AfterDone ≡ false → {c : Command} → commandAt file i ≡ c → failed (seenOf g c) c ≡ 0
-      → commandsFrom (suc fuel) file i g ≡ commandsFrom fuel file (i + size c) (after g i c)
+  pub goes-on : samePhase (g .phase) AfterDone ≡ false → samePhase (g .phase) InExpression ≡ false → {c : Command} → commandAt file i ≡ c
+      → failed (seenOf g c) c ≡ 0 → commandsFrom (suc fuel) file i g ≡ commandsFrom fuel file (i + size c) (after g i c)
   unfolding commandsFrom
-  goes-on p e z = rw (p, e, z)
+  goes-on p x e z = rw (p, x, e, z)
 
-  stops : samePhase (g .phase) AfterDone ≡ false → let n = failed (seenOf g (commandAt file i)) (commandAt file i) in ¬ (n ≡ 0)
-      → commandsFrom (suc fuel) file i g ≡ stopped n i
+  stops : samePhase (g .phase) AfterDone ≡ false → samePhase (g .phase) InExpression ≡ false
+      → let n = failed (seenOf g (commandAt file i)) (commandAt file i) in ¬ (n ≡ 0) → commandsFrom (suc fuel) file i g ≡ stopped n i
   unfolding commandsFrom
-  stops p e = rw (p, ne-eqb (failed (seenOf g (commandAt file i)) (commandAt file i)) 0 e)
+  stops p x e = rw (p, x, ne-eqb (failed (seenOf g (commandAt file i)) (commandAt file i)) 0 e)
+
+  reads-expression : samePhase (g .phase) InExpression ≡ true → commandsFrom (suc fuel) file i g ≡ byContent g (commandsFrom fuel file) (contentAt file i)
+  unfolding commandsFrom
+  reads-expression x = rw (expression-not-done (g .phase) x, x)
+    where
+      expression-not-done : (p : Phase) → samePhase p InExpression ≡ true → samePhase p AfterDone ≡ false
+      expression-not-done p e = ne-eqb (rank p) (rank AfterDone) (λ d. omega (arith, eqb-true (rank p) (rank InExpression) e))
 
   over : samePhase (g .phase) AfterDone ≡ true → i < length file → commandsFrom (suc fuel) file i g ≡ stopped 3 i
   unfolding commandsFrom
@@ -55,7 +69,7 @@ module _ (fuel : ℕ) (file : List ℕ) (i : ℕ) (g : Stated) where
 pub record Reads (file : List ℕ) (i : ℕ) (s : Progress) (t : SchemaTables) (places : List ℕ) (bound : ℕ) : Type 0 where
   pub stated : Stated
   pub holds : Holds stated s t
-  pub named : PlacesHold (stated .blocks) (length file) i places bound
+  pub named : PlacesHold (stated .names) (length file) i places bound
   pub rest : commandsFrom (suc (length file - i)) file i stated ≡ commands file
   pub within : i ≤ length file
 
@@ -71,29 +85,25 @@ reads-first file k z =
       within = omega arith;
     }
 
--- the number of the question that the command fails, from its parts
-pub failed-in : (s : Progress) (t : SchemaTables) (c : Command) {n last : ℕ} {given : Bool} (seen : Seen) → n ≡ failed seen c
-    → seen ≡ seenBy s (getD (t .states) last 0) (record { 0 = getD (t .accepting) last 0 }) given
-    → given ≡ givenAlready (t .from) (t .by) (t .to) (s .steps) (getD (t .counts) last 0) c → last ≡ lastType (s .types)
-    → n ≡ failed (seenIn s t c) c
-failed-in s t c seen e f g h = e ∙ rw (f, g, h)
-
--- a refusal by questions 2 to 6
+-- a refusal by questions 2 to 6 or 21 to 23
 pub answer-stopped : (file : List ℕ) (r : StatedSchema) {n p : ℕ} → commands file ≡ stopped n p → r ≡ stoppedAt n p
     → CommandsBy (commands file) r
 answer-stopped file r e s = subst (λ (k : Commands). CommandsBy k r) (sym e) s
 
 module _ {file : List ℕ} {i : ℕ} {s : Progress} {t : SchemaTables} {places : List ℕ} {bound : ℕ} (r : Reads file i s t places bound) where
-  -- before DONE
-  module _ (more : samePhase (s .phase) AfterDone ≡ false) where
+  -- before DONE, outside an expression
+  module _ (more : samePhase (s .phase) AfterDone ≡ false) (outside : samePhase (s .phase) InExpression ≡ false) where
     not-done : samePhase (r .stated .phase) AfterDone ≡ false
     not-done = rw (← r .holds .phase) more
+
+    not-inside : samePhase (r .stated .phase) InExpression ≡ false
+    not-inside = rw (← r .holds .phase) outside
 
     pub reads-stopped : {n : ℕ} {c : Command} → c ≡ commandAt file i → n ≡ failed (seenIn s t c) c → ¬ (n ≡ 0) → commands file ≡ stopped n i
     reads-stopped {n} {c} e f d =
         let d′ = commandAt file i in
         let m : n ≡ failed (seenOf (r .stated) d′) d′ = f ∙ rw e (ap (λ x. failed x d′) (seen-holds (r .holds) d′)) in
-        rw m (sym (r .rest) ∙ stops (length file - i) file i (r .stated) not-done (λ z. d (m ∙ z)))
+        rw m (sym (r .rest) ∙ stops (length file - i) file i (r .stated) not-done not-inside (λ z. d (m ∙ z)))
 
     -- after a command c of n bytes that passed its questions
     module _ {c : Command} {n : ℕ} (command : c ≡ commandAt file i) (passed : failed (seenIn s t c) c ≡ 0) (bytes : n ≡ size c) where
@@ -117,12 +127,56 @@ module _ {file : List ℕ} {i : ℕ} {s : Progress} {t : SchemaTables} {places :
           (record {
             stated = after (r .stated) i c;
             holds = after-holds (r .holds) i c none-failed;
-            named = places-after (r .stated) (r .named) (omega arith) (omega arith) (some-blocks (r .holds)) c (passed-by (r .stated) c none-failed);
+            named = places-after (r .stated) (r .named) (omega arith) (omega arith) c (passed-by (r .stated) c none-failed);
             rest =
                 fuel-enough file (suc (length file - j)) (length file - i) j (after (r .stated) i c) (omega arith) left
-                ∙ sym (goes-on (length file - i) file i (r .stated) not-done (sym command) none-failed)
+                ∙ sym (goes-on (length file - i) file i (r .stated) not-done not-inside (sym command) none-failed)
                 ∙ r .rest;
             within = h .0;
+          })
+
+  -- where an expression is next
+  module _ (inside : samePhase (s .phase) InExpression ≡ true) where
+    is-inside : samePhase (r .stated .phase) InExpression ≡ true
+    is-inside = rw (← r .holds .phase) inside
+
+    by-content : byContent (r .stated) (commandsFrom (length file - i) file) (contentAt file i) ≡ commands file
+    by-content = sym (reads-expression (length file - i) file i (r .stated) is-inside) ∙ r .rest
+
+    pub reads-broken : {n p : ℕ} → contentAt file i ≡ broken n p → commands file ≡ stopped n p
+    unfolding byContent
+    reads-broken e = sym by-content ∙ rw e
+
+    -- an expression e that ends at the place p
+    module _ {e : Exp} {ns : List Name} {p : ℕ} (content : contentAt file i ≡ whole e ns p) where
+      whole-read : WholeContent file i e ns p
+      whole-read = whole-content file i content
+
+      pub reads-too-many : mostSteps < s .steps + length (allSteps e) → commands file ≡ stopped 5 p
+      unfolding byContent
+      reads-too-many l =
+          let n = stepCount (r .stated .blocks) + length (allSteps e) in
+          sym by-content ∙ rw (content, lt-leb n mostSteps (omega (arith, r .holds .steps)))
+
+      pub reads-after : {s′ : Progress} {t′ : SchemaTables} {places′ : List ℕ} {bound′ : ℕ} → let n = s .steps + length (allSteps e) in n ≤ mostSteps
+          → s′ ≡ progressWith s n → t′ ≡ tablesWith t (lastType (s .types)) (s .steps) e → places′ ≡ placesWith ns places
+          → bound′ ≡ boundWith ns bound → Reads file (p + 1) s′ t′ places′ bound′
+      unfolding byContent
+      reads-after fits state tables named above =
+          let g = r .stated in
+          let w = whole-read in
+          let begins = rise-most i ns p (w .rises) in
+          let ends = w .ends in
+          let f : stepCount (g .blocks) + length (allSteps e) ≤ mostSteps = omega (arith, r .holds .steps) in
+          rw (state, tables, named, above)
+          (record {
+            stated = afterExpression g e ns;
+            holds = expression-holds (r .holds) (eqb-true (rank (g .phase)) (rank InExpression) is-inside) e ns fits;
+            named = rw (← reverseAux-eq ns (g .names)) (places-with ns i p (r .named) (w .rises) (w .types) ends);
+            rest =
+                fuel-enough file (suc (length file - (p + 1))) (length file - i) (p + 1) (afterExpression g e ns) (omega arith) (omega arith)
+                ∙ (rw (content, le-leb (stepCount (g .blocks) + length (allSteps e)) mostSteps f) at by-content);
+            within = omega arith;
           })
 
   -- after DONE

@@ -1,84 +1,73 @@
--- What a command that passes its questions has; what each such command keeps holds where the commands end; and the commands are refused with
--- a number of 2 to 6.
+-- What a command that passes its questions has; what each such command and each expression keeps holds where the commands end; and the
+-- commands are refused with a number of 2 to 6 or 21 to 23.
 use mathlib.Core.Path.{_≡_, refl, subst}
+use mathlib.Core.Logic.{_⊎_, _≢_, inl, inr, ⊎-elim}
 use mathlib.Core.Bool.{Bool, true, false, cond, _&&_, _||_}
-use mathlib.Core.List.{List, [], _∷_}
+use mathlib.Core.List.{List}
 use Prim.Native.Nat.{ℕ, zero, suc, _+_, _≤_, _<_}
 use native.Mathlib.Omega.{arith}
 use lib.Dec.{T, eqb, leb, ltb, leb→le, ltb→lt, eqb→eq, T-not}
 use lib.ListN.{length}
-use borrow.Author.Tests.{eqb-true, eqb-false, leb-true}
-use Rattle.sdtd.proofs.Basics.{and-parts}
+use borrow.Author.Tests.{eqb-true, eq-eqb, leb-true}
+use Rattle.sdtd.proofs.Basics.{and-parts, cond-both, cond-either}
 use Rattle.sdtd.specs.Limits.{mostTags, mostTypes, mostStates, mostSteps}
 use Rattle.schema.specs.States.{member}
 use Rattle.command.specs.Command.{commandAt, isCommand, size}
 use Rattle.command.specs.declared.Command.{Command}
-use Rattle.command.specs.declared.Command.the-variants.{Tags, TypeBlock, Final, Step, Root, Done, NoCommand}
-use Rattle.commands.specs.Questions.{rank, samePhase, inOrder, inRange, withinCounts, notGiven, questions, firstNo, failed}
-use Rattle.commands.specs.File.{Stated, nothingStated, current, stepCount, seenOf, after}
-use Rattle.commands.specs.File.{Commands, stopped, states, commandsFrom, commands}
-use Rattle.commands.specs.declared.progress.Phase.the-variants.{BeforeTags, BeforeTypes, InBlock, AfterRoot, AfterDone}
-
--- the questions' numbers are 2 to 6
-abbrev NumbersFit : List (ℕ × Bool) → Type 0
-NumbersFit [] = Unit
-NumbersFit (q ∷ qs) = ((2 ≤ q .0) × (q .0 ≤ 6)) × NumbersFit qs
-
--- all are answered yes
-abbrev AllYes : List (ℕ × Bool) → Type 0
-AllYes [] = Unit
-AllYes (q ∷ qs) = T (q .1) × AllYes qs
-
-first-yes : (b : Bool) (rest n : ℕ) → 2 ≤ n → cond b rest n ≡ 0 → T b × (rest ≡ 0)
-first-yes true rest n l z = (tt, z)
-first-yes false rest n l z = absurd (omega arith)
-
-all-yes : (qs : List (ℕ × Bool)) → NumbersFit qs → firstNo qs ≡ 0 → AllYes qs
-all-yes [] k z = tt
-all-yes (q ∷ qs) k z =
-    let r = first-yes (q .1) (firstNo qs) (q .0) (k .0 .0) z in
-    (r .0, all-yes qs (k .1) (r .1))
-
--- the first that is answered no has one of these numbers
-number-range : (qs : List (ℕ × Bool)) → NumbersFit qs → ¬ (firstNo qs ≡ 0) → (2 ≤ firstNo qs) × (firstNo qs ≤ 6)
-number-range [] k z = absurd (z refl)
-number-range (q ∷ qs) k z = go (q .1) (number-range qs (k .1)) z
-  where
-    go : (b : Bool) → (¬ (firstNo qs ≡ 0) → (2 ≤ firstNo qs) × (firstNo qs ≤ 6)) → ¬ (cond b (firstNo qs) (q .0) ≡ 0)
-        → (2 ≤ cond b (firstNo qs) (q .0)) × (cond b (firstNo qs) (q .0) ≤ 6)
-    go true rest z = rest z
-    go false rest z = k .0
+use Rattle.command.specs.declared.Command.the-variants.{Tags, TypeBlock, Final, Step, Root, Done, Expression, NoCommand}
+use Rattle.command.proofs.AskedLaws.{Numbered, all-yes, first-number}
+use Rattle.expression.specs.Expression.{Expression as Exp}
+use Rattle.expression.specs.Tests.{allSteps}
+use Rattle.expression.specs.Content.{Name, Content, broken, whole, contentAt}
+use Rattle.expression.proofs.WholeContents.{NumberInside, broken-number}
+use Rattle.commands.specs.Questions.{rank, samePhase, inOrder, inRange, withinCounts, notGiven, questions, failed}
+use Rattle.commands.specs.File.{Stated, nothingStated, current, stepCount, seenOf, after, afterExpression}
+use Rattle.commands.specs.File.{Commands, stopped, states, byContent, commandsFrom, commands}
+use Rattle.commands.specs.declared.progress.Phase.the-variants.{BeforeTags, BeforeTypes, InBlock, InExpression, AfterExpression, AfterRoot}
+use Rattle.commands.specs.declared.progress.Phase.the-variants.{AfterDone}
 
 -- what the questions say of a command that passes them
 abbrev pub Passed : Stated → Command → Type 0
 Passed g (Tags n) = (rank (g .phase) ≡ rank BeforeTags) × (1 ≤ n) × (n ≤ mostTags)
 Passed g (TypeBlock t s) =
-    (rank BeforeTypes ≤ rank (g .phase)) × (rank (g .phase) ≤ rank InBlock) × (t .0 < g .tags) × (1 ≤ s) × (s ≤ mostStates)
-    × (length (g .blocks) < mostTypes)
+    (rank BeforeTypes ≤ rank (g .phase)) × (rank (g .phase) ≤ rank AfterExpression) × (rank (g .phase) ≢ rank InExpression) × (t .0 < g .tags)
+    × (s ≤ mostStates) × (length (g .blocks) < mostTypes)
 Passed g (Final q) =
     (rank (g .phase) ≡ rank InBlock) × (q < current (g .blocks) .states) × ¬ T (member q (current (g .blocks) .accepting))
 Passed g (Step p j q) =
     (rank (g .phase) ≡ rank InBlock) × (p < current (g .blocks) .states) × (q < current (g .blocks) .states)
     × (stepCount (g .blocks) < mostSteps) × (j .0 < mostTypes)
-Passed g (Root a) = (rank (g .phase) ≡ rank InBlock) × (a .0 < length (g .blocks))
+Passed g (Root a) =
+    (rank InBlock ≤ rank (g .phase)) × (rank (g .phase) ≤ rank AfterExpression) × (rank (g .phase) ≢ rank InExpression)
+    × (a .0 < length (g .blocks))
 Passed g Done = rank (g .phase) ≡ rank AfterRoot
+Passed g (Expression x) = ⊥
 Passed g NoCommand = ⊥
 
--- before the first TYPE or in a block
-before-type : (n : ℕ) → T (eqb n (rank BeforeTypes) || eqb n (rank InBlock)) → (rank BeforeTypes ≤ n) × (n ≤ rank InBlock)
-before-type n t = go (eqb n (rank BeforeTypes)) refl t
-  where
-    go : (b : Bool) → eqb n (rank BeforeTypes) ≡ b → T (b || eqb n (rank InBlock)) → (rank BeforeTypes ≤ n) × (n ≤ rank InBlock)
-    go true e t = omega (arith, eqb-true n (rank BeforeTypes) e)
-    go false e t = omega (arith, eqb→eq n (rank InBlock) t)
+-- one of two tests
+or-parts : (a b : Bool) → T (a || b) → T a ⊎ T b
+or-parts true b t = inl tt
+or-parts false b t = inr t
 
-numbers-fit : (g : Stated) (c : Command) → NumbersFit (questions (seenOf g c) c)
-numbers-fit g c = omega arith
+-- one of two numbers
+either-is : (n a b : ℕ) → T (eqb n a || eqb n b) → (n ≡ a) ⊎ (n ≡ b)
+either-is n a b t = ⊎-elim (λ h. inl (eqb→eq n a h)) (λ h. inr (eqb→eq n b h)) (or-parts (eqb n a) (eqb n b) t)
+
+-- where a ROOT can stand, and where a TYPE
+before-root : (n : ℕ) → T (eqb n (rank InBlock) || eqb n (rank AfterExpression))
+    → (rank InBlock ≤ n) × (n ≤ rank AfterExpression) × (n ≢ rank InExpression)
+before-root n t = ⊎-elim (λ e. omega arith) (λ e. omega arith) (either-is n (rank InBlock) (rank AfterExpression) t)
+
+before-type : (n : ℕ) → T (eqb n (rank BeforeTypes) || (eqb n (rank InBlock) || eqb n (rank AfterExpression)))
+    → (rank BeforeTypes ≤ n) × (n ≤ rank AfterExpression) × (n ≢ rank InExpression)
+before-type n t =
+    ⊎-elim (λ h. omega (arith, eqb→eq n (rank BeforeTypes) h)) (λ h. omega (arith, before-root n h))
+    (or-parts (eqb n (rank BeforeTypes)) (eqb n (rank InBlock) || eqb n (rank AfterExpression)) t)
 
 answered : (g : Stated) (c : Command) → let s = seenOf g c in failed s c ≡ 0
     → T (isCommand c) × T (inOrder s c) × T (inRange s c) × T (withinCounts s c) × T (notGiven s c)
 answered g c z =
-    let h = all-yes (questions (seenOf g c) c) (numbers-fit g c) z in
+    let h = all-yes (questions (seenOf g c) c) (omega arith) z in
     (search h, search h, search h, search h, search h)
 
 pub passed : (g : Stated) (c : Command) → failed (seenOf g c) c ≡ 0 → Passed g c
@@ -88,10 +77,10 @@ passed g (Tags n) z =
     omega (arith, eqb→eq, leb→le)
 passed g (TypeBlock t s) z =
     let h = answered g (TypeBlock t s) z in
-    let r = and-parts (ltb (t .0) (g .tags)) (leb 1 s && leb s mostStates) (h .2) in
-    let l = and-parts (leb 1 s) (leb s mostStates) (r .1) in
+    let r = and-parts (ltb (t .0) (g .tags)) (leb s mostStates) (h .2) in
     let o = before-type (rank (g .phase)) (h .1) in
-    omega (arith, leb→le, ltb→lt)
+    let few = ltb→lt (length (g .blocks)) mostTypes (h .3) in
+    (o .0, o .1, o .2, ltb→lt (t .0) (g .tags) (r .0), leb→le s mostStates (r .1), few)
 passed g (Final q) z =
     let h = answered g (Final q) z in
     let d = current (g .blocks) in
@@ -102,17 +91,29 @@ passed g (Step p j q) z =
     let r = and-parts (ltb p n) (ltb (j .0) mostTypes && ltb q n) (h .2) in
     let l = and-parts (ltb (j .0) mostTypes) (ltb q n) (r .1) in
     omega (arith, eqb→eq, ltb→lt)
-passed g (Root a) z = let h = answered g (Root a) z in omega (arith, eqb→eq, ltb→lt)
+passed g (Root a) z =
+    let h = answered g (Root a) z in
+    let o = before-root (rank (g .phase)) (h .1) in
+    (o .0, o .1, o .2, ltb→lt (a .0) (length (g .blocks)) (h .2))
 passed g Done z = let h = answered g Done z in omega (arith, eqb→eq)
+passed g (Expression x) z = absurd (omega arith)
 passed g NoCommand z = absurd (omega arith)
 
--- such a command is one of the six
+-- such a command is one
 pub passed-command : (g : Stated) (c : Command) → failed (seenOf g c) c ≡ 0 → T (isCommand c)
 passed-command g c z = answered g c z .0
 
--- A property of a place and of what is stated there is kept by each command that passes its questions.
-abbrev pub Kept : (ℕ → Stated → Type 0) → Type 0
-Kept P = (i : ℕ) (g : Stated) (c : Command) → Passed g c → P i g → P (i + size c) (after g i c)
+-- an expression was read at the place i, up to the 3F at the place p, and its steps fit
+pub record ExpressionRead (file : List ℕ) (i : ℕ) (g : Stated) (e : Exp) (ns : List Name) (p : ℕ) : Type 0 where
+  pub phase : rank (g .phase) ≡ rank InExpression
+  pub content : contentAt file i ≡ whole e ns p
+  pub fits : stepCount (g .blocks) + length (allSteps e) ≤ mostSteps
+
+-- A property of a place and of what is stated there is kept by each command that passes its questions and by each expression.
+pub record Kept (file : List ℕ) (P : ℕ → Stated → Type 0) : Type 0 where
+  pub by-command : (i : ℕ) (g : Stated) (c : Command) → commandAt file i ≡ c → Passed g c → P i g → P (i + size c) (after g i c)
+  pub by-expression : (i : ℕ) (g : Stated) (e : Exp) (ns : List Name) (p : ℕ) → ExpressionRead file i g e ns p → P i g
+      → P (p + 1) (afterExpression g e ns)
 
 -- it holds at the end of the file, where the commands end
 pub record HoldsAtEnd (P : ℕ → Stated → Type 0) (file : List ℕ) (g : Stated) : Type 0 where
@@ -125,63 +126,107 @@ pub record HoldsAtEnd (P : ℕ → Stated → Type 0) (file : List ℕ) (g : Sta
 not-stopped : {A : Type 0} {n p : ℕ} {g : Stated} → stopped n p ≡ states g → A
 not-stopped e = absurd (let z : _≡_ {A = ℕ} 0 1 = cc in omega arith)
 
--- one turn: the commands end here, or this one passes and the rest follow
-turn : {R : Type 0} (a b c : Bool) (n i : ℕ) {g g′ : Stated} {rest : Commands}
-    → cond a (cond b (states g) (stopped 3 i)) (cond c rest (stopped n i)) ≡ states g′
-    → (a ≡ true → b ≡ true → g ≡ g′ → R) → (c ≡ true → rest ≡ states g′ → R) → R
-turn true true c n i e last more = last refl refl (cc)
-turn true false c n i e last more = not-stopped e
-turn false b true n i e last more = more refl e
-turn false b false n i e last more = not-stopped e
+-- one turn: the commands end here, or an expression is read, or this one passes and the rest follow
+turn : {R : Type 0} (a b x c : Bool) (n i : ℕ) {g g′ : Stated} {expression rest : Commands}
+    → cond a (cond b (states g) (stopped 3 i)) (cond x expression (cond c rest (stopped n i))) ≡ states g′
+    → (a ≡ true → b ≡ true → g ≡ g′ → R) → (x ≡ true → expression ≡ states g′ → R) → (c ≡ true → rest ≡ states g′ → R) → R
+turn true true x c n i e last read more = last refl refl (cc)
+turn true false x c n i e last read more = not-stopped e
+turn false b true c n i e last read more = read refl e
+turn false b false true n i e last read more = more refl e
+turn false b false false n i e last read more = not-stopped e
+
+-- the rest after an expression
+fits-or-stops : {R : Type 0} (b : Bool) (rest : Commands) (p : ℕ) {g′ : Stated} → cond b rest (stopped 5 p) ≡ states g′
+    → (b ≡ true → rest ≡ states g′ → R) → R
+fits-or-stops true rest p e f = f refl e
+fits-or-stops false rest p e f = not-stopped e
+
+pub after-content : {R : Type 0} (g : Stated) (rest : ℕ → Stated → Commands) (k : Content) {g′ : Stated} → byContent g rest k ≡ states g′
+    → ((e : Exp) (ns : List Name) (p : ℕ) → k ≡ whole e ns p → stepCount (g .blocks) + length (allSteps e) ≤ mostSteps
+    → rest (p + 1) (afterExpression g e ns) ≡ states g′ → R) → R
+unfolding byContent
+after-content g rest (broken n p) e f = not-stopped e
+after-content g rest (whole e ns p) h f =
+    fits-or-stops (leb (stepCount (g .blocks) + length (allSteps e)) mostSteps) (rest (p + 1) (afterExpression g e ns)) p h
+    (λ b q. f e ns p refl (leb-true (stepCount (g .blocks) + length (allSteps e)) mostSteps b) q)
 
 -- by induction over the fuel
-kept-from : {P : ℕ → Stated → Type 0} → Kept P → (fuel : ℕ) (file : List ℕ) (i : ℕ) (g : Stated) {g′ : Stated}
+kept-from : {P : ℕ → Stated → Type 0} {file : List ℕ} → Kept file P → (fuel i : ℕ) (g : Stated) {g′ : Stated}
     → commandsFrom fuel file i g ≡ states g′ → P i g → HoldsAtEnd P file g′
 unfolding commandsFrom
-kept-from k zero file i g e p = not-stopped e
-kept-from {P} k (suc fuel) file i g {g′} e p =
+kept-from k zero i g e p = not-stopped e
+kept-from {P} {file} k (suc fuel) i g {g′} e p =
     let c = commandAt file i in
     let n = failed (seenOf g c) c in
-    turn (samePhase (g .phase) AfterDone) (leb (length file) i) (eqb n 0) n i e
+    turn (samePhase (g .phase) AfterDone) (leb (length file) i) (samePhase (g .phase) InExpression) (eqb n 0) n i e
     (λ a b same. subst (λ (x : Stated). HoldsAtEnd P file x) same
     (record { place = i; all-read = leb-true (length file) i b; phase = eqb-true (rank (g .phase)) (rank AfterDone) a; holds = p }))
-    (λ z rest. kept-from k fuel file (i + size c) (after g i c) rest (k i g c (passed g c (eqb-true n 0 z)) p))
+    (λ x read. after-content g (commandsFrom fuel file) (contentAt file i) read
+    (λ e ns q content fits rest. kept-from k fuel (q + 1) (afterExpression g e ns) rest
+    (k .by-expression i g e ns q (record { phase = eqb-true (rank (g .phase)) (rank InExpression) x; content = content; fits = fits }) p)))
+    (λ z rest. kept-from k fuel (i + size c) (after g i c) rest (k .by-command i g c refl (passed g c (eqb-true n 0 z)) p))
 
 -- what holds before any command and is kept holds at the end
-pub kept-to-end : {P : ℕ → Stated → Type 0} → Kept P → (file : List ℕ) {g : Stated} → commands file ≡ states g → P 0 nothingStated
+pub kept-to-end : {P : ℕ → Stated → Type 0} (file : List ℕ) → Kept file P → {g : Stated} → commands file ≡ states g → P 0 nothingStated
     → HoldsAtEnd P file g
 unfolding commands
-kept-to-end k file e p = kept-from k (suc (length file)) file 0 nothingStated e p
+kept-to-end file k e p = kept-from k (suc (length file)) 0 nothingStated e p
 
--- the commands are not refused, or with a number of 2 to 6
+-- the number of a refusal
+abbrev pub CommandNumber : ℕ → Type 0
+CommandNumber n = (2 ≤ n) × ((n ≤ 6) ⊎ ((21 ≤ n) × (n ≤ 23)))
+
+low-number : (n : ℕ) → 2 ≤ n → n ≤ 6 → CommandNumber n
+low-number n l m = (l, inl m)
+
+inside-number : (n : ℕ) → NumberInside n → CommandNumber n
+inside-number n k = (k .0, ⊎-elim (λ l. inl (omega arith)) inr (k .1))
+
 abbrev NumberFits : Commands → Type 0
-NumberFits (stopped n p) = (2 ≤ n) × (n ≤ 6)
+NumberFits (stopped n p) = CommandNumber n
 NumberFits (states g) = Unit
 
-range-from : (fuel : ℕ) (file : List ℕ) (i : ℕ) (g : Stated) → NumberFits (commandsFrom fuel file i g)
-unfolding commandsFrom
-range-from zero file i g = omega arith
-range-from (suc fuel) file i g =
-    let c = commandAt file i in
-    let n = failed (seenOf g c) c in
-    go (samePhase (g .phase) AfterDone) (leb (length file) i) (eqb n 0) refl _ (range-from fuel file (i + size c) (after g i c))
-  where
-    go : (a b z : Bool) → eqb (failed (seenOf g (commandAt file i)) (commandAt file i)) 0 ≡ z → (rest : Commands) → NumberFits rest
-        → NumberFits
-        (cond a (cond b (states g) (stopped 3 i)) (cond z rest (stopped (failed (seenOf g (commandAt file i)) (commandAt file i)) i)))
-    go true true z e rest r = tt
-    go true false z e rest r = omega arith
-    go false b true e rest r = r
-    go false b false e rest r =
-        let c = commandAt file i in
-        number-range (questions (seenOf g c) c) (numbers-fit g c) (eqb-false (failed (seenOf g c) c) 0 e)
+module _ (file : List ℕ) where
+  content-range : (i : ℕ) (g : Stated) (rest : ℕ → Stated → Commands) → ((j : ℕ) (h : Stated) → NumberFits (rest j h))
+      → (k : Content) → contentAt file i ≡ k → NumberFits (byContent g rest k)
+  unfolding byContent
+  content-range i g rest fit (broken n p) e = inside-number n (broken-number file i e)
+  content-range i g rest fit (whole e ns p) h =
+      cond-both NumberFits (leb (stepCount (g .blocks) + length (allSteps e)) mostSteps) _ _ (fit (p + 1) (afterExpression g e ns))
+      (low-number 5 (omega arith) (omega arith))
 
-stopped-range : (file : List ℕ) {n p : ℕ} → commands file ≡ stopped n p → (2 ≤ n) × (n ≤ 6)
+  range-from : (fuel i : ℕ) (g : Stated) → NumberFits (commandsFrom fuel file i g)
+  unfolding commandsFrom
+  range-from zero i g = low-number 2 (omega arith) (omega arith)
+  range-from (suc fuel) i g =
+      let c = commandAt file i in
+      let n = failed (seenOf g c) c in
+      let low : (k : ℕ) → 2 ≤ k → k ≤ 6 → CommandNumber k = low-number in
+      let numbered : Numbered CommandNumber (questions (seenOf g c) c) = (
+        low 2 (omega arith) (omega arith),
+        (
+          low 3 (omega arith) (omega arith),
+          (
+            low 4 (omega arith) (omega arith),
+            (low 5 (omega arith) (omega arith), (low 6 (omega arith) (omega arith), tt)),
+          ),
+        ),
+      ) in
+      cond-both NumberFits (samePhase (g .phase) AfterDone) _ _
+      (cond-both NumberFits (leb (length file) i) _ _ tt (low-number 3 (omega arith) (omega arith)))
+      (cond-both NumberFits (samePhase (g .phase) InExpression) _ _
+      (content-range i g (commandsFrom fuel file) (range-from fuel) (contentAt file i) refl)
+      (cond-either NumberFits (eqb n 0) (λ t. range-from fuel (i + size c) (after g i c))
+      (λ f. first-number CommandNumber (questions (seenOf g c) c) numbered (λ z. f (rw (eq-eqb n 0 z) tt)))))
+
+pub stopped-number : (file : List ℕ) {n p : ℕ} → commands file ≡ stopped n p → CommandNumber n
 unfolding commands
-stopped-range file e = subst NumberFits e (range-from (suc (length file)) file 0 nothingStated)
+stopped-number file e = subst NumberFits e (range-from file (suc (length file)) 0 nothingStated)
 
 pub stopped-least : (file : List ℕ) {n p : ℕ} → commands file ≡ stopped n p → 2 ≤ n
-stopped-least file e = stopped-range file e .0
+stopped-least file e = stopped-number file e .0
 
-pub stopped-most : (file : List ℕ) {n p : ℕ} → commands file ≡ stopped n p → n ≤ 6
-stopped-most file e = stopped-range file e .1
+-- it is none that is asked after DONE
+pub stopped-before : (file : List ℕ) {n p : ℕ} → commands file ≡ stopped n p → 7 ≤ n → n ≤ 20 → ⊥
+stopped-before file e a b = ⊎-elim (λ l. absurd (omega arith)) (λ l. absurd (omega arith)) (stopped-number file e .1)

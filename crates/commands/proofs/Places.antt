@@ -1,25 +1,22 @@
--- The table of places holds, of each type, the place of the first STEP that names it: the least, since places rise along the file. So the
--- least place of the types not given is the first place of a STEP that names no given type.
-use mathlib.Core.Path.{_≡_, refl, sym, ap, _∙_}
+-- The table of places holds, of each type, the place of the first STEP or 32 that names it: the least, since places rise along the file. So
+-- the least place of the types not given is the first place that names no given type.
+use mathlib.Core.Path.{_≡_, refl, ap, _∙_}
 use mathlib.Core.Logic.{_≢_}
-use mathlib.Core.Bool.{cond}
-use mathlib.Core.List.{List, [], _∷_, _++_, append-nil, append-assoc, cons≢nil}
+use mathlib.Core.List.{List, [], _∷_, _++_, reverseAux, append-nil, cons≢nil}
 use Prim.Native.Nat.{ℕ, zero, suc, _+_, _-_, _%_, _≤_, _<_, min, max}
 use native.Mathlib.Decide.{decLt}
 use native.Mathlib.Nat.{suc-add}
 use native.Mathlib.Omega.{arith}
 use borrow.Author.Tests.{lt-ltb, le-ltb}
-use lib.Dec.{ltb}
 use lib.ListN.{length, getD, set, length-set, replicate, length-replicate, getD-replicate}
 use lib.Seq.{getD-set-same, getD-set-other}
 use Rattle.sdtd.specs.Limits.{mostTypes}
-use Rattle.sdtd.specs.Schema.{step}
 use Rattle.command.specs.declared.Command.{Command}
-use Rattle.command.specs.declared.Command.the-variants.{Tags, TypeBlock, Final, Step, Root, Done, NoCommand}
-use Rattle.commands.specs.Questions.{rank}
-use Rattle.commands.specs.File.{Placed, Draft, Stated, withFinal, withStep, after, unknownIn, unknownBy}
-use Rattle.commands.specs.declared.progress.Phase.the-variants.{InBlock}
-use Rattle.commands.specs.Progress.{placesAfter, boundAfter, leastFrom}
+use Rattle.command.specs.declared.Command.the-variants.{Tags, TypeBlock, Final, Step, Root, Done, Expression, NoCommand}
+use Rattle.expression.specs.Content.{Name}
+use Rattle.expression.proofs.WholeContents.{Rise, rise-most, TypesBelow}
+use Rattle.commands.specs.File.{Stated, after, unknownIn}
+use Rattle.commands.specs.Progress.{placesAfter, boundAfter, placesWith, boundWith, leastFrom}
 use Rattle.commands.proofs.Passing.{Passed}
 
 -- `leastFrom` is at most `none`
@@ -82,13 +79,13 @@ first-more : {none i m : ℕ} (us : List ℕ) (p : ℕ) → i < none → i < m �
 first-more [] p l b h = (omega arith, b)
 first-more (u ∷ us) p l b h = (omega arith, omega arith)
 
--- From each type k on, the least place in the table is the first of a STEP before the place i that names such a type. No STEP names a type from
--- the bound on.
-pub record PlacesHold (bs : List Draft) (none i : ℕ) (places : List ℕ) (bound : ℕ) : Type 0 where
+-- From each type k on, the least place in the table is the first before the place i that names such a type. None names a type from the bound
+-- on.
+pub record PlacesHold (ns : List Name) (none i : ℕ) (places : List ℕ) (bound : ℕ) : Type 0 where
   pub sized : length places ≡ mostTypes
   pub bound-most : bound ≤ mostTypes
   pub past : (k : ℕ) → bound ≤ k → k < mostTypes → getD places k 0 ≡ none
-  pub first : (k : ℕ) → FirstIs none i (unknownBy k bs) (leastFrom places none k (mostTypes - k))
+  pub first : (k : ℕ) → FirstIs none i (unknownIn k ns) (leastFrom places none k (mostTypes - k))
 
 pub first-places : (none : ℕ) → PlacesHold [] none 0 (replicate mostTypes none) 0
 first-places none =
@@ -100,70 +97,67 @@ first-places none =
       first = λ k. least-none (replicate mostTypes none) none k (mostTypes - k) (λ b least most. empty b (omega arith));
     }
 
--- one accepting state more leaves the places, and one step more adds its own
-unknown-final : (k q : ℕ) (bs : List Draft) → unknownBy k (withFinal q bs) ≡ unknownBy k bs
-unknown-final k q [] = refl
-unknown-final k q (d ∷ ds) = refl
-
-unknown-step : (k : ℕ) (x : Placed) (bs : List Draft) → 0 < length bs
-    → unknownBy k (withStep x bs) ≡ unknownBy k bs ++ cond (ltb (x .step .by) k) [] (x .place ∷ [])
-unknown-step k x [] l = absurd (omega arith)
-unknown-step k x (d ∷ ds) l = sym (append-assoc (unknownBy k ds) (unknownIn k (d .steps)) (cond (ltb (x .step .by) k) [] (x .place ∷ [])))
-
-module _ {bs : List Draft} {none i m : ℕ} {places : List ℕ} {bound : ℕ} (h : PlacesHold bs none i places bound) (before : i < m) where
-  -- a command that leaves the steps
-  same-places : {bs′ : List Draft} → ((k : ℕ) → unknownBy k bs′ ≡ unknownBy k bs) → PlacesHold bs′ none m places bound
-  same-places e =
+module _ {ns : List Name} {none i : ℕ} {places : List ℕ} {bound : ℕ} (h : PlacesHold ns none i places bound) where
+  -- a command that names nothing
+  pub same-places : {m : ℕ} → i ≤ m → PlacesHold ns none m places bound
+  same-places l =
       record {
         sized = h .sized;
         bound-most = h .bound-most;
         past = h .past;
-        first = λ k. rw (e k) (first-later none (unknownBy k bs) _ (omega arith) (h .first k));
+        first = λ k. first-later none (unknownIn k ns) _ l (h .first k);
       }
 
-  -- a STEP at the place i that names the type j
-  step-places : (p j q : ℕ) → 0 < length bs → j < mostTypes → i < none
-      → PlacesHold (withStep (record { step = step p j q; place = i }) bs) none m
-      (set places (j % mostTypes) (min (getD places (j % mostTypes) 0) i))
+  -- one that names the type j at the place x
+  pub name-places : {m : ℕ} (j x : ℕ) → j < mostTypes → i ≤ x → x < none → x < m
+      → PlacesHold (record { type = j; place = x } ∷ ns) none m (set places (j % mostTypes) (min (getD places (j % mostTypes) 0) x))
       (max bound (j % mostTypes + 1))
-  step-places p j q some l b =
+  name-places j x l a b before =
       let n : j % mostTypes ≡ j = omega arith in
-      let v = min (getD places j 0) i in
+      let v = min (getD places j 0) x in
       rw n
       (record {
         sized = rw length-set (h .sized);
         bound-most = omega (arith, h .bound-most);
         past = λ k least most. getD-set-other places j k v 0 (omega arith) ∙ h .past k (omega arith) most;
         first = λ k.
-            rw (unknown-step k (record { step = step p j q; place = i }) bs some)
-            (elim (decLt j k) [
+            elim (decLt j k) [
               | yes c ↦
-                  rw (lt-ltb j k c, append-nil (unknownBy k bs), least-below places none j v k (mostTypes - k) c)
-                  (first-later none (unknownBy k bs) _ (omega arith) (h .first k))
+                  rw (lt-ltb j k c, append-nil (unknownIn k ns), least-below places none j v k (mostTypes - k) c)
+                  (first-later none (unknownIn k ns) _ (omega arith) (h .first k))
               | no c ↦
-                  let r = least-named places none j i (omega (arith, h .sized)) k (mostTypes - k) (omega arith) (omega arith) in
-                  rw (le-ltb j k (omega arith), r) (first-more (unknownBy k bs) _ b before (h .first k))
-            ]);
+                  let r = least-named places none j x (omega (arith, h .sized)) k (mostTypes - k) (omega arith) (omega arith) in
+                  rw (le-ltb j k (omega arith), r) (first-more (unknownIn k ns) _ b before (first-later none (unknownIn k ns) _ a (h .first k)))
+            ];
       })
 
 -- after a command at the place i that passed its questions
-pub places-after : (g : Stated) {none i m : ℕ} {places : List ℕ} {bound : ℕ} → PlacesHold (g .blocks) none i places bound → i < m → i < none
-    → (rank (g .phase) ≡ rank InBlock → 0 < length (g .blocks)) → (c : Command) → Passed g c
-    → PlacesHold (after g i c .blocks) none m (placesAfter i places c) (boundAfter bound c)
+pub places-after : (g : Stated) {none i m : ℕ} {places : List ℕ} {bound : ℕ} → PlacesHold (g .names) none i places bound → i < m → i < none
+    → (c : Command) → Passed g c → PlacesHold (after g i c .names) none m (placesAfter i places c) (boundAfter bound c)
 unfolding after
-places-after g h l b some (Tags n) p = same-places h l (λ k. refl)
-places-after g h l b some (TypeBlock t s) p = same-places h l (λ k. append-nil (unknownBy k (g .blocks)))
-places-after g h l b some (Final q) p = same-places h l (λ k. unknown-final k q (g .blocks))
-places-after g h l b some (Step x j y) p = step-places h l x (j .0) y (some (p .0)) (p .4) b
-places-after g h l b some (Root a) p = same-places h l (λ k. refl)
-places-after g h l b some Done p = same-places h l (λ k. refl)
-places-after g h l b some NoCommand p = absurd p
+places-after g h l b (Tags n) p = same-places h (omega arith)
+places-after g h l b (TypeBlock t s) p = same-places h (omega arith)
+places-after g h l b (Final q) p = same-places h (omega arith)
+places-after g {i = i} h l b (Step x j y) p = name-places h (j .0) i (p .4) (omega arith) b l
+places-after g h l b (Root a) p = same-places h (omega arith)
+places-after g h l b Done p = same-places h (omega arith)
+places-after g h l b (Expression x) p = absurd p
+places-after g h l b NoCommand p = absurd p
 
--- The least place of the types from k on and below the bound: a place before `none` is the first of the STEPs' that name a type from k on, and
+-- after the names of an expression that begins at the place i and ends at the place p
+pub places-with : (ns : List Name) {xs : List Name} {none : ℕ} (i p : ℕ) {places : List ℕ} {bound : ℕ} → PlacesHold xs none i places bound
+    → Rise i ns p → TypesBelow ns → p < none → PlacesHold (reverseAux ns xs) none (p + 1) (placesWith ns places) (boundWith ns bound)
+unfolding placesWith boundWith
+places-with [] i p h r t l = same-places h (omega arith)
+places-with (x ∷ ns) i p h r t l =
+    let m = rise-most (suc (x .place)) ns p (r .1) in
+    places-with ns (suc (x .place)) p (name-places h (x .type) (x .place) (t .0) (r .0) (omega arith) (omega arith)) (r .1) (t .1) l
+
+-- The least place of the types from k on and below the bound: a place before `none` is the first that names a type from k on, and
 -- otherwise there is none.
-module _ {bs : List Draft} {none i : ℕ} {places : List ℕ} {bound : ℕ} (h : PlacesHold bs none i places bound) (k : ℕ) {p : ℕ}
+module _ {ns : List Name} {none i : ℕ} {places : List ℕ} {bound : ℕ} (h : PlacesHold ns none i places bound) (k : ℕ) {p : ℕ}
     (least : p ≡ leastFrom places none k (bound - k)) where
-  least-first : FirstIs none i (unknownBy k bs) p
+  least-first : FirstIs none i (unknownIn k ns) p
   least-first =
       let n = bound - k in
       let m = mostTypes - k - n in
@@ -171,15 +165,15 @@ module _ {bs : List Draft} {none i : ℕ} {places : List ℕ} {bound : ℕ} (h :
       let empty = least-none places none (k + n) m (λ b least most. h .past b (omega arith) (omega arith)) in
       rw least (rw (e, least-more places none k n m empty) at (h .first k))
 
-  pub first-named : p < none → (unknownBy k bs ≢ []) × (p ≡ getD (unknownBy k bs) 0 0)
-  first-named l = go (unknownBy k bs) least-first
+  pub first-named : p < none → (unknownIn k ns ≢ []) × (p ≡ getD (unknownIn k ns) 0 0)
+  first-named l = go (unknownIn k ns) least-first
     where
       go : (us : List ℕ) → FirstIs none i us p → (us ≢ []) × (p ≡ getD us 0 0)
       go [] e = absurd (omega arith)
       go (u ∷ us) e = (cons≢nil, e .0)
 
-  pub none-named : i ≤ none → none ≤ p → unknownBy k bs ≡ []
-  none-named b l = go (unknownBy k bs) least-first
+  pub none-named : i ≤ none → none ≤ p → unknownIn k ns ≡ []
+  none-named b l = go (unknownIn k ns) least-first
     where
       go : (us : List ℕ) → FirstIs none i us p → us ≡ []
       go [] e = refl

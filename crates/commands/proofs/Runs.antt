@@ -8,11 +8,11 @@ use borrow.Author.Tests.{ne-eqb}
 use lib.ListN.{length, length-append}
 use Rattle.command.specs.Command.{bytesOf, fileOf, size}
 use Rattle.command.specs.declared.Command.{Command}
-use Rattle.command.specs.declared.Command.the-variants.{Tags, TypeBlock, Final, Step, Root, Done, NoCommand}
+use Rattle.command.specs.declared.Command.the-variants.{Tags, TypeBlock, Final, Step, Root, Done, Expression, NoCommand}
 use Rattle.command.proofs.CommandLaws.{size-some, file-more, length-more, read-back}
 use Rattle.commands.specs.Questions.{rank, samePhase, failed}
 use Rattle.commands.specs.File.{Stated, nothingStated, seenOf, after, states, commandsFrom, commands}
-use Rattle.commands.specs.declared.progress.Phase.the-variants.{AfterDone}
+use Rattle.commands.specs.declared.progress.Phase.the-variants.{InExpression, AfterDone}
 use Rattle.commands.proofs.Passing.{Passed, passed, passed-command}
 use Rattle.commands.proofs.Drafts.{fuel-enough}
 use Rattle.commands.proofs.OneByOne.{goes-on, ends}
@@ -25,7 +25,19 @@ not-done g (Final q) p = ne-eqb (rank (g .phase)) (rank AfterDone) (λ e. omega 
 not-done g (Step x j y) p = ne-eqb (rank (g .phase)) (rank AfterDone) (λ e. omega arith)
 not-done g (Root a) p = ne-eqb (rank (g .phase)) (rank AfterDone) (λ e. omega arith)
 not-done g Done p = ne-eqb (rank (g .phase)) (rank AfterDone) (λ e. omega arith)
+not-done g (Expression x) p = absurd p
 not-done g NoCommand p = absurd p
+
+-- nor is an expression next
+not-inside : (g : Stated) (c : Command) → Passed g c → samePhase (g .phase) InExpression ≡ false
+not-inside g (Tags n) p = ne-eqb (rank (g .phase)) (rank InExpression) (λ e. omega arith)
+not-inside g (TypeBlock t s) p = ne-eqb (rank (g .phase)) (rank InExpression) (p .2)
+not-inside g (Final q) p = ne-eqb (rank (g .phase)) (rank InExpression) (λ e. omega arith)
+not-inside g (Step x j y) p = ne-eqb (rank (g .phase)) (rank InExpression) (λ e. omega arith)
+not-inside g (Root a) p = ne-eqb (rank (g .phase)) (rank InExpression) (p .2)
+not-inside g Done p = ne-eqb (rank (g .phase)) (rank InExpression) (λ e. omega arith)
+not-inside g (Expression x) p = absurd p
+not-inside g NoCommand p = absurd p
 
 -- one turn, at a command's bytes
 turn-at : (before rest : List ℕ) (g : Stated) (c : Command) {file : List ℕ} → file ≡ before ++ (bytesOf c ++ rest)
@@ -37,7 +49,7 @@ turn-at before rest g c {file} e z =
     let k = passed-command g c z in
     let l : length file ≡ i + (size c + length rest) = rw (e, length-append, length-append) in
     let s = size-some c k in
-    goes-on (length file - i) file i g (not-done g c (passed g c z)) (read-back before rest c k e) z
+    goes-on (length file - i) file i g (not-done g c (passed g c z)) (not-inside g c (passed g c z)) (read-back before rest c k e) z
     ∙ fuel-enough file (length file - i) (suc (length file - (i + size c))) (i + size c) (after g i c) (omega arith) (omega arith)
 
 -- In each file that begins with the bytes of the commands, they pass and state g.

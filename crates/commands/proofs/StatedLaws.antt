@@ -4,11 +4,12 @@ use mathlib.Core.List.{List, [], _∷_, _++_, map, reverse, reverse-cons}
 use Prim.Native.Nat.{ℕ, zero, suc, _+_}
 use native.Mathlib.Omega.{arith}
 use lib.ListN.{length}
+use Rattle.sdtd.specs.Schema.{Step}
 use Rattle.schema.specs.States.{members}
 use Rattle.schema.specs.Value.{upFrom, stepAt, stepsOf, offset, blockAt}
 use Rattle.schema.specs.declared.value.Schema.{Schema}
 use Rattle.schema.proofs.Values.{offset-step}
-use Rattle.commands.specs.File.{Placed, Draft, stepCount, blockBy}
+use Rattle.commands.specs.File.{Draft, stepCount, blockBy}
 use Rattle.commands.specs.Progress.{valueOf}
 use Rattle.commands.proofs.SchemaTables.{SchemaTables}
 use Rattle.commands.specs.declared.progress.Progress.{Progress}
@@ -31,14 +32,14 @@ map-reverse : {A B : Type 0} (f : A → B) (x : A) (xs : List A) → map f (reve
 map-reverse f x xs = ap (map f) (reverse-cons x xs) ∙ map-last f (reverse xs) x
 
 -- the steps at a block's places are its steps in file order
-steps-back : (t : SchemaTables) (xs : List Placed) (s : ℕ) → StepsHold t xs s
-    → stepsOf (t .from) (t .by) (t .to) s (length xs) ≡ map (λ (x : Placed). x .step) (reverse xs)
+steps-back : (t : SchemaTables) (xs : List Step) (s : ℕ) → StepsHold t xs s
+    → stepsOf (t .from) (t .by) (t .to) s (length xs) ≡ reverse xs
 unfolding stepsOf upFrom
 steps-back t [] s h = refl
 steps-back t (x ∷ xs) s h =
     up-last (stepAt (t .from) (t .by) (t .to)) s (length xs)
     ∙ (λ i. steps-back t xs s (h .1) i ++ (h .0 i ∷ []))
-    ∙ sym (map-reverse (λ (x : Placed). x .step) x xs)
+    ∙ sym (reverse-cons x xs)
 
 -- a type's first step stands behind all steps of the types before it
 pub offset-back : (t : SchemaTables) (bs : List Draft) → BlocksHold t bs → offset (t .counts) (length bs) ≡ stepCount bs

@@ -1,36 +1,48 @@
 -- What the commands state is inside document 01's limits.
-use mathlib.Core.Path.{_≡_, refl, sym, subst}
-use mathlib.Core.Logic.{⊎-elim}
+use mathlib.Core.Path.{_≡_, refl, sym, ap, subst}
+use mathlib.Core.Logic.{_≢_, ⊎-elim}
 use mathlib.Core.Bool.{Bool, true, false, cond}
 use mathlib.Core.List.{List, [], _∷_, _++_, map, reverse, reverse-cons, map-append, List·Memᴰ, List·Memᴰ·head, List·Memᴰ·tail}
 use mathlib.Core.List.{List·Memᴰ·not-nil, List·Memᴰ·cases-cons, List·Memᴰ·append-cases, List·Memᴰ·eq-of-singleton, Memᴰ·of-map}
+use mathlib.Core.List.{Memᴰ·append-left, Memᴰ·append-right}
 use Prim.Native.Nat.{ℕ, _+_, _^_, _≤_, _<_}
 use native.Mathlib.Omega.{arith}
-use lib.Dec.{T, ltb}
+use lib.Dec.{T, eqb, ltb}
 use lib.ListN.{length, length-map, length-reverse}
-use borrow.Author.Tests.{ltb-true}
+use borrow.Author.Tests.{ltb-true, eqb-false}
 use Rattle.sdtd.specs.Limits.{mostTags, mostTypes, mostStates, mostSteps}
-use Rattle.sdtd.specs.Schema.{Schema, Block, step, stepsIn, StepWithin, BlockWithin, WithinLimits}
+use Rattle.sdtd.specs.Schema.{Schema, Block, Step, step, stepsIn, BlockWithin, WithinLimits}
 use Rattle.schema.specs.States.{member, noStates}
 use Rattle.schema.proofs.Bits.{member-none, insert-below, member-insert, mem-members}
+use Rattle.expression.specs.Limits.{mostUses}
+use Rattle.expression.specs.Expression.{Expression as Exp}
+use Rattle.expression.specs.Automaton.{uses, named}
+use Rattle.expression.specs.Tests.{accepts, allSteps}
+use Rattle.expression.specs.Content.{Name}
+use Rattle.expression.proofs.TestSets.{set-below, member-set}
+use Rattle.expression.proofs.UseTypes.{named-uses}
+use Rattle.expression.proofs.TestLaws.{accepts-below}
+use Rattle.expression.proofs.AutomatonLimits.{steps-inside}
+use Rattle.expression.proofs.WholeContents.{typesOf, types-more, whole-content}
 use Rattle.commands.specs.Questions.{rank}
-use Rattle.commands.specs.declared.progress.Phase.the-variants.{BeforeTypes, InBlock, AfterRoot}
-use Rattle.commands.specs.File.{Placed, Draft, Stated, nothingStated, current, stepCount}
-use Rattle.commands.specs.File.{withFinal, withStep, after, states, commands, blockBy, schemaBy, unknownIn, unknownBy, unknown}
+use Rattle.commands.specs.declared.progress.Phase.the-variants.{BeforeTypes, InBlock, InExpression, AfterRoot}
+use Rattle.commands.specs.File.{Draft, Stated, nothingStated, current, stepCount, withFinal, withStep, after, withAutomaton}
+use Rattle.commands.specs.File.{afterExpression, states, commands, blockBy, schemaBy, unknownIn, unknown}
 use Rattle.command.specs.declared.Command.{Command}
-use Rattle.command.specs.declared.Command.the-variants.{Tags, TypeBlock, Final, Step, Root, Done, NoCommand}
+use Rattle.command.specs.declared.Command.the-variants.{Tags, TypeBlock, Final, Step as StepCommand, Root, Done, Expression, NoCommand}
+use Rattle.commands.proofs.ExpressionTables.{automaton-count}
 use Rattle.commands.proofs.TableLaws.{final-count, final-steps, step-count, step-steps}
-use Rattle.commands.proofs.Passing.{Passed, HoldsAtEnd, kept-to-end}
+use Rattle.commands.proofs.Passing.{Passed, ExpressionRead, HoldsAtEnd, kept-to-end}
 
 -- each member of a list has the property
 abbrev pub Each : {A : Type 0} → (A → Type 0) → List A → Type 0
 Each {A} P l = (x : A) → List·Memᴰ x l → P x
 
-each-none : {A : Type 0} (P : A → Type 0) (l : List A) → length l ≡ 0 → Each P l
+pub each-none : {A : Type 0} (P : A → Type 0) (l : List A) → length l ≡ 0 → Each P l
 each-none P [] e x m = absurd (List·Memᴰ·not-nil m)
 each-none P (y ∷ l) e x m = absurd (omega arith)
 
-each-more : {A : Type 0} (P : A → Type 0) {a : A} {l : List A} → P a → Each P l → Each P (a ∷ l)
+pub each-more : {A : Type 0} (P : A → Type 0) {a : A} {l : List A} → P a → Each P l → Each P (a ∷ l)
 each-more P h every x m = ⊎-elim (λ e. subst P (sym e) h) (every x) (List·Memᴰ·cases-cons m)
 
 -- the list turned round and mapped
@@ -40,17 +52,16 @@ mem-reverse {x = x} (y ∷ l) m =
     ⊎-elim (λ n. List·Memᴰ·tail (mem-reverse l n)) (λ n. List·Memᴰ·head (List·Memᴰ·eq-of-singleton n))
     (List·Memᴰ·append-cases (reverse l) (subst (λ (r : List _). List·Memᴰ x r) (reverse-cons y l) m))
 
-each-turned : {A B : Type 0} (Q : B → Type 0) (f : A → B) (l : List A) → Each (λ x. Q (f x)) l → Each Q (map f (reverse l))
+pub each-turned : {A B : Type 0} (Q : B → Type 0) (f : A → B) (l : List A) → Each (λ x. Q (f x)) l → Each Q (map f (reverse l))
 each-turned Q f l every y m = let o = Memᴰ·of-map f (reverse l) m in subst Q (o .2) (every (o .0) (mem-reverse l (o .1)))
 
 -- a step's states are below the state count
-abbrev EndsWithin : ℕ → Placed → Type 0
-EndsWithin n s = (s .step .from < n) × (s .step .to < n)
+abbrev EndsWithin : ℕ → Step → Type 0
+EndsWithin n s = (s .from < n) × (s .to < n)
 
--- a block's numbers are inside the limits
+-- a block's numbers are inside the limits; a TYPE with state count 0 waits for its expression
 pub record DraftWithin (tags : ℕ) (d : Draft) : Type 0 where
   pub tag : d .tag < tags
-  pub states-least : 1 ≤ d .states
   pub states-most : d .states ≤ mostStates
   pub below : d .accepting < 2 ^ mostStates
   pub accepting : (q : ℕ) → T (member q (d .accepting)) → q < d .states
@@ -66,13 +77,36 @@ pub record CountsWithin (g : Stated) : Type 0 where
   pub steps-most : stepCount (g .blocks) ≤ mostSteps
   pub root : rank AfterRoot ≤ rank (g .phase) → g .root < length (g .blocks)
 
--- What is stated so far is inside the limits.
+-- a block has states
+abbrev HasStates : Draft → Type 0
+HasStates d = 1 ≤ d .states
+
+-- the blocks before the one that the file is in
+abbrev pub others : List Draft → List Draft
+others [] = []
+others (d ∷ ds) = ds
+
+-- each step's type is one that is named
+abbrev NamedIn : List Name → Draft → Type 0
+NamedIn ns d = Each (λ s. List·Memᴰ (s .by) (typesOf ns)) (d .steps)
+
+-- What is stated so far is inside the limits: every block has states, but for one that waits for its expression.
 pub record StatedWithin (g : Stated) : Type 0 where
   pub counts : CountsWithin g
   pub blocks : Each (DraftWithin (g .tags)) (g .blocks)
+  pub whole : rank (g .phase) ≢ rank InExpression → Each HasStates (g .blocks)
+  pub older : Each HasStates (others (g .blocks))
+  pub named : Each (NamedIn (g .names)) (g .blocks)
 
 pub nothing-within : StatedWithin nothingStated
-nothing-within = record { counts = omega arith; blocks = each-none (DraftWithin 0) [] refl }
+nothing-within =
+    record {
+      counts = omega arith;
+      blocks = each-none (DraftWithin 0) [] refl;
+      whole = λ d. each-none HasStates [] refl;
+      older = each-none HasStates [] refl;
+      named = each-none (NamedIn []) [] refl;
+    }
 
 -- an accepting state more, and a step more, in the block that the file is in
 final-within : {tags : ℕ} (q : ℕ) (ds : List Draft) → q < current ds .states → Each (DraftWithin tags) ds
@@ -83,7 +117,6 @@ final-within {tags} q (d ∷ ds) l every =
     each-more (DraftWithin tags)
     (record {
       tag = h .tag;
-      states-least = h .states-least;
       states-most = h .states-most;
       below = insert-below q (d .accepting) (h .below);
       accepting = λ t m. ⊎-elim (h .accepting t) (λ p. rw (p .0) l) (member-insert q t (d .accepting) (h .below) .0 m);
@@ -91,7 +124,7 @@ final-within {tags} q (d ∷ ds) l every =
     })
     (λ x m. every x (List·Memᴰ·tail m))
 
-step-within : {tags : ℕ} (s : Placed) (ds : List Draft) → EndsWithin (current ds .states) s → Each (DraftWithin tags) ds
+step-within : {tags : ℕ} (s : Step) (ds : List Draft) → EndsWithin (current ds .states) s → Each (DraftWithin tags) ds
     → Each (DraftWithin tags) (withStep s ds)
 step-within s [] l every = every
 step-within {tags} s (d ∷ ds) l every =
@@ -99,7 +132,6 @@ step-within {tags} s (d ∷ ds) l every =
     each-more (DraftWithin tags)
     (record {
       tag = h .tag;
-      states-least = h .states-least;
       states-most = h .states-most;
       below = h .below;
       accepting = h .accepting;
@@ -107,52 +139,198 @@ step-within {tags} s (d ∷ ds) l every =
     })
     (λ x m. every x (List·Memᴰ·tail m))
 
+-- a property of a block that an accepting state more keeps, or a step more
+final-each : (P : Draft → Type 0) (q : ℕ) (ds : List Draft) → ((d : Draft) → P d → P (current (withFinal q (d ∷ [])))) → Each P ds
+    → Each P (withFinal q ds)
+final-each P q [] f every = every
+final-each P q (d ∷ ds) f every = each-more P (f d (every d (List·Memᴰ·head refl))) (λ x m. every x (List·Memᴰ·tail m))
+
+step-each : (P : Draft → Type 0) (s : Step) (ds : List Draft) → ((d : Draft) → P d → P (current (withStep s (d ∷ [])))) → Each P ds
+    → Each P (withStep s ds)
+step-each P s [] f every = every
+step-each P s (d ∷ ds) f every = each-more P (f d (every d (List·Memᴰ·head refl))) (λ x m. every x (List·Memᴰ·tail m))
+
+pub final-others : (q : ℕ) (ds : List Draft) → others (withFinal q ds) ≡ others ds
+final-others q [] = refl
+final-others q (d ∷ ds) = refl
+
+pub step-others : (s : Step) (ds : List Draft) → others (withStep s ds) ≡ others ds
+step-others s [] = refl
+step-others s (d ∷ ds) = refl
+
 -- a block that has only its TYPE
-draft-within : {tags t s : ℕ} (i : ℕ) → t < tags → 1 ≤ s → s ≤ mostStates
+draft-within : {tags t s : ℕ} (i : ℕ) → t < tags → s ≤ mostStates
     → DraftWithin tags (record { place = i; tag = t; states = s; accepting = noStates; steps = [] })
-draft-within {s = s} i a b c =
+draft-within {s = s} i a c =
     record {
       tag = a;
-      states-least = b;
       states-most = c;
       below = omega arith;
       accepting = λ q m. absurd (member-none q m);
       steps = each-none (EndsWithin s) [] refl;
     }
 
+-- the phase after a TYPE
+pub type-phase : (s : ℕ) → let p = cond (eqb s 0) InExpression InBlock in
+    (rank InBlock ≤ rank p) × (rank p ≤ rank InExpression) × (rank p ≢ rank InExpression → 1 ≤ s)
+type-phase s = go (eqb s 0) (λ e. eqb-false s 0 e)
+  where
+    go : (b : Bool) → (b ≡ false → s ≢ 0) → let p = cond b InExpression InBlock in
+        (rank InBlock ≤ rank p) × (rank p ≤ rank InExpression) × (rank p ≢ rank InExpression → 1 ≤ s)
+    go true f = (omega arith, omega arith, λ d. absurd (d refl))
+    go false f = (omega arith, omega arith, λ d. let n = f refl in omega arith)
+
+-- names more
+named-onto : (xs ns : List Name) (d : Draft) → NamedIn ns d → NamedIn (xs ++ ns) d
+named-onto xs ns d h s m = rw (map-append (λ (x : Name). x .type) xs ns) (Memᴰ·append-right (typesOf xs) (h s m))
+
 -- Each command that passes its questions keeps it.
 pub within-kept : (i : ℕ) (g : Stated) (c : Command) → Passed g c → StatedWithin g → StatedWithin (after g i c)
 unfolding after
 within-kept i g (Tags n) p h =
     let none = h .counts .no-types (omega arith) in
-    record { counts = omega arith; blocks = each-none (DraftWithin n) (g .blocks) none }
+    record {
+      counts = omega arith;
+      blocks = each-none (DraftWithin n) (g .blocks) none;
+      whole = λ d. each-none HasStates (g .blocks) none;
+      older = h .older;
+      named = h .named;
+    }
 within-kept i g (TypeBlock t s) p h =
-    record { counts = omega arith; blocks = each-more (DraftWithin (g .tags)) (draft-within i (p .2) (p .3) (p .4)) (h .blocks) }
+    let o = type-phase s in
+    let tags = h .counts .tags-least (p .0) in
+    let d : Draft = record { place = i; tag = t .0; states = s; accepting = noStates; steps = [] } in
+    record {
+      counts =
+          record {
+            tags-least = λ l. tags;
+            tags-most = h .counts .tags-most;
+            no-types = λ l. absurd (omega arith);
+            types-least = λ l. omega arith;
+            types-most = p .5;
+            steps-most = omega (arith, h .counts .steps-most);
+            root = λ l. absurd (omega arith);
+          };
+      blocks = each-more (DraftWithin (g .tags)) (draft-within i (p .3) (p .4)) (h .blocks);
+      whole = λ d. each-more HasStates (o .2 d) (h .whole (p .2));
+      older = h .whole (p .2);
+      named = each-more (NamedIn (g .names)) (each-none (λ s. List·Memᴰ (s .by) (typesOf (g .names))) [] refl) (h .named);
+    }
 within-kept i g (Final q) p h =
     let n = final-count q (g .blocks) in
     let m = final-steps q (g .blocks) in
     let t = h .counts .tags-least (omega arith) in
     let l = h .counts .types-least (omega arith) in
-    record { counts = omega arith; blocks = final-within q (g .blocks) (p .1) (h .blocks) }
-within-kept i g (Step x j y) p h =
-    let s : Placed = record { step = step x (j .0) y; place = i } in
+    record {
+      counts = omega arith;
+      blocks = final-within q (g .blocks) (p .1) (h .blocks);
+      whole = λ d. final-each HasStates q (g .blocks) (λ d k. k) (h .whole (omega arith));
+      older = rw (final-others q (g .blocks)) (h .older);
+      named = final-each (NamedIn (g .names)) q (g .blocks) (λ d k. k) (h .named);
+    }
+within-kept i g (StepCommand x j y) p h =
+    let s = step x (j .0) y in
     let t = h .counts .tags-least (omega arith) in
     let l = h .counts .types-least (omega arith) in
     let n = step-count s (g .blocks) in
     let m = step-steps s (g .blocks) l in
-    record { counts = omega arith; blocks = step-within s (g .blocks) (p .1, p .2) (h .blocks) }
-within-kept i g (Root a) p h = let t = h .counts .tags-least (omega arith) in record { counts = omega arith; blocks = h .blocks }
+    let name : Name = record { type = j .0; place = i } in
+    record {
+      counts = omega arith;
+      blocks = step-within s (g .blocks) (p .1, p .2) (h .blocks);
+      whole = λ d. step-each HasStates s (g .blocks) (λ d k. k) (h .whole (omega arith));
+      older = rw (step-others s (g .blocks)) (h .older);
+      named =
+          step-each (NamedIn (name ∷ g .names)) s (g .blocks)
+          (λ d k. each-more (λ s. List·Memᴰ (s .by) (typesOf (name ∷ g .names))) (List·Memᴰ·head refl) k)
+          (λ d m. named-onto (name ∷ []) (g .names) d (h .named d m));
+    }
+within-kept i g (Root a) p h =
+    let t = h .counts .tags-least (omega arith) in
+    record { counts = omega arith; blocks = h .blocks; whole = λ d. h .whole (p .2); older = h .older; named = h .named }
 within-kept i g Done p h =
     let t = h .counts .tags-least (omega arith) in
     let r = h .counts .root (omega arith) in
-    record { counts = omega arith; blocks = h .blocks }
+    record { counts = omega arith; blocks = h .blocks; whole = λ d. h .whole (omega arith); older = h .older; named = h .named }
+within-kept i g (Expression x) p h = absurd p
 within-kept i g NoCommand p h = absurd p
+
+-- the automaton of an expression in the block that the file is in
+automaton-within : {tags : ℕ} (e : Exp) (ds : List Draft) → uses e ≤ mostUses → Each (DraftWithin tags) ds
+    → Each (DraftWithin tags) (withAutomaton e ds)
+automaton-within e [] l every = every
+automaton-within {tags} e (d ∷ ds) l every =
+    each-more (DraftWithin tags)
+    (record {
+      tag = every d (List·Memᴰ·head refl) .tag;
+      states-most = omega arith;
+      below = set-below (accepts e) mostStates;
+      accepting = λ q m. accepts-below e q (member-set (accepts e) mostStates q (omega arith) .0 m .0);
+      steps = λ s m. let h = steps-inside e s (mem-reverse (allSteps e) m) in (h .0, h .2);
+    })
+    (λ x m. every x (List·Memᴰ·tail m))
+
+automaton-states : (e : Exp) (ds : List Draft) → Each HasStates (others ds) → Each HasStates (withAutomaton e ds)
+automaton-states e [] h = h
+automaton-states e (d ∷ ds) h = each-more HasStates (omega arith) h
+
+automaton-named : (e : Exp) (ns : List Name) (ds : List Draft) → Each (λ j. List·Memᴰ j (typesOf ns)) (named e) → Each (NamedIn ns) ds
+    → Each (NamedIn ns) (withAutomaton e ds)
+automaton-named e ns [] h every = every
+automaton-named e ns (d ∷ ds) h every =
+    each-more (NamedIn ns) (λ s m. h (s .by) (steps-inside e s (mem-reverse (allSteps e) m) .3)) (λ x m. every x (List·Memᴰ·tail m))
+
+pub automaton-others : (e : Exp) (ds : List Draft) → others (withAutomaton e ds) ≡ others ds
+automaton-others e [] = refl
+automaton-others e (d ∷ ds) = refl
+
+-- the block had no more steps than there were
+automaton-steps : (e : Exp) (ds : List Draft) → stepCount (withAutomaton e ds) ≤ stepCount ds + length (allSteps e)
+automaton-steps e [] = omega arith
+automaton-steps e (d ∷ ds) = omega (arith, length-reverse (allSteps e))
+
+types-reversed : {j : ℕ} (ns : List Name) → List·Memᴰ j (typesOf ns) → List·Memᴰ j (typesOf (reverse ns))
+types-reversed [] m = m
+types-reversed (x ∷ ns) m =
+    rw (types-more x ns)
+    (⊎-elim (λ e. Memᴰ·append-right (typesOf (reverse ns)) (List·Memᴰ·head e)) (λ t. Memᴰ·append-left (x .type ∷ []) (types-reversed ns t))
+    (List·Memᴰ·cases-cons m))
+
+-- Each expression keeps it.
+expression-kept : (file : List ℕ) (i : ℕ) (g : Stated) (e : Exp) (ns : List Name) (p : ℕ) → ExpressionRead file i g e ns p → StatedWithin g
+    → StatedWithin (afterExpression g e ns)
+expression-kept file i g e ns p r h =
+    let w = whole-content file i (r .content) in
+    let c = h .counts in
+    let q = r .phase in
+    let n = automaton-count e (g .blocks) in
+    let few : uses e ≤ mostUses = omega (arith, w .few, named-uses e, ap length (w .names), length-map ns (λ (x : Name). x .type)) in
+    let own : Each (λ j. List·Memᴰ j (typesOf (reverse ns ++ g .names))) (named e) = λ j m.
+    rw (map-append (λ (x : Name). x .type) (reverse ns) (g .names))
+    (Memᴰ·append-left (typesOf (g .names)) (types-reversed ns (subst (λ (l : List ℕ). List·Memᴰ j l) (sym (w .names)) m))) in
+    record {
+      counts =
+          record {
+            tags-least = λ l. c .tags-least (omega arith);
+            tags-most = c .tags-most;
+            no-types = λ l. absurd (omega arith);
+            types-least = λ l. omega (arith, c .types-least (omega arith));
+            types-most = omega (arith, c .types-most);
+            steps-most = omega (arith, automaton-steps e (g .blocks), r .fits);
+            root = λ l. absurd (omega arith);
+          };
+      blocks = automaton-within e (g .blocks) few (h .blocks);
+      whole = λ d. automaton-states e (g .blocks) (h .older);
+      older = rw (automaton-others e (g .blocks)) (h .older);
+      named = automaton-named e (reverse ns ++ g .names) (g .blocks) own (λ d m. named-onto (reverse ns) (g .names) d (h .named d m));
+    }
 
 -- what all the commands of a file state
 within-at-end : (file : List ℕ) {g : Stated} → commands file ≡ states g → HoldsAtEnd (λ i x. StatedWithin x) file g
-within-at-end file e = kept-to-end within-kept file e nothing-within
+within-at-end file e =
+    kept-to-end file (record { by-command = λ i g c q. within-kept i g c; by-expression = expression-kept file }) e nothing-within
 
--- where no step's type is unknown, each step's type is below the count
+-- where no name is unknown, each step's type is below the count
 none-both : {A : Type 0} (s t : List A) → s ++ t ≡ [] → (s ≡ []) × (t ≡ [])
 none-both [] t e = (refl, e)
 none-both (x ∷ s) t e = absurd (let z : _≡_ {A = ℕ} 0 1 = cc in omega arith)
@@ -161,17 +339,11 @@ known-one : (b : Bool) (p : ℕ) → cond b [] (p ∷ []) ≡ [] → b ≡ true
 known-one true p e = refl
 known-one false p e = cc
 
-known-in : (n : ℕ) (ss : List Placed) → unknownIn n ss ≡ [] → Each (λ s. s .step .by < n) ss
-known-in n [] e = each-none (λ s. s .step .by < n) [] refl
-known-in n (s ∷ ss) e =
-    let r = none-both (unknownIn n ss) _ e in
-    each-more (λ x. x .step .by < n) (ltb-true (s .step .by) n (known-one (ltb (s .step .by) n) (s .place) (r .1))) (known-in n ss (r .0))
-
-known-by : (n : ℕ) (ds : List Draft) → unknownBy n ds ≡ [] → Each (λ d. Each (λ s. s .step .by < n) (d .steps)) ds
-known-by n [] e = each-none (λ d. Each (λ s. s .step .by < n) (d .steps)) [] refl
-known-by n (d ∷ ds) e =
-    let r = none-both (unknownBy n ds) (unknownIn n (d .steps)) e in
-    each-more (λ x. Each (λ s. s .step .by < n) (x .steps)) (known-in n (d .steps) (r .1)) (known-by n ds (r .0))
+known-in : (n : ℕ) (ns : List Name) → unknownIn n ns ≡ [] → Each (λ j. j < n) (typesOf ns)
+known-in n [] e = each-none (λ j. j < n) [] refl
+known-in n (x ∷ ns) e =
+    let r = none-both (unknownIn n ns) _ e in
+    each-more (λ j. j < n) (ltb-true (x .type) n (known-one (ltb (x .type) n) (x .place) (r .1))) (known-in n ns (r .0))
 
 -- the schema has the steps that were counted
 steps-append : (bs cs : List Block) → stepsIn (bs ++ cs) ≡ stepsIn bs + stepsIn cs
@@ -181,29 +353,31 @@ steps-append (b ∷ bs) cs = omega (arith, steps-append bs cs)
 steps-counted : (ds : List Draft) → stepsIn (map blockBy (reverse ds)) ≡ stepCount ds
 steps-counted [] = refl
 steps-counted (d ∷ ds) =
-    let own : length (blockBy d .steps) ≡ length (d .steps) = simp (length-map, length-reverse) in
+    let own : length (blockBy d .steps) ≡ length (d .steps) = length-reverse (d .steps) in
     subst (λ (r : List Draft). stepsIn (map blockBy r) ≡ stepCount (d ∷ ds)) (sym (reverse-cons d ds))
     (simp (map-append, steps-append) (omega (arith, steps-counted ds)))
 
 -- the schema's block of a draft, each step's type known
-block-within : (S : Schema) (d : Draft) → DraftWithin (S .tags) d → Each (λ s. s .step .by < length (S .blocks)) (d .steps)
+block-within : (S : Schema) (d : Draft) → DraftWithin (S .tags) d → HasStates d → Each (λ s. s .by < length (S .blocks)) (d .steps)
     → BlockWithin S (blockBy d)
-block-within S d h known =
+block-within S d h some known =
     record {
       tag = h .tag;
-      states-least = h .states-least;
+      states-least = some;
       states-most = h .states-most;
       accepting = λ q m. h .accepting q (mem-members q (d .accepting) (h .below) .0 m);
-      steps = each-turned (StepWithin (d .states) (length (S .blocks))) (λ s. s .step) (d .steps)
-          (λ s m. record { from = h .steps s m .0; by = known s m; to = h .steps s m .1 });
+      steps = λ s m.
+          let n = mem-reverse (d .steps) m in
+          record { from = h .steps s n .0; by = known s n; to = h .steps s n .1 };
     }
 
--- The schema that a file states, each STEP's type given, is inside the limits.
+-- The schema that a file states, each type that is named given, is inside the limits.
 pub stated-within : (file : List ℕ) (g : Stated) → commands file ≡ states g → unknown g ≡ [] → WithinLimits (schemaBy g)
 unfolding schemaBy
 stated-within file g e none =
     let r = within-at-end file e in
     let h = r .holds .counts in
+    let end = r .phase in
     let n : length (map blockBy (reverse (g .blocks))) ≡ length (g .blocks) = simp (length-map, length-reverse) in
     record {
       tags-least = h .tags-least (omega arith);
@@ -213,5 +387,6 @@ stated-within file g e none =
       steps-most = rw (steps-counted (g .blocks)) (h .steps-most);
       root = omega (arith, h .root (omega arith));
       blocks = each-turned (BlockWithin (schemaBy g)) blockBy (g .blocks)
-          (λ d m. block-within (schemaBy g) d (r .holds .blocks d m) (rw n (known-by (length (g .blocks)) (g .blocks) none d m)));
+          (λ d m. block-within (schemaBy g) d (r .holds .blocks d m) (r .holds .whole (omega arith) d m)
+          (λ s k. rw n (known-in (length (g .blocks)) (g .names) none (s .by) (r .holds .named d m s k))));
     }

@@ -10,7 +10,7 @@ use Rattle.sdtd.specs.Schema.{Step, step}
 use Rattle.sdtd.specs.Limits.{mostTypes, mostSteps}
 use Rattle.schema.specs.States.{insert, noStates}
 use Rattle.schema.specs.Value.{stepAt}
-use Rattle.commands.specs.File.{sameStep, hasStep, Placed, Draft, current, stepCount, withFinal, withStep}
+use Rattle.commands.specs.File.{sameStep, hasStep, Draft, current, stepCount, withFinal, withStep}
 use Rattle.commands.specs.Value.{EmptyFrom}
 use Rattle.commands.specs.Progress.{lastType, givenIn}
 use Rattle.commands.proofs.SchemaTables.{SchemaTables}
@@ -86,12 +86,12 @@ pub final-steps : (q : ℕ) (bs : List Draft) → stepCount bs ≡ stepCount (wi
 final-steps q [] = refl
 final-steps q (d ∷ ds) = refl
 
-pub step-count : (x : Placed) (bs : List Draft) → length bs ≡ length (withStep x bs)
+pub step-count : (x : Step) (bs : List Draft) → length bs ≡ length (withStep x bs)
 step-count x [] = refl
 step-count x (d ∷ ds) = refl
 
 -- one step more is one more in the count
-pub step-steps : (x : Placed) (bs : List Draft) → 0 < length bs → stepCount (withStep x bs) ≡ stepCount bs + 1
+pub step-steps : (x : Step) (bs : List Draft) → 0 < length bs → stepCount (withStep x bs) ≡ stepCount bs + 1
 step-steps x [] l = absurd (omega arith)
 step-steps x (d ∷ ds) l = omega arith
 
@@ -113,7 +113,7 @@ module _ (from by to : List ℕ) (p j q : ℕ) where
       ∙ or-assoc b a c)
 
 -- the steps of a block are those at its places
-pub given-holds : (t : SchemaTables) (p j q : ℕ) (xs : List Placed) (s : ℕ) → StepsHold t xs s
+pub given-holds : (t : SchemaTables) (p j q : ℕ) (xs : List Step) (s : ℕ) → StepsHold t xs s
     → givenIn (t .from) (t .by) (t .to) p j q s (length xs) ≡ hasStep p j q xs
 unfolding givenIn
 given-holds t p j q [] s h = refl
@@ -122,15 +122,15 @@ given-holds t p j q (x ∷ xs) s h =
     ∙ (λ i. sameStep p j q (h .0 i) || given-holds t p j q xs s (h .1) i)
 
 -- the tables agree on the types below a and on the steps below n
-record Below (t u : SchemaTables) (a n : ℕ) : Type 0 where
-  tag : (b : ℕ) → b < a → getD (u .tag) b 0 ≡ getD (t .tag) b 0
-  states : (b : ℕ) → b < a → getD (u .states) b 0 ≡ getD (t .states) b 0
-  accepting : (b : ℕ) → b < a → getD (u .accepting) b 0 ≡ getD (t .accepting) b 0
-  counts : (b : ℕ) → b < a → getD (u .counts) b 0 ≡ getD (t .counts) b 0
-  step : (k : ℕ) → k < n → stepAt (u .from) (u .by) (u .to) k ≡ stepAt (t .from) (t .by) (t .to) k
+pub record Below (t u : SchemaTables) (a n : ℕ) : Type 0 where
+  pub tag : (b : ℕ) → b < a → getD (u .tag) b 0 ≡ getD (t .tag) b 0
+  pub states : (b : ℕ) → b < a → getD (u .states) b 0 ≡ getD (t .states) b 0
+  pub accepting : (b : ℕ) → b < a → getD (u .accepting) b 0 ≡ getD (t .accepting) b 0
+  pub counts : (b : ℕ) → b < a → getD (u .counts) b 0 ≡ getD (t .counts) b 0
+  pub step : (k : ℕ) → k < n → stepAt (u .from) (u .by) (u .to) k ≡ stepAt (t .from) (t .by) (t .to) k
 
 module _ {t u : SchemaTables} {a n : ℕ} (w : Below t u a n) where
-  steps-below : (xs : List Placed) (s : ℕ) → s + length xs ≤ n → StepsHold t xs s → StepsHold u xs s
+  pub steps-below : (xs : List Step) (s : ℕ) → s + length xs ≤ n → StepsHold t xs s → StepsHold u xs s
   steps-below [] s l h = tt
   steps-below (x ∷ xs) s l h = (w .step (s + length xs) (omega arith) ∙ h .0, steps-below xs s (omega arith) (h .1))
 
@@ -144,16 +144,16 @@ module _ {t u : SchemaTables} {a n : ℕ} (w : Below t u a n) where
         steps = steps-below (d .steps) s m (h .steps);
       }
 
-  blocks-below : (bs : List Draft) → length bs ≤ a → stepCount bs ≤ n → BlocksHold t bs → BlocksHold u bs
+  pub blocks-below : (bs : List Draft) → length bs ≤ a → stepCount bs ≤ n → BlocksHold t bs → BlocksHold u bs
   blocks-below [] l m h = tt
   blocks-below (d ∷ ds) l m h = (draft-below d l m (h .0), blocks-below ds (omega arith) (omega arith) (h .1))
 
 -- what is set at the place a leaves the places below it
-set-below : (l : List ℕ) (a v b : ℕ) → b < a → getD (set l a v) b 0 ≡ getD l b 0
+pub set-below : (l : List ℕ) (a v b : ℕ) → b < a → getD (set l a v) b 0 ≡ getD l b 0
 set-below l a v b h = getD-set-other l a b v 0 (omega arith)
 
 -- what is set below the place m leaves the table empty from there on
-set-empty : {n : ℕ} (l : List ℕ) (a v m : ℕ) → n ≤ m → a < m → EmptyFrom n l → EmptyFrom m (set l a v)
+pub set-empty : {n : ℕ} (l : List ℕ) (a v m : ℕ) → n ≤ m → a < m → EmptyFrom n l → EmptyFrom m (set l a v)
 set-empty {n} l a v m h b e i k = getD-set-other l a i v 0 (omega arith) ∙ e i (omega arith)
 
 module _ {t : SchemaTables} {a n : ℕ} (e : EmptyPast t a n) where
@@ -309,10 +309,10 @@ module _ (t : SchemaTables) (k : Sized t) where
       )
 
   -- one step more
-  pub step-blocks : (bs : List Draft) (a n p j q i : ℕ) → suc a ≡ length bs → a < mostTypes → n ≡ stepCount bs → n < mostSteps → BlocksHold t bs
-      → BlocksHold (withOneStep t a n p j q) (withStep (record { step = step p j q; place = i }) bs)
-  step-blocks [] a n p j q i e l f m h = absurd (omega arith)
-  step-blocks (d ∷ ds) a n p j q i e l f m h =
+  pub step-blocks : (bs : List Draft) (a n p j q : ℕ) → suc a ≡ length bs → a < mostTypes → n ≡ stepCount bs → n < mostSteps → BlocksHold t bs
+      → BlocksHold (withOneStep t a n p j q) (withStep (step p j q) bs)
+  step-blocks [] a n p j q e l f m h = absurd (omega arith)
+  step-blocks (d ∷ ds) a n p j q e l f m h =
       let c : length ds ≡ a = omega arith in
       let x : DraftHolds t d a (stepCount ds) = rw c at (h .0) in
       let b : Below t (withOneStep t a n p j q) a n = step-below a n p j q in

@@ -1,4 +1,4 @@
--- What the commands of a file get by questions 2 to 7, and the schema value beside it.
+-- What the commands of a file get by questions 2 to 7 and 21 to 23, and the schema value beside it.
 use mathlib.Core.Path.{_≡_}
 use mathlib.Core.List.{[], _∷_}
 use Prim.Native.Nat.{ℕ}
@@ -11,7 +11,7 @@ use Rattle.commands.specs.declared.commands.StatedSchema.{StatedSchema}
 abbrev pub stoppedAt : ℕ → ℕ → StatedSchema
 stoppedAt n p = record { verdict = verdictIn (refused-at n p); schema = noSchema }
 
--- What the call on the commands answers: the first refusal by questions 2 to 6, then 7, or the value of the schema stated.
+-- What the call on the commands answers: the first refusal by questions 2 to 6 and 21 to 23, then 7, or the value of the schema stated.
 abbrev pub CommandsBy : Commands → StatedSchema → Type 0
 CommandsBy (stopped n p) r = r ≡ stoppedAt n p
 CommandsBy (states g) r =

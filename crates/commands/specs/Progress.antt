@@ -1,8 +1,8 @@
 -- What the private steps over the commands compute: the progress and the tables after each command, and what is read from them.
 use mathlib.Core.Bool.{Bool, false, cond, _&&_, _||_}
-use mathlib.Core.List.{List}
+use mathlib.Core.List.{List, [], _∷_}
 use Prim.Native.Nat.{ℕ, zero, suc, _+_, _-_, _%_, min, max}
-use lib.Dec.{leb}
+use lib.Dec.{eqb, leb}
 use lib.ListN.{getD, set}
 use Rattle.sdtd.specs.Limits.{mostTypes, mostSteps}
 use Rattle.sdtd.specs.Numbered.{typeNo}
@@ -12,9 +12,11 @@ use Rattle.schema.specs.declared.state_set.StateSet.{StateSet}
 use Rattle.schema.specs.declared.value.Schema.{Schema}
 use Rattle.command.specs.Cases.{onType, onFinal, onStep}
 use Rattle.command.specs.declared.Command.{Command}
-use Rattle.command.specs.declared.Command.the-variants.{Tags, TypeBlock, Final, Step, Root, Done, NoCommand}
+use Rattle.command.specs.declared.Command.the-variants.{Tags, TypeBlock, Final, Step, Root, Done, Expression, NoCommand}
+use Rattle.expression.specs.Content.{Name}
+use Rattle.commands.specs.Questions.{failed}
 use Rattle.commands.specs.File.{sameStep}
-use Rattle.commands.specs.declared.progress.Phase.the-variants.{BeforeTags, BeforeTypes, InBlock, AfterRoot, AfterDone}
+use Rattle.commands.specs.declared.progress.Phase.the-variants.{BeforeTags, BeforeTypes, InBlock, InExpression, AfterExpression, AfterRoot, AfterDone}
 use Rattle.commands.specs.declared.progress.Progress.{Progress}
 use Rattle.commands.specs.declared.questions.Seen.{Seen}
 
@@ -25,13 +27,24 @@ nothingRead = record { phase = BeforeTags; tags = 0; types = 0; root = typeNo 0;
 unfoldable pub progressAfter : Progress → Command → Progress
 progressAfter s (Tags n) = record { phase = BeforeTypes; tags = n; types = s .types; root = s .root; steps = s .steps }
 progressAfter s (TypeBlock g k) =
-    record { phase = InBlock; tags = s .tags; types = s .types % mostTypes + 1; root = s .root; steps = s .steps }
+    record {
+      phase = cond (eqb k 0) InExpression InBlock;
+      tags = s .tags;
+      types = s .types % mostTypes + 1;
+      root = s .root;
+      steps = s .steps;
+    }
 progressAfter s (Final q) = s
 progressAfter s (Step p j q) =
     record { phase = s .phase; tags = s .tags; types = s .types; root = s .root; steps = s .steps % mostSteps + 1 }
 progressAfter s (Root a) = record { phase = AfterRoot; tags = s .tags; types = s .types; root = a; steps = s .steps }
 progressAfter s Done = record { phase = AfterDone; tags = s .tags; types = s .types; root = s .root; steps = s .steps }
+progressAfter s (Expression x) = s
 progressAfter s NoCommand = s
+
+-- the progress after an expression, with so many steps
+abbrev pub progressWith : Progress → ℕ → Progress
+progressWith s n = record { phase = AfterExpression; tags = s .tags; types = s .types; root = s .root; steps = n }
 
 -- what is seen of the file: by the progress, and the state count and the accepting states of the block that the file is in, and whether that
 -- block has the STEP already
@@ -64,6 +77,12 @@ givenLast from by to count n p j q = cond (leb n count && leb count mostSteps) (
 abbrev pub givenAlready : List ℕ → List ℕ → List ℕ → ℕ → ℕ → Command → Bool
 givenAlready from by to count n c = onStep (givenLast from by to count n) false c
 
+-- the number of the first question that the command fails, by the progress and the tables
+abbrev pub failedIn : Progress → List ℕ → List ℕ → List ℕ → List ℕ → List ℕ → List ℕ → Command → ℕ
+failedIn s states accepting counts from by to c =
+    let a = lastType (s .types) in
+    failed (seenBy s (getD states a 0) (record { 0 = getD accepting a 0 }) (givenAlready from by to (s .steps) (getD counts a 0) c)) c
+
 -- each table after a command that passed its questions: with so many types, or steps, before it; `i` is its place
 abbrev pub tagAfter : ℕ → List ℕ → Command → List ℕ
 tagAfter types l c = onType (λ g k. set l (types % mostTypes) g) l c
@@ -86,13 +105,22 @@ byAfter steps l c = onStep (λ p j q. set l (steps % mostSteps) j) l c
 abbrev pub toAfter : ℕ → List ℕ → Command → List ℕ
 toAfter steps l c = onStep (λ p j q. set l (steps % mostSteps) q) l c
 
--- of each type the least place of the STEPs that name it
+-- of each type the least place of the STEPs and 32s that name it
 abbrev pub placesAfter : ℕ → List ℕ → Command → List ℕ
 placesAfter i l c = onStep (λ p j q. set l (j % mostTypes) (min (getD l (j % mostTypes) 0) i)) l c
 
--- the bound above each type that a STEP names
+-- the bound above each type that a STEP or 32 names
 abbrev pub boundAfter : ℕ → Command → ℕ
 boundAfter bound c = onStep (λ p j q. max bound (j % mostTypes + 1)) bound c
+
+-- the places and the bound after the names of an expression
+unfoldable pub placesWith : List Name → List ℕ → List ℕ
+placesWith [] l = l
+placesWith (x ∷ xs) l = placesWith xs (set l (x .type % mostTypes) (min (getD l (x .type % mostTypes) 0) (x .place)))
+
+unfoldable pub boundWith : List Name → ℕ → ℕ
+boundWith [] bound = bound
+boundWith (x ∷ xs) bound = boundWith xs (max bound (x .type % mostTypes + 1))
 
 -- the least of `none` and the places of the n types from k on
 unfoldable pub leastFrom : List ℕ → ℕ → ℕ → ℕ → ℕ

@@ -1,8 +1,14 @@
 // The commands of a file, one after another, and the schema that they state.
+use crate::laying::add_names;
+use crate::laying::complete_type;
+use crate::laying::fits;
+use crate::laying::lay_steps;
 use crate::progress::Progress;
 use crate::progress::is_done;
+use crate::progress::is_in_expression;
 use crate::progress::nothing_read;
 use crate::progress::progress_after;
+use crate::progress::progress_with;
 use crate::questions::failed_by;
 use crate::questions::seen_of;
 use crate::tables::add_final;
@@ -13,8 +19,10 @@ use crate::tables::bound_after;
 use crate::tables::earlier;
 use crate::tables::given_already;
 use crate::tables::last_type;
+use command::Command;
 use command::command_at;
 use command::size_of;
+use expression::read_content;
 use schema::STEPS;
 use schema::Schema;
 use schema::StateSet;
@@ -27,7 +35,7 @@ ghost use Rattle.sdtd.specs.Limits.{mostTypes};
 ghost use Rattle.commands.specs.File.{commands};
 ghost use Rattle.commands.specs.Value.{noSchema};
 ghost use Rattle.commands.specs.Answer.{stoppedAt, CommandsBy};
-ghost use Rattle.commands.specs.Progress.{leastFrom, valueOf};
+ghost use Rattle.commands.specs.Progress.{failedIn, leastFrom, valueOf};
 
 // The verdict, and beside it the schema stated; beside a refusal, the value of no schema.
 pub struct StatedSchema {
@@ -105,9 +113,29 @@ fn stopped(number: u8, place: usize) -> StatedSchema
     }
 }
 
-// Questions 2 to 7 of a file: each command in order, up to DONE and the end of the file; then the steps' types.
-// `places` holds for each type the place of the first STEP that names it, or `none`, the file's length; `bound` lies above
-// each type that a STEP names.
+// The number of the first question that the command, outside an expression, fails, 2 to 6, or 0.
+fn failed_in<'a>(
+    command: Command,
+    progress: Progress,
+    states: &'a [u8; TYPES],
+    accepting: &'a [u32; TYPES],
+    counts: &'a [u16; TYPES],
+    from: &'a [u8; STEPS],
+    by: &'a [u8; STEPS],
+    to: &'a [u8; STEPS],
+) -> u8
+    ensures { λ r. ⌜ r ≡ failedIn progress (now (states .entry)) (now (accepting .entry)) (now (counts .entry))
+        (now (from .entry)) (now (by .entry)) (now (to .entry)) command ⌝ }
+{
+    let last = last_type(progress.types);
+    let given = given_already(from, by, to, progress.steps, counts[last], command);
+    let seen = seen_of(progress, states[last], StateSet(accepting[last]), given);
+    failed_by(seen, command)
+}
+
+// Questions 2 to 7 and 21 to 23 of a file: each command in order, up to DONE and the end of the file; then the types that are named.
+// `places` holds for each type the place of the first STEP or 32 that names it, or `none`, the file's length; `bound` lies above
+// each type that is named.
 pub fn read_commands(file: &[u8]) -> StatedSchema
     ensures { λ r. ⌜ CommandsBy (commands (now (file .entry))) r ⌝ }
 {
@@ -124,21 +152,34 @@ pub fn read_commands(file: &[u8]) -> StatedSchema
     let mut progress = nothing_read();
     let mut at = 0;
     while !is_done(progress) {
-        let command = command_at(file, at);
-        let last = last_type(progress.types);
-        let given = given_already(&from, &by, &to, progress.steps, counts[last], command);
-        let seen = seen_of(progress, states[last], StateSet(accepting[last]), given);
-        let number = failed_by(seen, command);
+        if is_in_expression(progress) {
+            let read = read_content(file, at);
+            let total = lay_steps(read, progress.steps, &mut from, &mut by, &mut to);
+            let verdict = read.verdict;
+            let fit = fits(verdict, read.end, total);
+            if let Verdict::RefusedAt(n, p) = fit {
+                return stopped(n, p);
+            }
+            let count = total - progress.steps;
+            let types = progress.types;
+            complete_type(read, types, count, &mut states, &mut accepting, &mut counts);
+            bound = add_names(read, &mut places, bound);
+            progress = progress_with(progress, total);
+            at = read.end + 1;
+            continue;
+        }
+        let c = command_at(file, at);
+        let number = failed_in(c, progress, &states, &accepting, &counts, &from, &by, &to);
         if number != 0 {
             return stopped(number, at);
         }
-        add_type(command, progress.types, &mut tag, &mut states);
-        add_final(command, progress.types, &mut accepting);
-        add_step(command, progress.steps, &mut from, &mut by, &mut to);
-        add_place(command, progress.types, at, &mut counts, &mut places);
-        bound = bound_after(command, bound);
-        progress = progress_after(progress, command);
-        at += size_of(command);
+        add_type(c, progress.types, &mut tag, &mut states);
+        add_final(c, progress.types, &mut accepting);
+        add_step(c, progress.steps, &mut from, &mut by, &mut to);
+        add_place(c, progress.types, at, &mut counts, &mut places);
+        bound = bound_after(c, bound);
+        progress = progress_after(progress, c);
+        at += size_of(c);
     }
     if at < file.len() {
         return stopped(3, at);

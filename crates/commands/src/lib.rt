@@ -1,5 +1,6 @@
-// The commands of the schema file, questions 2 to 7, and the schema that they state.
+// The commands of the schema file, questions 2 to 7 and 21 to 23, and the schema that they state.
 mod commands;
+mod laying;
 mod progress;
 mod questions;
 mod tables;

@@ -4,18 +4,22 @@ use schema::STEPS;
 use schema::TYPES;
 use sdtd::TypeNo;
 ghost use mathlib.Core.Path.{_≡_};
+ghost use mathlib.Core.Bool.{cond};
+ghost use lib.Dec.{eqb};
 ghost use Rattle.commands.specs.Questions.{rank, samePhase};
-ghost use Rattle.commands.specs.Progress.{nothingRead, progressAfter};
-ghost use Rattle.commands.specs.declared.progress.Phase.the-variants.{AfterDone};
+ghost use Rattle.commands.specs.Progress.{nothingRead, progressAfter, progressWith};
+ghost use Rattle.commands.specs.declared.progress.Phase.the-variants.{InBlock, InExpression, AfterDone};
 
 // the most types, as a byte
 pub(crate) const TYPE_NUMBERS: u8 = TYPES as u8;
 
-// Where the file stands: before TAGS, before the first TYPE, in a block, after ROOT, after DONE.
+// Where the file stands: before TAGS, before the first TYPE, in a block by states, in an expression, after its 3F, after ROOT, after DONE.
 pub(crate) enum Phase {
     BeforeTags,
     BeforeTypes,
     InBlock,
+    InExpression,
+    AfterExpression,
     AfterRoot,
     AfterDone,
 }
@@ -28,8 +32,10 @@ fn rank_of(phase: Phase) -> u8
         Phase::BeforeTags => 0,
         Phase::BeforeTypes => 1,
         Phase::InBlock => 2,
-        Phase::AfterRoot => 3,
-        Phase::AfterDone => 4,
+        Phase::InExpression => 3,
+        Phase::AfterExpression => 4,
+        Phase::AfterRoot => 5,
+        Phase::AfterDone => 6,
     }
 }
 
@@ -70,6 +76,38 @@ pub(crate) fn is_done(progress: Progress) -> bool
     same_phase(phase, Phase::AfterDone)
 }
 
+// Is an expression next?
+pub(crate) fn is_in_expression(progress: Progress) -> bool
+    ensures { λ r. ⌜ r ≡ samePhase (progress .phase) InExpression ⌝ }
+{
+    let phase = progress.phase;
+    same_phase(phase, Phase::InExpression)
+}
+
+// The phase after a TYPE: with state count 0 an expression follows.
+fn phase_of_type(states: u8) -> Phase
+    ensures { λ r. ⌜ r ≡ cond (eqb states 0) InExpression InBlock ⌝ }
+{
+    if states == 0 {
+        return Phase::InExpression;
+    }
+    Phase::InBlock
+}
+
+// The progress after an expression, with so many steps.
+pub(crate) fn progress_with(progress: Progress, steps: usize) -> Progress
+    ensures { λ r. ⌜ r ≡ progressWith progress steps ⌝ }
+{
+    let root = progress.root;
+    Progress {
+        phase: Phase::AfterExpression,
+        tags: progress.tags,
+        types: progress.types,
+        root,
+        steps,
+    }
+}
+
 // The progress after a command that passed its questions.
 pub(crate) fn progress_after(progress: Progress, command: Command) -> Progress
     ensures { λ r. ⌜ r ≡ progressAfter progress command ⌝ }
@@ -84,8 +122,8 @@ pub(crate) fn progress_after(progress: Progress, command: Command) -> Progress
             root,
             steps: progress.steps,
         },
-        Command::TypeBlock(_, _) => Progress {
-            phase: Phase::InBlock,
+        Command::TypeBlock(_, k) => Progress {
+            phase: phase_of_type(k),
             tags: progress.tags,
             types: progress.types % TYPE_NUMBERS + 1,
             root,

@@ -1,4 +1,4 @@
-// What each command is asked, questions 2 to 6.
+// What each command outside an expression is asked, questions 2 to 6.
 use crate::progress::Phase;
 use crate::progress::Progress;
 use crate::progress::TYPE_NUMBERS;
@@ -41,7 +41,7 @@ pub(crate) fn seen_of(progress: Progress, states: u8, accepting: StateSet, given
     }
 }
 
-// Is it one of the six?
+// Is it a command?
 fn is_command(command: Command) -> bool
     ensures { λ r. ⌜ r ≡ isCommand command ⌝ }
 {
@@ -52,6 +52,7 @@ fn is_command(command: Command) -> bool
         Command::Step(_, _, _) => true,
         Command::Root(_) => true,
         Command::Done => true,
+        Command::Expression(_) => true,
         Command::NoCommand => false,
     }
 }
@@ -64,12 +65,16 @@ fn in_order(seen: Seen, command: Command) -> bool
     match command {
         Command::Tags(_) => same_phase(phase, Phase::BeforeTags),
         Command::TypeBlock(_, _) => {
-            same_phase(phase, Phase::BeforeTypes) | same_phase(phase, Phase::InBlock)
+            same_phase(phase, Phase::BeforeTypes)
+                | (same_phase(phase, Phase::InBlock) | same_phase(phase, Phase::AfterExpression))
         }
         Command::Final(_) => same_phase(phase, Phase::InBlock),
         Command::Step(_, _, _) => same_phase(phase, Phase::InBlock),
-        Command::Root(_) => same_phase(phase, Phase::InBlock),
+        Command::Root(_) => {
+            same_phase(phase, Phase::InBlock) | same_phase(phase, Phase::AfterExpression)
+        }
         Command::Done => same_phase(phase, Phase::AfterRoot),
+        Command::Expression(_) => false,
         Command::NoCommand => false,
     }
 }
@@ -80,11 +85,12 @@ fn in_range(seen: Seen, command: Command) -> bool
 {
     match command {
         Command::Tags(n) => (1 <= n) & (n <= TAGS),
-        Command::TypeBlock(g, k) => (g.0 < seen.tags) & ((1 <= k) & (k <= STATES)),
+        Command::TypeBlock(g, k) => (g.0 < seen.tags) & (k <= STATES),
         Command::Final(q) => q < seen.states,
         Command::Step(p, j, q) => { (p < seen.states) & ((j.0 < TYPE_NUMBERS) & (q < seen.states)) }
         Command::Root(a) => a.0 < seen.types,
         Command::Done => true,
+        Command::Expression(_) => true,
         Command::NoCommand => true,
     }
 }
@@ -100,6 +106,7 @@ fn within_counts(seen: Seen, command: Command) -> bool
         Command::Step(_, _, _) => seen.steps < STEPS,
         Command::Root(_) => true,
         Command::Done => true,
+        Command::Expression(_) => true,
         Command::NoCommand => true,
     }
 }
@@ -116,6 +123,7 @@ fn not_given(seen: Seen, command: Command) -> bool
         Command::Step(_, _, _) => !seen.given,
         Command::Root(_) => true,
         Command::Done => true,
+        Command::Expression(_) => true,
         Command::NoCommand => true,
     }
 }

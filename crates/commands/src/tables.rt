@@ -6,7 +6,7 @@ use schema::StateSet;
 use schema::TYPES;
 use sdtd::TypeNo;
 ghost use mathlib.Core.Path.{_≡_};
-ghost use Prim.Native.Nat.{_+_, _≤_, min};
+ghost use Prim.Native.Nat.{_+_, _≤_, min, max};
 ghost use Rattle.sdtd.specs.Limits.{mostSteps};
 ghost use Rattle.commands.specs.File.{sameStep};
 ghost use Rattle.commands.specs.Progress.{lastType, givenIn, givenLast, givenAlready};
@@ -164,7 +164,17 @@ pub(crate) fn earlier(place: usize, other: usize) -> usize
     other
 }
 
-// One step more of the last type; and the place of the first STEP that names the type that this one names.
+// The larger of two numbers.
+pub(crate) fn larger(bound: usize, other: usize) -> usize
+    ensures { λ r. ⌜ r ≡ max bound other ⌝ }
+{
+    if bound < other {
+        return other;
+    }
+    bound
+}
+
+// One step more of the last type; and the place of the first STEP or 32 that names the type that this one names.
 pub(crate) fn add_place<'a>(
     command: Command,
     types: u8,
@@ -187,17 +197,14 @@ pub(crate) fn add_place<'a>(
     }
 }
 
-// The least number that is above each type that a STEP names.
+// The least number that is above each type named so far, by this command too if it is a STEP.
 pub(crate) fn bound_after(command: Command, bound: usize) -> usize
     ensures { λ r. ⌜ r ≡ boundAfter bound command ⌝ }
 {
     match command {
         Command::Step(_, j, _) => {
             let above = (j.0 % TYPE_NUMBERS) as usize + 1;
-            if above < bound {
-                return bound;
-            }
-            above
+            larger(bound, above)
         }
         _ => bound,
     }

@@ -77,6 +77,9 @@ kept (suc s) (suc t) x e d =
     digit-next t (x + 2 ^ suc s) ∙ ap (digit t) (half-plus s x)
     ∙ kept s t (x / 2) (sym (digit-next s x) ∙ e) (λ p. d (ap suc p)) ∙ sym (digit-next t x)
 
+pub member-kept : (s t x : ℕ) → member s x ≡ false → t ≢ s → member t (x + 2 ^ s) ≡ member t x
+member-kept s t x e d = ap (λ (n : ℕ). eqb n 1) (kept s t x (let n = eqb-false (digit s x) 1 e in omega arith) d)
+
 fits : (k s x : ℕ) → x < 2 ^ k → s < k → digit s x ≡ 0 → x + 2 ^ s < 2 ^ k
 fits zero s x b l e = absurd (not-suc-le-zero l)
 fits (suc k) zero x b l e = omega (arith, pow-suc 2 k, digit-first x)

@@ -12,7 +12,8 @@ use lib.ListN.{length, getD, set, length-set, length-append}
 use lib.Seq.{getD-set-same, getD-set-other}
 use Rattle.sdtd.specs.Schema.{Step}
 use Rattle.schema.specs.Rows.{fromIn}
-use Rattle.schema.specs.RowMaking.{putAll, countsBy, entryBy, countedStep, counted, picked}
+use Rattle.schema.specs.Putting.{putAll}
+use Rattle.schema.specs.RowMaking.{countsBy, entryBy, countedStep, counted, picked}
 
 pub put-long : (xs : List ℕ) (at : ℕ) (t : List ℕ) → length (putAll xs at t) ≡ length t
 unfolding putAll

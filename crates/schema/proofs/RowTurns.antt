@@ -12,7 +12,8 @@ use lib.ListN.{length, getD, set, take, length-set}
 use lib.Seq.{getD-set-same, length-take-le}
 use Rattle.sdtd.specs.Limits.{mostStates, mostSteps}
 use Rattle.schema.specs.Rows.{mostRows}
-use Rattle.schema.specs.RowMaking.{RowTables, putAll, picked, rowTables, addRow, rowBy, addRows, endsAt}
+use Rattle.schema.specs.Putting.{putAll}
+use Rattle.schema.specs.RowMaking.{RowTables, picked, rowTables, addRow, rowBy, addRows, endsAt}
 use Rattle.schema.proofs.PuttingLaws.{fromOn, from-split, from-most}
 
 -- a row with no entry ends where it begins

@@ -18,7 +18,8 @@ use Rattle.schema.specs.States.{member, bearsIn}
 use Rattle.schema.specs.Value.{offset, blockAt, meaning}
 use Rattle.schema.specs.Trimming.{LiveExactly, BearsExactly}
 use Rattle.schema.specs.Rows.{Counts, entry, fromIn, entryOf, rowPlace, InRow, EntryFor, RowsMean}
-use Rattle.schema.specs.RowMaking.{putAll, countsBy, entryBy, counted, picked, RowTables, rowBy, addRows}
+use Rattle.schema.specs.Putting.{putAll}
+use Rattle.schema.specs.RowMaking.{countsBy, entryBy, counted, picked, RowTables, rowBy, addRows}
 use Rattle.schema.specs.declared.value.Schema.{Schema}
 use Rattle.schema.proofs.Values.{steps-count, types-count, tag-of, block-of}
 use Rattle.schema.proofs.LimitLaws.{own-within}

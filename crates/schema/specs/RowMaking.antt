@@ -6,13 +6,9 @@ use lib.Dec.{eqb, ltb}
 use lib.ListN.{length, getD, set, take, replicate}
 use Rattle.sdtd.specs.Limits.{mostTypes, mostSteps}
 use Rattle.sdtd.specs.Schema.{Step}
+use Rattle.schema.specs.Putting.{putAll}
 use Rattle.schema.specs.States.{member, bearsIn}
 use Rattle.schema.specs.Rows.{entry, fromIn, mostRows}
-
--- numbers put into a table from the place `at` on
-unfoldable pub putAll : List ℕ → ℕ → List ℕ → List ℕ
-putAll [] at t = t
-putAll (x ∷ xs) at t = putAll xs (suc at) (set t at x)
 
 -- a step counts, by a table that tells which types bear a tree and by the live states of the type that has it
 unfoldable pub countsBy : List ℕ → ℕ → Step → Bool

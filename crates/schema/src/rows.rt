@@ -19,7 +19,8 @@ ghost use Rattle.sdtd.specs.Schema.{WithinLimits};
 ghost use Rattle.schema.specs.Value.{stepsOf, meaning};
 ghost use Rattle.schema.specs.Trimming.{LiveExactly, BearsExactly};
 ghost use Rattle.schema.specs.Rows.{mostRows, RowsMean};
-ghost use Rattle.schema.specs.RowMaking.{putAll, countsBy, countedStep, picked, counted as countedBy, rowTables, noRows, addRow, addRows, endsAt};
+ghost use Rattle.schema.specs.Putting.{putAll};
+ghost use Rattle.schema.specs.RowMaking.{countsBy, countedStep, picked, counted as countedBy, rowTables, noRows, addRow, addRows, endsAt};
 
 // A row for each state of each type.
 pub const ROWS: usize = TYPES * STATES as usize;

@@ -1,6 +1,6 @@
 -- What each answer of the schema file's call means.
 use mathlib.Core.Path.{_≡_, refl, sym, ap, subst, _∙_}
-use mathlib.Core.Logic.{inl, inr, ⊎-elim}
+use mathlib.Core.Logic.{_≢_, inl, inr, ⊎-elim}
 use mathlib.Core.List.{List, []}
 use Prim.Native.Nat.{ℕ, _≤_, _<_}
 use native.Mathlib.Omega.{arith}
@@ -18,7 +18,7 @@ use Rattle.commands.specs.File.{Stated, Commands, stopped, states, commands, sc
 use Rattle.sdtd.specs.declared.Verdict.{Verdict}
 use Rattle.sdtd.specs.declared.Verdict.the-variants.{Fine, RefusedAt}
 use Rattle.commands.specs.declared.commands.StatedSchema.{StatedSchema}
-use Rattle.commands.proofs.Passing.{stopped-most}
+use Rattle.commands.proofs.Passing.{stopped-before}
 use Rattle.commands.proofs.StatedLimits.{stated-within}
 use Rattle.commands.specs.Value.{StatedValue, noSchema}
 use Rattle.commands.specs.Answer.{CommandsBy}
@@ -32,12 +32,12 @@ refusal n p = record { answer = RefusedAt n p; schema = noSchema }
 no-schema : (k : Commands) (n p : ℕ) → SchemaBy k noSchema (RefusedAt n p)
 no-schema k n p = (λ e. refused-not-fine refl e, λ d. refl)
 
-pub buffer-same : (k : Commands) (was : List ℕ) (n p : ℕ) → n < 9 → BufferBy k was was (RefusedAt n p)
-buffer-same k was n p l = (λ e. absurd (other-number refl (λ z. omega arith) e), λ d. refl)
+pub buffer-same : (k : Commands) (was : List ℕ) (n p : ℕ) → n ≢ 9 → BufferBy k was was (RefusedAt n p)
+buffer-same k was n p l = (λ e. absurd (other-number refl l e), λ d. refl)
 
 module _ (file was : List ℕ) where
-  -- a refusal before 9 leaves the buffer as it was
-  refused-means : (n p : ℕ) → n < 9 → AnswerIs file was (RefusedAt n p) → FileMeans file was was (refusal n p)
+  -- a refusal other than 9 leaves the buffer as it was
+  refused-means : (n p : ℕ) → n ≢ 9 → AnswerIs file was (RefusedAt n p) → FileMeans file was was (refusal n p)
   refused-means n p l a =
       record { answer = a; buffer = buffer-same (commands file) was n p l; schema = no-schema (commands file) n p }
 
@@ -47,7 +47,7 @@ module _ (file was : List ℕ) where
   module _ (long : leastWitness ≤ length was) where
     pub stopped-means : {n p : ℕ} → commands file ≡ stopped n p → FileMeans file was was (refusal n p)
     stopped-means {n} {p} e =
-        refused-means n p (omega (arith, stopped-most file e)) (inr (long, subst (λ (k : Commands). AnswerBy k (RefusedAt n p)) (sym e) refl))
+        refused-means n p (λ z. stopped-before file e (omega arith) (omega arith)) (inr (long, subst (λ (k : Commands). AnswerBy k (RefusedAt n p)) (sym e) refl))
 
     module _ {g : Stated} (e : commands file ≡ states g) where
       answered : {a : Verdict} → AnswerBy (states g) a → AnswerIs file was a
@@ -86,7 +86,7 @@ as-refusal {file} {was} {is} e m = subst (FileMeans file was is) (λ i. record {
 abbrev verdictOf : StatedSchema → Verdict
 verdictOf r = r .verdict
 
--- The refusal of questions 2 to 7 is the file's.
+-- The refusal of questions 2 to 7 or 21 to 23 is the file's.
 module _ (file was : List ℕ) (long : leastWitness ≤ length was) (r : StatedSchema) {n p : ℕ} (o : r .verdict ≡ RefusedAt n p) where
   same-refusal : {m q : ℕ} → r .verdict ≡ RefusedAt m q → FileMeans file was was (refusal m q) → FileMeans file was was (refusal n p)
   same-refusal {m} {q} e f =
@@ -102,7 +102,7 @@ module _ (file was : List ℕ) (long : leastWitness ≤ length was) (r : StatedS
   pub commands-refused : CommandsBy (commands file) r → FileMeans file was was (refusal n p)
   commands-refused b = by-commands (commands file) refl b
 
--- Questions 2 to 7 are passed: what the commands state, and its value.
+-- Questions 2 to 7 and 21 to 23 are passed: what the commands state, and its value.
 pub record Passed (file : List ℕ) (v : Schema) : Type 0 where
   pub stated : Stated
   pub commands-state : commands file ≡ states stated

@@ -14,7 +14,7 @@ use Rattle.sdtd.proofs.Answers.{ordered-unique}
 use Rattle.sdtd.proofs.Ambiguity.{competition-is-ambiguity}
 use Rattle.sdtd.proofs.Trimming.{root-bears}
 use Rattle.sdtd.proofs.Verdicts.{refused-not-fine}
-use Rattle.commands.specs.File.{Stated, Commands, stopped, states, commands, schemaBy, unknown, StatesSchema, mostBytes}
+use Rattle.commands.specs.File.{Stated, Commands, stopped, states, commands, schemaBy, unknown, StatesSchema, OnlyOld, mostBytes}
 use Rattle.schema.specs.Value.{meaning}
 use Rattle.schema.specs.declared.value.Schema.{Schema}
 use Rattle.schema_file.specs.Answer.{afterDone, AnswerBy, AnswerIs, BufferBy, SchemaBy, FileMeans, Demand3File}
@@ -59,7 +59,7 @@ demanded (inr o) found =
       either = inr (o .1);
     }
 
--- the same of a file that passes questions 1 to 7
+-- the same of a file that passes questions 1 to 7 and 21 to 23
 demanded-of : (file was is : List ℕ) {g : Stated} {a : Verdict} → commands file ≡ states g → unknown g ≡ []
     → leastWitness ≤ length was → SomeValid (schemaBy g) → AnswerIs file was a → BufferBy (commands file) was is a
     → Demand3File (schemaBy g) a
@@ -76,12 +76,12 @@ file-ambiguous {file} {was} {is} {r} m x l some =
     subst (λ (R : Meaning). Demand3File R (r .answer)) (x .schema)
     (demanded-of file was is (x .passes) (x .known) l (subst SomeValid (sym (x .schema)) some) (m .answer) (m .buffer))
 
--- an accepted file: it states the schema of the value, which is inside the limits and passes questions 8 and 9, and it is no longer than
--- 8,389 bytes
+-- an accepted file: it states the schema of the value, which is inside the limits and passes questions 8 and 9, and if it has only
+-- old commands it is no longer than 8,389 bytes
 pub record AcceptedFile (file : List ℕ) (v : Schema) : Type 0 where
   pub states : StatesSchema file (meaning v)
   pub schema : IsAccepted (meaning v)
-  pub short : length file ≤ mostBytes
+  pub short : OnlyOld file → length file ≤ mostBytes
 
 accepted-by : (file : List ℕ) (k : Commands) {v : Schema} {a : Verdict} → commands file ≡ k → AnswerBy k a → SchemaBy k v a → a ≡ Fine
     → AcceptedFile file v
@@ -95,10 +95,10 @@ accepted-by file (states g) e (inr (k, inr (b, inr (n, o)))) s q =
     record {
       states = record { stated = g; passes = e; known = k; schema = same };
       schema = subst IsAccepted same (record { within = stated-within file g e k; bears = b; no-competition = n });
-      short = longest file g e;
+      short = λ old. longest file old g e;
     }
 
--- The schema beside an accepting answer is inside question 10's limits and accepted; the file is no longer than 8,389 bytes.
+-- The schema beside an accepting answer is inside question 10's limits and accepted; a file of old commands is no longer than 8,389 bytes.
 pub accepted-file : {file was is : List ℕ} {r : SchemaFile} → FileMeans file was is r → r .answer ≡ Fine → AcceptedFile file (r .schema)
 accepted-file {file} {was} {is} {r} m q = from (m .answer)
   where

@@ -21,7 +21,7 @@ use Rattle.commands.specs.File.{Stated, Commands, stopped, states, commands, sc
 use Rattle.schema_file.specs.Answer.{afterDone, AnswerBy, AnswerIs, BufferBy}
 use Rattle.sdtd.specs.declared.Verdict.{Verdict}
 use Rattle.sdtd.specs.declared.Verdict.the-variants.{Fine, RefusedAt}
-use Rattle.commands.proofs.Passing.{stopped-most}
+use Rattle.commands.proofs.Passing.{stopped-before}
 use Rattle.commands.proofs.StatedLimits.{stated-within}
 use Rattle.schema_file.proofs.FileAnswers.{file-unique}
 
@@ -71,7 +71,7 @@ filled g e w = (λ q. w, λ d. absurd (d e))
 
 by-buffer : (file was : List ℕ) (k : Commands) (a : Verdict) → commands file ≡ k → AnswerBy k a → (is : List ℕ) × BufferBy k was is a
 by-buffer file was (stopped n p) a e r =
-    (was, unchanged (stopped n p) was (other-number r (λ z. omega (arith, stopped-most file e))))
+    (was, unchanged (stopped n p) was (other-number r (λ z. stopped-before file e (omega arith) (omega arith))))
 by-buffer file was (states g) a e (inl o) = (was, unchanged (states g) was (other-number (o .1) (λ z. omega arith)))
 by-buffer file was (states g) a e (inr (k, inl o)) = (was, unchanged (states g) was (other-number (o .1) (λ z. omega arith)))
 by-buffer file was (states g) a e (inr (k, inr (b, inl o))) =

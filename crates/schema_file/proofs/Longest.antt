@@ -1,4 +1,4 @@
--- The longest file is accepted.
+-- The longest file of old commands is accepted.
 use mathlib.Core.Path.{_≡_, refl, sym, subst}
 use mathlib.Core.Logic.{inr}
 use mathlib.Core.List.{List}
@@ -12,7 +12,7 @@ use Rattle.sdtd.specs.declared.Verdict.the-variants.{Fine}
 use Rattle.schema_file.specs.declared.file.SchemaFile.{SchemaFile}
 use Rattle.schema_file.proofs.FileAnswers.{file-unique}
 
--- "The longest accepted file has 8,389 bytes": this one has as many (`longest-length`), and is accepted.
+-- "The 8,389 bytes hold for files with one ROOT and only the old commands": this one of those has as many (`longest-length`), and is accepted.
 pub longest-accepted : (was : List ℕ) → leastWitness ≤ length was → AnswerIs longestFile was Fine
 longest-accepted was l =
     let s = longest-stated in

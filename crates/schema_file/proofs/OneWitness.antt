@@ -10,12 +10,12 @@ use Rattle.sdtd.proofs.Verdicts.{verdictNumber, verdictPlace, refused-not-fine}
 use Rattle.competition.specs.Search.{Written}
 use Rattle.competition.proofs.OneWitness.{SameTypeAndLength, same-written}
 use Rattle.commands.specs.File.{Stated, Commands, stopped, states, commands, schemaBy, unknown, StatesSchema}
-use Rattle.commands.proofs.Passing.{stopped-most}
+use Rattle.commands.proofs.Passing.{stopped-before}
 use Rattle.schema_file.specs.Answer.{AnswerBy, AnswerIs, OfStated, FileMeans}
 use Rattle.sdtd.specs.declared.Verdict.the-variants.{RefusedAt}
 use Rattle.schema_file.specs.declared.file.SchemaFile.{SchemaFile}
 
--- a file that is answered 9: the place is 0, and it passes questions 2 to 7
+-- a file that is answered 9: the place is 0, and it passes questions 2 to 7 and 21 to 23
 record Nine (file : List ℕ) (place : ℕ) : Type 0 where
   first-place : place ≡ 0
   stated : Stated
@@ -23,7 +23,7 @@ record Nine (file : List ℕ) (place : ℕ) : Type 0 where
   known : unknown stated ≡ []
 
 nine-by : (file : List ℕ) {p : ℕ} (k : Commands) → commands file ≡ k → AnswerBy k (RefusedAt 9 p) → Nine file p
-nine-by file (stopped n l) e r = absurd (omega (arith, ap verdictNumber r, stopped-most file e))
+nine-by file (stopped n l) e r = let z = ap verdictNumber r in absurd (stopped-before file e (omega arith) (omega arith))
 nine-by file (states g) e (inl o) = absurd (omega (arith, ap verdictNumber (o .1)))
 nine-by file (states g) e (inr (k, inl o)) = absurd (omega (arith, ap verdictNumber (o .1)))
 nine-by file (states g) e (inr (k, inr (b, inl o))) = record { first-place = ap verdictPlace (o .1); stated = g; passes = e; known = k }

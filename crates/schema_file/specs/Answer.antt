@@ -1,4 +1,4 @@
--- The answer to a schema file: questions 1 to 9 in order, the witness buffer, and the schema beside the answer.
+-- The answer to a schema file: questions 1 to 9 and 21 to 23 in order, the witness buffer, and the schema beside the answer.
 use mathlib.Core.Path.{_≡_}
 use mathlib.Core.Logic.{_↔_, _⊎_}
 use mathlib.Core.List.{List, [], _∷_}
@@ -15,8 +15,8 @@ use Rattle.sdtd.specs.declared.Verdict.{Verdict}
 use Rattle.sdtd.specs.declared.Verdict.the-variants.{Fine, RefusedAt}
 use Rattle.schema_file.specs.declared.file.SchemaFile.{SchemaFile}
 
--- "After DONE": "Does each STEP name a type that was given? No: 7, at the first that does not." "Does the root type bear a tree? No: 8, place
--- 0." "Is there no competition? No: 9, place 0."
+-- "After DONE": "Does each STEP name a type that was given? No: 7, at the first that does not." "[Q]uestion 7 covers each 32." "Does the
+-- root type bear a tree? No: 8, place 0." "Is there no competition? No: 9, place 0."
 abbrev pub afterDone : Stated → List (Question Verdict)
 afterDone g =
     knownAsked (λ p. verdictIn (refused-at 7 p)) (unknown g)
@@ -53,8 +53,8 @@ pub record FileMeans (file was is : List ℕ) (r : SchemaFile) : Type 0 where
   pub buffer : BufferBy (commands file) was is (r .answer)
   pub schema : SchemaBy (commands file) (r .schema) (r .answer)
 
--- Demand 3 of a file that passes questions 1 to 7, states S and has a valid document: "It is refused for competition exactly when two valid
--- documents [..] agree in every event through some opening tag and differ in that element's type. Otherwise it is accepted".
+-- Demand 3 of a file that passes questions 1 to 7 and 21 to 23, states S and has a valid document: "It is refused for competition exactly
+-- when two valid documents [..] agree in every event through some opening tag and differ in that element's type. Otherwise it is accepted".
 pub record Demand3File (S : Meaning) (a : Verdict) : Type 0 where
   pub refused : (a ≡ RefusedAt 9 0) ↔ Ambiguous S
   pub accepted : (a ≡ Fine) ↔ (¬ Ambiguous S)

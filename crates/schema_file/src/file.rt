@@ -1,4 +1,4 @@
-// The schema file's answer: questions 1 to 9 in order.
+// The schema file's answer: questions 1 to 9 and 21 to 23 in order.
 use commands::no_schema;
 use commands::read_commands;
 use competition::LEAST_WITNESS;
@@ -8,9 +8,6 @@ use sdtd::Verdict;
 ghost use mathlib.Core.Path.{_≡_};
 ghost use Rattle.commands.specs.Value.{noSchema};
 ghost use Rattle.schema_file.specs.Answer.{FileMeans};
-
-// "The longest accepted file has 8,389 bytes."
-pub const MOST_BYTES: usize = 8389;
 
 // The answer, and beside it the accepted schema; beside a refusal, the value of no schema.
 pub struct SchemaFile {

@@ -57,7 +57,7 @@ pub record Witness (S : Schema) (bytes : List ℕ) : Type 0 where
   pub short : length word ≤ mostWord
   pub written : bytes ≡ witnessBytes type first second word
 
--- An accepted schema: it is inside the limits, which document 01's questions 1 to 7 see to, and passes questions 8 and 9: "Does the root
+-- An accepted schema: it is inside the limits, which questions 1 to 7 and 21 to 23 see to, and passes questions 8 and 9: "Does the root
 -- type bear a tree?" "Is there no competition?"
 pub record Accepted (S : Schema) : Type 0 where
   pub within : WithinLimits S

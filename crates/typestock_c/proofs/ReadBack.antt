@@ -1,11 +1,11 @@
--- The answer is read back from its numbers: a schema file's is 0 to 9, and no refusal has the number 0, so 0 is accepted alone.
+-- The answer is read back from its numbers: a schema file's is 0 to 9 or 21 to 23, and no refusal has the number 0, so 0 is accepted alone.
 use mathlib.Core.Path.{_≡_, refl, sym, ap, subst, _∙_}
 use mathlib.Core.Logic.{_⊎_, inl, inr, ⊎-elim}
 use mathlib.Core.List.{List}
 use Prim.Native.Nat.{ℕ, _≤_}
 use native.Mathlib.Omega.{arith}
 use Rattle.commands.specs.File.{Commands, stopped, states, commands}
-use Rattle.commands.proofs.Passing.{stopped-least, stopped-most}
+use Rattle.commands.proofs.Passing.{stopped-number, stopped-least}
 use Rattle.sdtd.proofs.Verdicts.{verdictNumber, refused-not-fine}
 use Rattle.schema_file.specs.Answer.{AnswerBy, AnswerIs}
 use Rattle.sdtd.specs.declared.Verdict.{Verdict}
@@ -21,41 +21,45 @@ use Rattle.typestock_c.specs.Exports.{SchemaMeans, DocumentMeans}
 use Rattle.typestock_c.specs.declared.TypestockSchema.{TypestockSchema}
 use Rattle.typestock_c.specs.declared.TypestockDocument.{TypestockDocument}
 
--- one of 1 to 9
+-- the numbers that a schema file gets
+abbrev pub SchemaNumber : ℕ → Type 0
+SchemaNumber n = (n ≤ 9) ⊎ ((21 ≤ n) × (n ≤ 23))
+
+-- one of them, but 0
 record InRange (n : ℕ) : Type 0 where
   above : 1 ≤ n
-  most : n ≤ 9
+  among : SchemaNumber n
 
--- accepted, or refused with one of 1 to 9
+-- accepted, or refused with one of these numbers
 abbrev Known : Verdict → Type 0
 Known a = (a ≡ Fine) ⊎ InRange (verdictNumber a)
 
-numbered : {a : Verdict} {n p : ℕ} → a ≡ RefusedAt n p → 1 ≤ n → n ≤ 9 → InRange (verdictNumber a)
-numbered e l m = record { above = omega (arith, ap verdictNumber e); most = omega (arith, ap verdictNumber e) }
+numbered : {a : Verdict} {n p : ℕ} → a ≡ RefusedAt n p → 1 ≤ n → SchemaNumber n → InRange (verdictNumber a)
+numbered e l m = subst InRange (sym (ap verdictNumber e)) (record { above = l; among = m })
 
--- a command is refused with 2 to 6, and after them come 7 to 9
+-- a command is refused with 2 to 6 or 21 to 23, and after them come 7 to 9
 known-by : (file : List ℕ) (k : Commands) (a : Verdict) → commands file ≡ k → AnswerBy k a → Known a
 known-by file (stopped n p) a e r =
-    inr (numbered r (omega (arith, stopped-least file e)) (omega (arith, stopped-most file e)))
-known-by file (states g) a e (inl o) = inr (numbered (o .1) (omega arith) (omega arith))
-known-by file (states g) a e (inr (k, inl o)) = inr (numbered (o .1) (omega arith) (omega arith))
-known-by file (states g) a e (inr (k, inr (b, inl o))) = inr (numbered (o .1) (omega arith) (omega arith))
+    inr (numbered r (omega (arith, stopped-least file e)) (⊎-elim (λ l. inl (omega arith)) inr (stopped-number file e .1)))
+known-by file (states g) a e (inl o) = inr (numbered (o .1) (omega arith) (inl (omega arith)))
+known-by file (states g) a e (inr (k, inl o)) = inr (numbered (o .1) (omega arith) (inl (omega arith)))
+known-by file (states g) a e (inr (k, inr (b, inl o))) = inr (numbered (o .1) (omega arith) (inl (omega arith)))
 known-by file (states g) a e (inr (k, inr (b, inr (n, o)))) = inl o
 
 known : (file was : List ℕ) (a : Verdict) → AnswerIs file was a → Known a
-known file was a (inl o) = inr (numbered (o .1) (omega arith) (omega arith))
+known file was a (inl o) = inr (numbered (o .1) (omega arith) (inl (omega arith)))
 known file was a (inr o) = known-by file (commands file) a refl (o .1)
 
-numbers-most : (a : Verdict) → Known a → schemaNumbers a .number ≤ 9
-numbers-most Fine k = omega arith
-numbers-most (RefusedAt n p) (inl f) = refused-not-fine refl f
-numbers-most (RefusedAt n p) (inr r) = r .most
+numbers-among : (a : Verdict) → Known a → SchemaNumber (schemaNumbers a .number)
+numbers-among Fine k = inl (omega arith)
+numbers-among (RefusedAt n p) (inl f) = refused-not-fine refl f
+numbers-among (RefusedAt n p) (inr r) = r .among
 
--- A schema's number is 0 to 9.
-pub schema-range : {file was is : List ℕ} {r : TypestockSchema} → SchemaMeans file was is r → r .number ≤ 9
+-- A schema's number is 0 to 9 or 21 to 23.
+pub schema-range : {file was is : List ℕ} {r : TypestockSchema} → SchemaMeans file was is r → SchemaNumber (r .number)
 schema-range {file} {was} m =
-    subst (λ (x : TypestockSchema). x .number ≤ 9) (sym (m .numbers))
-    (numbers-most (m .read .answer) (known file was (m .read .answer) (m .means .answer)))
+    subst (λ (x : TypestockSchema). SchemaNumber (x .number)) (sym (m .numbers))
+    (numbers-among (m .read .answer) (known file was (m .read .answer) (m .means .answer)))
 
 accepted-by : (a : Verdict) → Known a → schemaNumbers a .number ≡ 0 → a ≡ Fine
 accepted-by a (inl f) z = f
@@ -84,10 +88,10 @@ schema-nine {was = was} m z =
       answer = nine-by (m .read .answer) (sym (ap (λ (x : TypestockSchema). x .number) (m .numbers)) ∙ z);
     }
 
--- A job's numbers where its schema is refused: the schema's 1 to 9 and its place, twice, and no opening.
+-- A job's numbers where its schema is refused: the schema's, 1 to 9 or 21 to 23, and its place, twice, and no opening.
 pub record RefusedNumbers (r : TypestockDocument) : Type 0 where
   pub above : 1 ≤ r .«schema_number»
-  pub most : r .«schema_number» ≤ 9
+  pub among : SchemaNumber (r .«schema_number»)
   pub same-number : r .number ≡ r .«schema_number»
   pub same-place : r .place ≡ r .«schema_place»
   pub no-opening : r .count ≡ 0
@@ -103,7 +107,7 @@ read-or-refused {schema} {wasWitness = wasWitness} m (RefusedAt n p) q =
     (λ r.
     record {
       above = omega (arith, r .above, ap verdictNumber q);
-      most = omega (arith, r .most, ap verdictNumber q);
+      among = subst SchemaNumber (ap verdictNumber q) (r .among);
       same-number = refl;
       same-place = refl;
       no-opening = refl;

@@ -90,7 +90,12 @@ module _ {schema events wasWitness isWitness wasTypes isTypes : List ℕ} {r : T
 
   -- A byte of the types buffer for every two of the event file is always enough.
   pub never-no-room : length events ≤ 2 * length wasTypes → r .number ≢ 20
-  never-no-room h = ⊎-elim (λ (e, q). read e q .enough h) (λ k z. omega arith) (read-or-not m)
+  never-no-room h =
+      ⊎-elim (λ (e, q). read e q .enough h)
+      (λ k z.
+      let n = k .same-number in
+      ⊎-elim (λ l. absurd (omega arith)) (λ l. absurd (omega arith)) (k .among))
+      (read-or-not m)
 
   -- A document that is answered 0 is valid, and the types written are its typing's.
   pub zero-valid : r .number ≡ 0 → TakenDocument schema events wasTypes isTypes r

@@ -17,6 +17,7 @@ use Rattle.schema.proofs.TablesTrim.{tables-trim}
 use Rattle.competition.specs.Search.{Written}
 use Rattle.commands.specs.File.{Stated, Commands, stopped, states, commands, schemaBy, unknown, StatesSchema}
 use Rattle.commands.proofs.StatedLimits.{stated-within}
+use Rattle.commands.proofs.StatedExpressions.{stated-written}
 use Rattle.schema_file.specs.Answer.{AnswerBy, OfStated, FileMeans}
 use Rattle.sdtd.specs.declared.Verdict.{Verdict}
 use Rattle.sdtd.specs.declared.Verdict.the-variants.{RefusedAt}
@@ -78,6 +79,7 @@ demand-3 file was is f m =
     record {
       refused-exactly = λ S l states some. file-ambiguous m states l some;
       states = λ a. accepted-file m a .states;
+      written = λ a. stated-written (accepted-file m a .states);
       calls = λ a xs calls. list-meets (accepted-file m a .schema) xs calls;
     }
 

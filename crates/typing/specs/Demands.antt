@@ -4,10 +4,11 @@
 -- `crates/sdtd/specs/`. `proofs/DemandsMet.antt` proves them.
 use mathlib.Core.Path.{_≡_}
 use mathlib.Core.Logic.{_↔_}
-use mathlib.Core.List.{List}
+use mathlib.Core.List.{List, List·Memᴰ}
 use Prim.Native.Nat.{ℕ, _≤_}
 use lib.ListN.{length, take}
 use Rattle.sdtd.specs.Limits.{leastWitness}
+use Rattle.sdtd.specs.Schema.{Block}
 use Rattle.sdtd.specs.Schema.{Schema as Meaning}
 use Rattle.sdtd.specs.Tree.{Tree, IsTyping}
 use Rattle.sdtd.specs.Document.{Event, Valid, SomeValid, openings, typesOf, BeginningOf, Ambiguous}
@@ -19,6 +20,7 @@ use Rattle.schema.specs.Trimming.{TrimMeans, trimmedByTables}
 use Rattle.schema.specs.declared.value.Schema.{Schema}
 use Rattle.schema.specs.declared.tables.Trimming.{Trimming}
 use Rattle.commands.specs.File.{commands, StatesSchema}
+use Rattle.commands.specs.Written.{Written}
 use Rattle.schema_file.specs.Answer.{AnswerIs, BufferBy, FileMeans, Demand3File}
 use Rattle.sdtd.specs.declared.Verdict.{Verdict as CodeVerdict}
 use Rattle.sdtd.specs.declared.Verdict.the-variants.{Fine, RefusedAt}
@@ -84,11 +86,14 @@ Demand2File =
 pub record Demand3Of (file was : List ℕ) (f : SchemaFile) : Type 0 where
   -- "Suppose a schema file passes document 01's questions 1 to 7 and at least one document is valid under it. It is refused for competition
   -- exactly when two valid documents [..] agree in every event through some opening tag and differ in that element's type. Otherwise it is
-  -- accepted".
+  -- accepted". "The third demand supposes these three passed too": 21 to 23 are among the questions that `StatesSchema` has passed.
   pub refused-exactly : (S : Meaning) → leastWitness ≤ length was → StatesSchema file S → SomeValid S → Demand3File S (f .answer)
   -- "and then what follows holds for every list of opening, closing and finishing calls from a fresh reading, with any tags and refused
   -- calls included, where each call gets the reading as the last one left it."
   pub states : f .answer ≡ Fine → StatesSchema file (meaning (f .schema))
+  -- "The accepted schema is the one that the file states": each block is begun by a TYPE, and has the automaton of the expression after it if
+  -- that has state count 0
+  pub written : f .answer ≡ Fine → (b : Block) → List·Memᴰ b (meaning (f .schema) .blocks) → Written file b
   pub calls : f .answer ≡ Fine → (xs : List Exchange) → Called (meaning (f .schema)) fresh xs → ListMeets (meaning (f .schema)) xs
 
 abbrev pub Demand3 : Type 0

@@ -33,7 +33,7 @@ module _ (file : List ℕ) (i : ℕ) where
 
 returns : tie.Need-returns
 returns c =
-    let a = c .before .args in
+    let a = c .before .before .args in
     none (a .file .now) (a .at) (c .if1 .taken)
 
 sub-left : tie.Need-sub-left
@@ -45,7 +45,7 @@ shared-slice-read-b c = search needs
 returns-2 : tie.Need-returns-2
 unfolding commandOf
 returns-2 c =
-    let a = c .before .before .before .before .args in
+    let a = c .before .before .before .before .before .args in
     short (a .file .now) (a .at) 16 2 _ (omega arith) (omega arith) (omega arith) refl
 
 add-t10 : tie.Need-add-t10
@@ -57,13 +57,13 @@ shared-slice-read-t12 c = search needs
 returns-3 : tie.Need-returns-3
 unfolding commandOf
 returns-3 c =
-    let a = c .before .before .before .before .before .args in
+    let a = c .before .before .before .before .before .before .args in
     long (a .file .now) (a .at) 16 2 _ (omega arith) (omega arith) (omega arith) refl
 
 returns-4 : tie.Need-returns-4
 unfolding commandOf
 returns-4 c =
-    let a = c .before .before .before .before .before .args in
+    let a = c .before .before .before .before .before .before .args in
     short (a .file .now) (a .at) 17 3 _ (omega arith) (omega arith) (omega arith) refl
 
 add-t14 : tie.Need-add-t14
@@ -81,13 +81,13 @@ shared-slice-read-t20 c = search needs
 returns-5 : tie.Need-returns-5
 unfolding commandOf
 returns-5 c =
-    let a = c .before .before .before .before .before .before .before .args in
+    let a = c .before .before .before .before .before .before .before .before .args in
     long (a .file .now) (a .at) 17 3 _ (omega arith) (omega arith) (omega arith) refl
 
 returns-6 : tie.Need-returns-6
 unfolding commandOf
 returns-6 c =
-    let a = c .before .before .before .before .before .before .args in
+    let a = c .before .before .before .before .before .before .before .args in
     short (a .file .now) (a .at) 18 2 _ (omega arith) (omega arith) (omega arith) refl
 
 add-t22 : tie.Need-add-t22
@@ -99,13 +99,13 @@ shared-slice-read-t24 c = search needs
 returns-7 : tie.Need-returns-7
 unfolding commandOf
 returns-7 c =
-    let a = c .before .before .before .before .before .before .before .args in
+    let a = c .before .before .before .before .before .before .before .before .args in
     long (a .file .now) (a .at) 18 2 _ (omega arith) (omega arith) (omega arith) refl
 
 returns-8 : tie.Need-returns-8
 unfolding commandOf
 returns-8 c =
-    let a = c .before .before .before .before .before .before .before .args in
+    let a = c .before .before .before .before .before .before .before .before .args in
     short (a .file .now) (a .at) 19 4 _ (omega arith) (omega arith) (omega arith) refl
 
 add-t26 : tie.Need-add-t26
@@ -129,13 +129,13 @@ shared-slice-read-t35 c = search needs
 returns-9 : tie.Need-returns-9
 unfolding commandOf
 returns-9 c =
-    let a = c .before .before .before .before .before .before .before .before .before .before .args in
+    let a = c .before .before .before .before .before .before .before .before .before .before .before .args in
     long (a .file .now) (a .at) 19 4 _ (omega arith) (omega arith) (omega arith) refl
 
 returns-10 : tie.Need-returns-10
 unfolding commandOf
 returns-10 c =
-    let a = c .before .before .before .before .before .before .before .before .args in
+    let a = c .before .before .before .before .before .before .before .before .before .args in
     short (a .file .now) (a .at) 20 2 _ (omega arith) (omega arith) (omega arith) refl
 
 add-t37 : tie.Need-add-t37
@@ -147,33 +147,38 @@ shared-slice-read-t39 c = search needs
 returns-11 : tie.Need-returns-11
 unfolding commandOf
 returns-11 c =
-    let a = c .before .before .before .before .before .before .before .before .before .args in
+    let a = c .before .before .before .before .before .before .before .before .before .before .args in
     long (a .file .now) (a .at) 20 2 _ (omega arith) (omega arith) (omega arith) refl
 
 returns-12 : tie.Need-returns-12
 unfolding commandOf
 returns-12 c =
-    let a = c .before .before .before .before .before .before .before .before .args in
+    let a = c .before .before .before .before .before .before .before .before .before .args in
     long (a .file .now) (a .at) 31 1 _ (omega arith) (omega arith) (omega arith) refl
+
+expression-command-requires : tie.Need-expression-command-requires
+expression-command-requires c κs = search needs
 
 returns-13 : tie.Need-returns-13
 unfolding commandOf
 returns-13 c =
-    let e10 = c .before in
+    let e12 = c .before in
+    let e10 = e12 .before in
     let e8 = e10 .before in
     let e6 = e8 .before in
     let e4 = e6 .before in
     let e2 = e4 .before in
-    let a = e2 .before .before .before .args in
-    begins (a .file .now) (a .at) _ NoCommand refl (omega arith)
+    let a = e2 .before .before .before .before .args in
+    begins (a .file .now) (a .at) _ _ refl (omega arith)
     (rw (
       ne-eqb _ 16 (e2 .if2 .left),
       ne-eqb _ 17 (e4 .if4 .left),
       ne-eqb _ 18 (e6 .if6 .left),
       ne-eqb _ 19 (e8 .if8 .left),
       ne-eqb _ 20 (e10 .if10 .left),
-      ne-eqb _ 31 (c .if12 .left),
-    ))
+      ne-eqb _ 31 (e12 .if12 .left),
+    )
+    (sym (c .expression-command .ensures)))
 
 pub command-at-spec : {M : Type 1} → statement M
 command-at-spec =
@@ -209,4 +214,5 @@ command-at-spec =
     shared-slice-read-t39
     returns-11
     returns-12
+    expression-command-requires
     returns-13)

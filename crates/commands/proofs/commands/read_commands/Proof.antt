@@ -1,5 +1,6 @@
 -- `commands::commands::read_commands` meets its contract. The loop's invariant: the progress and the tables hold what the commands so far
--- state, and the commands from the place on decide. The measure is what is left of the file: a command that passed ends inside it.
+-- state, and the commands from the place on decide. The measure is what is left of the file: a command that passed ends inside it, and so does
+-- an expression.
 use mathlib.Core.Path.{_≡_, refl, sym, _∙_}
 use mathlib.Core.Bool.{true, false}
 use Prim.Native.Nat.{_+_, _-_, _≤_, _<_}
@@ -8,13 +9,16 @@ use lib.ListN.{length}
 use borrow.Author.Tests.{not-true, not-false}
 use Rattle.sdtd.specs.Limits.{mostTypes, mostSteps}
 use Rattle.commands.proofs.SchemaTables.{SchemaTables}
-use Rattle.command.specs.Command.{commandAt}
-use Rattle.command.specs.declared.Command.{Command}
 use Rattle.commands.specs.Questions.{samePhase, failed}
-use Rattle.commands.specs.declared.progress.Phase.the-variants.{AfterDone}
+use Rattle.commands.specs.declared.progress.Phase.the-variants.{InExpression, AfterDone}
 use Rattle.commands.proofs.Holding.{seenIn}
 use Rattle.commands.proofs.Drafts.{zeros-empty}
-use Rattle.commands.proofs.OneByOne.{Reads, reads-first, failed-in, reads-stopped, reads-in-file, reads-next, reads-over}
+use borrow.Author.Needs.{needs}
+use Rattle.sdtd.specs.declared.Verdict.the-variants.{Fine}
+use Rattle.commands.specs.Laying.{fitting}
+use Rattle.commands.proofs.ExpressionReads.{Found, found, uses-few}
+use Rattle.commands.proofs.ExpressionTurns.{turn-refused, turn-steps, turn-end, turn-reads}
+use Rattle.commands.proofs.OneByOne.{Reads, reads-first, reads-stopped, reads-in-file, reads-next, reads-over}
 use Rattle.commands.proofs.OneByOne.{answer-stopped, answer-unknown, answer-known}
 use Rattle.commands.proofs.commands.read_commands.Statement.{statement}
 use Rattle.commands.proofs.commands.read_commands.Tie as tie
@@ -37,17 +41,7 @@ abbrev μ-loop : tie.MeasureT-loop
 μ-loop file tag₀ states₀ accepting₀ counts₀ from₀ by₀ to₀ none places₀ bound₀ progress₀ at₀ tag states accepting counts from by to places bound progress at =
     length file - at
 
--- where the loop's test was made, and where it was reached
-abbrev turn : tie.After-failed-by Inv-loop μ-loop → tie.Then1 Inv-loop μ-loop
-turn c = c .before .before .before .before .before .before .before .before
-
-abbrev at-loop : tie.After-failed-by Inv-loop μ-loop → tie.At-loop Inv-loop μ-loop
-at-loop c = turn c .before .before
-
--- where the command had passed
-abbrev passing : tie.After-size-of Inv-loop μ-loop → tie.Else2 Inv-loop μ-loop
-passing c = c .before .before .before .before .before .before .before .before .before .before .before .before .before .before .before
-
+-- where the loop was reached, from where its test was made; and where an expression was read
 abbrev tables : tie.At-loop Inv-loop μ-loop → SchemaTables
 tables c =
     let l = c .loop in
@@ -61,22 +55,6 @@ tables c =
       to = l .to;
     }
 
--- the command at the place that the loop is at
-abbrev here : tie.After-failed-by Inv-loop μ-loop → Command
-here c = c .before .before .before .before .before .before .before .command-at .result
-
-command : (c : tie.After-failed-by Inv-loop μ-loop)
-    → here c ≡ commandAt (at-loop c .before .before .before .args .file .now) (at-loop c .loop .at)
-command c = c .before .before .before .before .before .before .before .command-at .ensures
-
--- its number is the one that the tables give
-number : (c : tie.After-failed-by Inv-loop μ-loop)
-    → c .failed-by .result ≡ failed (seenIn (at-loop c .loop .progress) (tables (at-loop c)) (here c)) (here c)
-number c =
-    let g = c .before .before in
-    failed-in (at-loop c .loop .progress) (tables (at-loop c)) (here c) _ (c .failed-by .ensures) (c .before .seen-of .ensures) (g .given-already .ensures)
-    (g .before .before .before .before .last-type .ensures)
-
 -- DONE was not read, or it was
 more : (c : tie.Then1 Inv-loop μ-loop) → samePhase (c .before .before .loop .progress .phase) AfterDone ≡ false
 more c = sym (c .before .is-done .ensures) ∙ not-true _ (c .if1 .taken)
@@ -84,17 +62,88 @@ more c = sym (c .before .is-done .ensures) ∙ not-true _ (c .if1 .taken)
 done : (c : tie.Else1 Inv-loop μ-loop) → samePhase (c .before .before .loop .progress .phase) AfterDone ≡ true
 done c = sym (c .before .is-done .ensures) ∙ not-false _ (c .if1 .left)
 
-passed : (c : tie.Else2 Inv-loop μ-loop)
-    → let a = c .before in failed (seenIn (at-loop a .loop .progress) (tables (at-loop a)) (here a)) (here a) ≡ 0
-passed c = sym (number (c .before)) ∙ c .if2 .left
+-- an expression is next, or none is
+inside : (c : tie.Then2 Inv-loop μ-loop) → samePhase (c .before .before .before .before .loop .progress .phase) InExpression ≡ true
+inside c = sym (c .before .is-in-expression .ensures) ∙ c .if2 .taken
+
+outside : (c : tie.Else2 Inv-loop μ-loop) → samePhase (c .before .before .before .before .loop .progress .phase) InExpression ≡ false
+outside c = sym (c .before .is-in-expression .ensures) ∙ c .if2 .left
+
+-- the command at the place that the loop is at, and its number
+abbrev asked : tie.After-failed-in Inv-loop μ-loop → tie.After-command-at Inv-loop μ-loop
+asked c = c .before .before .before .before .before .before .before
+
+abbrev here : tie.After-failed-in Inv-loop μ-loop → tie.At-loop Inv-loop μ-loop
+here c = asked c .before .before .before .before .before
+
+number : (c : tie.After-failed-in Inv-loop μ-loop)
+    → let d = asked c .command-at .result in
+    c .failed-in .result ≡ failed (seenIn (here c .loop .progress) (tables (here c)) d) d
+number c = c .failed-in .ensures
+
+-- where the command had passed
+abbrev passing : tie.After-size-of Inv-loop μ-loop → tie.Else3 Inv-loop μ-loop
+passing c = c .before .before .before .before .before .before .before .before .before .before .before .before .before .before .before
+
+passed : (c : tie.Else3 Inv-loop μ-loop)
+    → let a = c .before in
+    let d = asked a .command-at .result in
+    failed (seenIn (here a .loop .progress) (tables (here a)) d) d ≡ 0
+passed c = sym (number (c .before)) ∙ c .if3 .left
 
 -- a command that passed ends inside the file
 in-file : (c : tie.After-size-of Inv-loop μ-loop)
-    → let l = at-loop (passing c .before) in
+    → let l = here (passing c .before) in
     (l .loop .at + c .size-of .result ≤ length (l .before .before .before .args .file .now)) × (0 < c .size-of .result)
 in-file c =
     let a = passing c .before in
-    reads-in-file (at-loop a .loop .inv) (more (turn a)) (command a) (passed (passing c)) (c .size-of .ensures)
+    let k = asked a in
+    reads-in-file (here a .loop .inv) (more (k .before .before .before)) (outside (k .before)) (k .command-at .ensures) (passed (passing c))
+    (c .size-of .ensures)
+
+-- the automaton that was read
+abbrev reached : tie.After-read-content Inv-loop μ-loop → tie.At-loop Inv-loop μ-loop
+reached c = c .before .before .before .before .before
+
+read : (c : tie.After-read-content Inv-loop μ-loop)
+    → Found (reached c .before .before .before .args .file .now) (reached c .loop .at) (c .read-content .result)
+read c = found _ _ _ (c .read-content .ensures)
+
+-- .. its steps laid, and the verdict on them
+abbrev read-at : tie.After-lay-steps Inv-loop μ-loop → tie.After-read-content Inv-loop μ-loop
+read-at c = c .before .before .before .before
+
+-- .. and found to fit
+abbrev laid-at : tie.After-enum-told Inv-loop μ-loop → tie.After-lay-steps Inv-loop μ-loop
+laid-at c = c .before .before .before
+
+fine : (c : tie.After-enum-told Inv-loop μ-loop)
+    → let l = laid-at c in
+    let r = read-at l .read-content .result in
+    fitting (r .verdict) (r .end) (l .lay-steps .result) ≡ Fine
+fine c = sym (c .before .before .fits2 .ensures) ∙ c .enum-told .given .1
+
+-- so the steps are at most as many as fit, and the expression ends inside the file
+steps-at : (c : tie.After-enum-told Inv-loop μ-loop)
+    → let l = laid-at c in
+    (reached (read-at l) .loop .progress .steps ≤ l .lay-steps .result) × (l .lay-steps .result ≤ mostSteps)
+steps-at c =
+    let l = laid-at c in
+    let r = read-at l in
+    turn-steps (reached r .loop .inv) (inside (r .before)) (read r) (l .lay-steps .ensures) (fine c)
+
+ends-at : (c : tie.After-enum-told Inv-loop μ-loop)
+    → let r = read-at (laid-at c) in
+    (r .read-content .result .end + 1 ≤ length (reached r .before .before .before .args .file .now))
+    × (reached r .loop .at < r .read-content .result .end + 1)
+ends-at c =
+    let l = laid-at c in
+    let r = read-at l in
+    turn-end (reached r .loop .inv) (inside (r .before)) (read r) (l .lay-steps .ensures) (fine c)
+
+-- from where the expression's part of the loop's body ends
+abbrev told : tie.After-struct-known2 Inv-loop μ-loop → tie.After-enum-told Inv-loop μ-loop
+told c = c .before .before .before .before .before .before .before .before .before
 
 nothing-read-requires : tie.Need-nothing-read-requires Inv-loop μ-loop
 nothing-read-requires c κs = tt
@@ -125,43 +174,87 @@ loop-holds c =
 is-done-requires : tie.Need-is-done-requires Inv-loop μ-loop
 is-done-requires c κs = tt
 
-command-at-requires : tie.Need-command-at-requires Inv-loop μ-loop
-command-at-requires c κs = tt
+is-in-expression-requires : tie.Need-is-in-expression-requires Inv-loop μ-loop
+is-in-expression-requires c κs = tt
 
-last-type-requires : tie.Need-last-type-requires Inv-loop μ-loop
-last-type-requires c κs = tt
+read-content-requires : tie.Need-read-content-requires Inv-loop μ-loop
+read-content-requires c κs = tt
 
-mul-given-already : tie.Need-mul-given-already Inv-loop μ-loop
-mul-given-already c = omega arith
+lay-steps-requires : tie.Need-lay-steps-requires Inv-loop μ-loop
+lay-steps-requires c κs = let r = c .before .before .before in (uses-few (read r), omega (arith, reached r .loop .inv .holds .steps-most))
 
-array-read-given-already : tie.Need-array-read-given-already Inv-loop μ-loop
-array-read-given-already c = omega arith
+fits-requires : tie.Need-fits-requires Inv-loop μ-loop
+fits-requires c κs = tt
 
-given-already-requires : tie.Need-given-already-requires Inv-loop μ-loop
-given-already-requires c κs = tt
-
-array-read-seen-of : tie.Need-array-read-seen-of Inv-loop μ-loop
-array-read-seen-of c = omega arith
-
-mul-t26 : tie.Need-mul-t26 Inv-loop μ-loop
-mul-t26 c = omega arith
-
-array-read-t35 : tie.Need-array-read-t35 Inv-loop μ-loop
-array-read-t35 c = omega arith
-
-seen-of-requires : tie.Need-seen-of-requires Inv-loop μ-loop
-seen-of-requires c κs = tt
-
-failed-by-requires : tie.Need-failed-by-requires Inv-loop μ-loop
-failed-by-requires c κs = tt
+enum-known-fit : tie.Need-enum-known-fit Inv-loop μ-loop
+enum-known-fit c = search needs
 
 stopped-requires : tie.Need-stopped-requires Inv-loop μ-loop
 stopped-requires c κs = tt
 
 returns : tie.Need-returns Inv-loop μ-loop
 returns c =
+    let m = c .before .before in
+    let f = m .before .before in
+    let r = read-at (f .before) in
+    answer-stopped _ _
+    (turn-refused (reached r .loop .inv) (inside (r .before)) (read r) (f .before .lay-steps .ensures) (sym (f .fits2 .ensures) ∙ m .fit .given .1))
+    (c .stopped .ensures)
+
+enum-told : tie.Need-enum-told Inv-loop μ-loop
+enum-told c = search needs
+
+sub-count : tie.Need-sub-count Inv-loop μ-loop
+sub-count c = omega (arith, steps-at (c .before))
+
+complete-type-requires : tie.Need-complete-type-requires Inv-loop μ-loop
+complete-type-requires c κs =
+    let e = c .before .before .before .before in
+    (uses-few (read (read-at (laid-at e))), omega (arith, steps-at e))
+
+add-names-requires : tie.Need-add-names-requires Inv-loop μ-loop
+add-names-requires c κs =
+    let r = read-at (laid-at (c .before .before .before .before .before .before)) in
+    (uses-few (read r), reached r .loop .inv .named .bound-most)
+
+progress-with-requires : tie.Need-progress-with-requires Inv-loop μ-loop
+progress-with-requires c κs = tt
+
+add-at : tie.Need-add-at Inv-loop μ-loop
+add-at c =
+    let e = told c in
+    let g = reached (read-at (laid-at e)) .before .before .before .good in
+    omega (arith, ends-at e)
+
+loop-less : tie.Need-loop-less Inv-loop μ-loop
+loop-less c = omega (arith, ends-at (told c))
+
+loop-again : tie.Need-loop-again Inv-loop μ-loop
+loop-again c =
+    let e = told c in
+    let l = laid-at e in
+    let r = read-at l in
+    let parts = c .before .before .before .before .complete-type .ensures in
+    let names = c .before .before .add-names .ensures in
+    turn-reads (reached r .loop .inv) (inside (r .before)) (read r) (l .lay-steps .ensures) (fine e) (c .before .progress-with .ensures)
+    (parts .0) (parts .1) (parts .2) (names .0) (names .1)
+
+command-at-requires : tie.Need-command-at-requires Inv-loop μ-loop
+command-at-requires c κs = tt
+
+failed-in-requires : tie.Need-failed-in-requires Inv-loop μ-loop
+failed-in-requires c κs = tt
+
+stopped-requires-2 : tie.Need-stopped-requires-2 Inv-loop μ-loop
+stopped-requires-2 c κs = tt
+
+returns-2 : tie.Need-returns-2 Inv-loop μ-loop
+returns-2 c =
     let a = c .before .before in
-    answer-stopped _ _ (reads-stopped (at-loop a .loop .inv) (more (turn a)) (command a) (number a) (c .before .if2 .taken)) (c .stopped .ensures)
+    let k = asked a in
+    answer-stopped _ _
+    (reads-stopped (here a .loop .inv) (more (k .before .before .before)) (outside (k .before)) (k .command-at .ensures) (number a) (c .before .if3 .taken))
+    (c .stopped2 .ensures)
 
 add-type-requires : tie.Need-add-type-requires Inv-loop μ-loop
 add-type-requires c κs = tt
@@ -184,24 +277,25 @@ progress-after-requires c κs = tt
 size-of-requires : tie.Need-size-of-requires Inv-loop μ-loop
 size-of-requires c κs = tt
 
-add-at : tie.Need-add-at Inv-loop μ-loop
-add-at c =
+add-at-2 : tie.Need-add-at-2 Inv-loop μ-loop
+add-at-2 c =
     let h = in-file c in
-    let g = at-loop (passing c .before) .before .before .before .good in
+    let g = here (passing c .before) .before .before .before .good in
     omega arith
 
-loop-less : tie.Need-loop-less Inv-loop μ-loop
-loop-less c = omega (arith, in-file c)
+loop-less-2 : tie.Need-loop-less-2 Inv-loop μ-loop
+loop-less-2 c = omega (arith, in-file c)
 
-loop-again : tie.Need-loop-again Inv-loop μ-loop
-loop-again c =
+loop-again-2 : tie.Need-loop-again-2 Inv-loop μ-loop
+loop-again-2 c =
     let a = passing c .before in
+    let k = asked a in
     let place = c .before .before .before .add-place .ensures in
     let step = c .before .before .before .before .before .before .add-step .ensures in
     let final = c .before .before .before .before .before .before .before .before .before .before .add-final .ensures in
     let type = c .before .before .before .before .before .before .before .before .before .before .before .before .add-type .ensures in
-    reads-next (at-loop a .loop .inv) (more (turn a)) (command a) (passed (passing c)) (c .size-of .ensures)
-    (c .before .progress-after .ensures)
+    reads-next (here a .loop .inv) (more (k .before .before .before)) (outside (k .before)) (k .command-at .ensures) (passed (passing c))
+    (c .size-of .ensures) (c .before .progress-after .ensures)
     (λ k.
     record {
       tag = type .0 k;
@@ -214,36 +308,36 @@ loop-again c =
     })
     (place .1) (c .before .before .bound-after .ensures)
 
-stopped-requires-2 : tie.Need-stopped-requires-2 Inv-loop μ-loop
-stopped-requires-2 c κs = tt
-
-returns-2 : tie.Need-returns-2 Inv-loop μ-loop
-returns-2 c =
-    let e1 = c .before .before in
-    answer-stopped _ _ (reads-over (e1 .before .before .loop .inv) (done e1) (c .before .if3 .taken)) (c .stopped2 .ensures)
-
-first-unknown-requires : tie.Need-first-unknown-requires Inv-loop μ-loop
-first-unknown-requires c κs = c .before .before .before .before .loop .inv .named .bound-most
-
 stopped-requires-3 : tie.Need-stopped-requires-3 Inv-loop μ-loop
 stopped-requires-3 c κs = tt
 
 returns-3 : tie.Need-returns-3 Inv-loop μ-loop
 returns-3 c =
-    let u = c .before .before in
-    let e3 = u .before .before in
-    let e1 = e3 .before in
-    answer-unknown (e1 .before .before .loop .inv) (done e1) (e3 .if3 .left) _ (u .first-unknown .ensures) (c .before .if4 .taken) (c .stopped3 .ensures)
+    let e1 = c .before .before in
+    answer-stopped _ _ (reads-over (e1 .before .before .loop .inv) (done e1) (c .before .if4 .taken)) (c .stopped3 .ensures)
 
-schema-of-requires : tie.Need-schema-of-requires Inv-loop μ-loop
-schema-of-requires c κs = tt
+first-unknown-requires : tie.Need-first-unknown-requires Inv-loop μ-loop
+first-unknown-requires c κs = c .before .before .before .before .loop .inv .named .bound-most
+
+stopped-requires-4 : tie.Need-stopped-requires-4 Inv-loop μ-loop
+stopped-requires-4 c κs = tt
 
 returns-4 : tie.Need-returns-4 Inv-loop μ-loop
 returns-4 c =
     let u = c .before .before in
-    let e3 = u .before .before in
-    let e1 = e3 .before in
-    answer-known (e1 .before .before .loop .inv) (done e1) (e3 .if3 .left) _ (u .first-unknown .ensures) (c .before .if4 .left) refl
+    let e4 = u .before .before in
+    let e1 = e4 .before in
+    answer-unknown (e1 .before .before .loop .inv) (done e1) (e4 .if4 .left) _ (u .first-unknown .ensures) (c .before .if5 .taken) (c .stopped4 .ensures)
+
+schema-of-requires : tie.Need-schema-of-requires Inv-loop μ-loop
+schema-of-requires c κs = tt
+
+returns-5 : tie.Need-returns-5 Inv-loop μ-loop
+returns-5 c =
+    let u = c .before .before in
+    let e4 = u .before .before in
+    let e1 = e4 .before in
+    answer-known (e1 .before .before .loop .inv) (done e1) (e4 .if4 .left) _ (u .first-unknown .ensures) (c .before .if5 .left) refl
     (c .schema-of .ensures)
 
 pub read-commands-spec : {M : Type 1} → statement M
@@ -255,18 +349,25 @@ read-commands-spec =
     nothing-read-requires
     loop-holds
     is-done-requires
-    command-at-requires
-    last-type-requires
-    mul-given-already
-    array-read-given-already
-    given-already-requires
-    array-read-seen-of
-    mul-t26
-    array-read-t35
-    seen-of-requires
-    failed-by-requires
+    is-in-expression-requires
+    read-content-requires
+    lay-steps-requires
+    fits-requires
+    enum-known-fit
     stopped-requires
     returns
+    enum-told
+    sub-count
+    complete-type-requires
+    add-names-requires
+    progress-with-requires
+    add-at
+    loop-less
+    loop-again
+    command-at-requires
+    failed-in-requires
+    stopped-requires-2
+    returns-2
     add-type-requires
     add-final-requires
     add-step-requires
@@ -274,13 +375,13 @@ read-commands-spec =
     bound-after-requires
     progress-after-requires
     size-of-requires
-    add-at
-    loop-less
-    loop-again
-    stopped-requires-2
-    returns-2
-    first-unknown-requires
+    add-at-2
+    loop-less-2
+    loop-again-2
     stopped-requires-3
     returns-3
+    first-unknown-requires
+    stopped-requires-4
+    returns-4
     schema-of-requires
-    returns-4)
+    returns-5)

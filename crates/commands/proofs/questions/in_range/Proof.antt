@@ -1,4 +1,4 @@
--- `commands::questions::in_range` meets its contract, command by command.
+-- `commands::questions::in_range` meets its contract.
 use borrow.Author.Needs.{needs}
 use Rattle.commands.proofs.questions.in_range.Statement.{statement}
 use Rattle.commands.proofs.questions.in_range.Tie as tie
@@ -24,6 +24,9 @@ enum-told c = search needs
 enum-told-2 : tie.Need-enum-told-2
 enum-told-2 c = search needs
 
+enum-told-3 : tie.Need-enum-told-3
+enum-told-3 c = search needs
+
 returns : tie.Need-returns
 returns c = rw (c .before .command .given .1)
 
@@ -45,6 +48,9 @@ returns-6 c = search needs
 returns-7 : tie.Need-returns-7
 returns-7 c = search needs
 
+returns-8 : tie.Need-returns-8
+returns-8 c = search needs
+
 pub in-range-spec : {M : Type 1} → statement M
 in-range-spec =
     tie.close
@@ -56,10 +62,12 @@ in-range-spec =
     enum-known-command-5
     enum-told
     enum-told-2
+    enum-told-3
     returns
     returns-2
     returns-3
     returns-4
     returns-5
     returns-6
-    returns-7)
+    returns-7
+    returns-8)

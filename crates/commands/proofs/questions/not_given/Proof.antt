@@ -1,7 +1,8 @@
--- `commands::questions::not_given` meets its contract, command by command.
+-- `commands::questions::not_given` meets its contract.
 use borrow.Author.Needs.{needs}
 use Rattle.commands.proofs.questions.not_given.Statement.{statement}
 use Rattle.commands.proofs.questions.not_given.Tie as tie
+use Rattle.schema.proofs.state_set.StateSet.has.Reads as has-reads
 
 enum-told : tie.Need-enum-told
 enum-told c = search needs
@@ -27,6 +28,9 @@ enum-told-5 c = search needs
 enum-told-6 : tie.Need-enum-told-6
 enum-told-6 c = search needs
 
+enum-told-7 : tie.Need-enum-told-7
+enum-told-7 c = search needs
+
 returns : tie.Need-returns
 returns c = search needs
 
@@ -48,6 +52,9 @@ returns-6 c = search needs
 returns-7 : tie.Need-returns-7
 returns-7 c = search needs
 
+returns-8 : tie.Need-returns-8
+returns-8 c = search needs
+
 pub not-given-spec : {M : Type 1} → statement M
 not-given-spec =
     tie.close
@@ -60,10 +67,12 @@ not-given-spec =
     enum-told-4
     enum-told-5
     enum-told-6
+    enum-told-7
     returns
     returns-2
     returns-3
     returns-4
     returns-5
     returns-6
-    returns-7)
+    returns-7
+    returns-8)

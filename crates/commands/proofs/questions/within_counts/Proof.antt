@@ -1,4 +1,4 @@
--- `commands::questions::within_counts` meets its contract, command by command.
+-- `commands::questions::within_counts` meets its contract.
 use borrow.Author.Needs.{needs}
 use Rattle.commands.proofs.questions.within_counts.Statement.{statement}
 use Rattle.commands.proofs.questions.within_counts.Tie as tie
@@ -24,6 +24,9 @@ enum-told-6 c = search needs
 enum-told-7 : tie.Need-enum-told-7
 enum-told-7 c = search needs
 
+enum-told-8 : tie.Need-enum-told-8
+enum-told-8 c = search needs
+
 returns : tie.Need-returns
 returns c = search needs
 
@@ -45,6 +48,9 @@ returns-6 c = search needs
 returns-7 : tie.Need-returns-7
 returns-7 c = search needs
 
+returns-8 : tie.Need-returns-8
+returns-8 c = search needs
+
 pub within-counts-spec : {M : Type 1} → statement M
 within-counts-spec =
     tie.close
@@ -56,10 +62,12 @@ within-counts-spec =
     enum-told-5
     enum-told-6
     enum-told-7
+    enum-told-8
     returns
     returns-2
     returns-3
     returns-4
     returns-5
     returns-6
-    returns-7)
+    returns-7
+    returns-8)

@@ -1,7 +1,6 @@
 -- `commands::tables::bound_after` meets its contract: only a STEP names a type.
 use Rattle.command.proofs.CaseLaws.{no-step}
 use Prim.Native.Nat.{_+_, _%_, max}
-use native.Mathlib.Omega.{arith}
 use Rattle.sdtd.specs.Limits.{mostTypes}
 use borrow.Author.Needs.{needs}
 use Rattle.commands.proofs.tables.bound_after.Statement.{statement}
@@ -16,16 +15,17 @@ cast-above c = search needs
 add-above : tie.Need-add-above
 add-above c = search needs
 
+larger-requires : tie.Need-larger-requires
+larger-requires c κs = search needs
+
 returns : tie.Need-returns
-returns c = rw (c .before .before .before .command .given .1) (omega arith)
+returns c = rw (c .before .before .before .command .given .1) (c .larger .ensures)
 
 returns-2 : tie.Need-returns-2
-returns-2 c = rw (c .before .before .before .command .given .1) (omega arith)
-
-returns-3 : tie.Need-returns-3
-returns-3 c =
+returns-2 c =
     let a = c .before .args in
     no-step (λ p j q. max (a .bound) (j % mostTypes + 1)) (a .bound) (a .command) (c .match .keys2)
 
 pub bound-after-spec : {M : Type 1} → statement M
-bound-after-spec = tie.close (tie.spec enum-known-command cast-above add-above returns returns-2 returns-3)
+bound-after-spec =
+    tie.close (tie.spec enum-known-command cast-above add-above larger-requires returns returns-2)

@@ -8,7 +8,8 @@ use borrow.Author.Needs.{needs}
 use lib.ListN.{length}
 use Rattle.sdtd.specs.Limits.{mostSteps}
 use Rattle.schema.specs.Value.{upFrom, stepAt, stepsOf}
-use Rattle.schema.specs.RowMaking.{putAll, countedStep, counted}
+use Rattle.schema.specs.Putting.{putAll}
+use Rattle.schema.specs.RowMaking.{countedStep, counted}
 use Rattle.schema.proofs.Rounds.{steps-left}
 use Rattle.schema.proofs.PuttingLaws.{Putting, put-part, put-none, counted-cons, counted-one}
 use Rattle.schema.proofs.rows.counted.Statement.{statement}

@@ -3,7 +3,7 @@ use mathlib.Core.Path.{refl, sym, _∙_}
 use native.Mathlib.Omega.{arith}
 use borrow.Author.Needs.{needs}
 use borrow.Author.Tests.{not-true, not-false}
-use Rattle.schema.specs.RowMaking.{putAll}
+use Rattle.schema.specs.Putting.{putAll}
 use Rattle.schema.proofs.rows.keep_step.Statement.{statement}
 use Rattle.schema.proofs.rows.keep_step.Tie as tie
 

@@ -8,7 +8,8 @@ use mir.Syntax.{w32}
 use mir.Val.{Fits as FitsIn}
 use Rattle.sdtd.specs.Limits.{mostStates, mostSteps}
 use Rattle.schema.specs.Value.{offset}
-use Rattle.schema.specs.RowMaking.{putAll, rowTables}
+use Rattle.schema.specs.Putting.{putAll}
+use Rattle.schema.specs.RowMaking.{rowTables}
 use Rattle.schema.proofs.LimitLaws.{Room, within-room}
 use Rattle.schema.proofs.Rounds.{offset-more, steps-fit}
 use Rattle.schema.proofs.FirstTables.{Fits}

@@ -8,7 +8,8 @@ use borrow.Author.Needs.{needs}
 use lib.ListN.{length, getD, take, drop}
 use lib.Seq.{drop-cons, drop-length, getD-take, length-take-le}
 use Rattle.sdtd.specs.Limits.{mostSteps}
-use Rattle.schema.specs.RowMaking.{putAll, picked}
+use Rattle.schema.specs.Putting.{putAll}
+use Rattle.schema.specs.RowMaking.{picked}
 use Rattle.schema.proofs.PuttingLaws.{Putting, put-part, put-none, picked-cons}
 use Rattle.schema.proofs.rows.pick.Statement.{statement}
 use Rattle.schema.proofs.rows.pick.Tie as tie

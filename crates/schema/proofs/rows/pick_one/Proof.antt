@@ -6,7 +6,8 @@ use native.Mathlib.Omega.{arith}
 use borrow.Author.Needs.{needs}
 use borrow.Author.Tests.{eq-eqb, ne-eqb}
 use Rattle.schema.specs.Rows.{fromIn}
-use Rattle.schema.specs.RowMaking.{putAll, picked}
+use Rattle.schema.specs.Putting.{putAll}
+use Rattle.schema.specs.RowMaking.{picked}
 use Rattle.schema.proofs.rows.pick_one.Statement.{statement}
 use Rattle.schema.proofs.rows.pick_one.Tie as tie
 

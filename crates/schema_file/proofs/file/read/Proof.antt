@@ -26,7 +26,7 @@ returns-2 c =
     as-refusal (c .refused2 .ensures)
     (commands-refused _ _ (omega arith) _ stop (c .before .before .before .before .read-commands .ensures))
 
--- questions 2 to 7 are passed
+-- questions 2 to 7 and 21 to 23 are passed
 stated : (c : tie.After-enum-told)
     → let r = c .before .before in
     Passed (r .before .before .before .before .args .file .now) (r .read-commands .result .schema)

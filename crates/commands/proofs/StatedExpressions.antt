@@ -1,0 +1,247 @@
+-- A TYPE with state count 0 that a file states has the automaton of the expression that follows it.
+use mathlib.Core.Path.{_≡_, refl, sym, ap, subst, _∙_}
+use mathlib.Core.Logic.{_≢_}
+use mathlib.Core.Bool.{Bool, true, false, cond}
+use mathlib.Core.List.{List, [], _∷_, _++_, map, reverse, reverse-reverse, append-nil, List·Memᴰ}
+use Prim.Native.Nat.{ℕ, zero, suc, _+_, _≤_, _<_}
+use native.Mathlib.Decide.{decLt}
+use native.Mathlib.Omega.{arith}
+use lib.Dec.{eqb}
+use borrow.Author.Tests.{eqb-true}
+use lib.ListN.{length, length-map}
+use Rattle.sdtd.specs.Limits.{mostTypes, mostStates}
+use Rattle.sdtd.proofs.Basics.{is-false}
+use Rattle.schema.specs.States.{member, members, membersBelow, noStates}
+use Rattle.expression.specs.Expression.{Expression as Exp}
+use Rattle.expression.specs.Automaton.{uses, named, AutomatonOf}
+use Rattle.expression.specs.Tests.{accepts, ofEach, allSteps, automaton}
+use Rattle.expression.specs.Content.{Name, whole, contentAt}
+use Rattle.expression.specs.Answer.{setOf}
+use Rattle.expression.proofs.SetLaws.{same-test}
+use Rattle.expression.proofs.TestSets.{member-set}
+use Rattle.expression.proofs.TestLaws.{accepts-below}
+use Rattle.expression.proofs.AutomatonLaws.{automaton-of}
+use Rattle.sdtd.specs.Schema.{Block, Schema}
+use Rattle.sdtd.specs.declared.Tag.{Tag}
+use Rattle.command.specs.Command.{commandAt, size}
+use Rattle.command.specs.declared.Command.{Command}
+use Rattle.command.specs.declared.Command.the-variants.{Tags, TypeBlock, Final, Step as StepCommand, Root, Done, Expression, NoCommand}
+use Rattle.sdtd.specs.Schema.{Step, step}
+use Rattle.commands.specs.Written.{ByExpression, Written}
+use Rattle.commands.specs.Questions.{rank}
+use Rattle.commands.specs.declared.progress.Phase.the-variants.{InBlock, InExpression}
+use Rattle.expression.proofs.WholeContents.{typesOf, TypesBelow, whole-content}
+use Rattle.commands.proofs.StatedLimits.{Each, each-none, each-more, each-turned, others, final-others, step-others, automaton-others, type-phase}
+use Rattle.commands.proofs.Passing.{Passed, ExpressionRead, kept-to-end}
+use Rattle.expression.proofs.UseTypes.{named-uses}
+use Rattle.commands.specs.File.{Draft, Stated, withFinal, withStep, after, withAutomaton, afterExpression, current}
+use Rattle.commands.specs.File.{states, commands, blockBy, schemaBy, StatesSchema}
+use Rattle.commands.proofs.LayingLaws.{each-last, each-same}
+
+-- where nothing is made of the numbers from a on, the first a make all
+each-first : {A : Type 0} (f : ℕ → List A) (a n : ℕ) → a ≤ n → ((k : ℕ) → a ≤ k → f k ≡ []) → ofEach f 0 n ≡ ofEach f 0 a
+each-first f a zero l none = ap (ofEach f 0) (omega arith)
+each-first f a (suc n) l none = elim (decLt n a) [
+  | yes h ↦ ap (ofEach f 0) (let e : suc n ≡ a = omega arith in e)
+  | no h ↦
+      let z : 0 + n ≡ n = omega arith in
+      (rw z at (each-last f 0 n)) ∙ rw (none n (omega arith)) (append-nil (ofEach f 0 n)) ∙ each-first f a n (omega arith) none
+]
+
+-- the states of a set, one by one
+members-each : (x n : ℕ) → membersBelow n x ≡ ofEach (λ q. cond (member q x) (q ∷ []) []) 0 n
+unfolding membersBelow ofEach
+members-each x zero = refl
+members-each x (suc n) =
+    let f : ℕ → List ℕ = λ q. cond (member q x) (q ∷ []) [] in
+    let z : 0 + n ≡ n = omega arith in
+    ap (λ (l : List ℕ). l ++ f n) (members-each x n) ∙ sym (rw z at (each-last f 0 n))
+
+-- the accepting states of an automaton
+accepting-same : (tag : ℕ) (e : Exp) → uses e < mostStates → members (setOf (accepts e) mostStates) ≡ automaton tag e .accepting
+accepting-same tag e l =
+    let f : ℕ → List ℕ = λ q. cond (accepts e q) (q ∷ []) [] in
+    members-each (setOf (accepts e) mostStates) mostStates
+    ∙ each-same (λ q. cond (member q (setOf (accepts e) mostStates)) (q ∷ []) []) f 0 mostStates (λ q a b.
+    let m = member-set (accepts e) mostStates q (omega arith) in
+    ap (λ (t : Bool). cond t (q ∷ []) []) (same-test (member q (setOf (accepts e) mostStates)) (accepts e q) (λ h. m .0 h .0) (λ h. m .1 (h, omega arith))))
+    ∙ each-first f (suc (uses e)) mostStates (omega arith)
+    (λ k a. rw (is-false (accepts e k) (λ t. omega (arith, accepts-below e k t))))
+
+-- the block that an expression leaves is its automaton
+pub automaton-block : (e : Exp) → uses e < mostStates → (d : Draft) (ds : List Draft)
+    → blockBy (current (withAutomaton e (d ∷ ds))) ≡ automaton (d .tag) e
+automaton-block e l d ds i =
+    record {
+      tag = d .tag;
+      states = suc (uses e);
+      accepting = accepting-same (d .tag) e l i;
+      steps = reverse-reverse (allSteps e) i;
+    }
+
+-- a block as the schema has it, begun by the TYPE at its place
+pub record DraftWritten (file : List ℕ) (d : Draft) : Type 0 where
+  pub tag : Tag
+  pub states : ℕ
+  pub begins : commandAt file (d .place) ≡ TypeBlock tag states
+  pub same-tag : d .tag ≡ tag .0
+  pub stands : states ≡ 0 → ByExpression file (d .place + 3) (blockBy d)
+
+-- the TYPE of the block that the file is in, of so many states
+record Begun (file : List ℕ) (d : Draft) (states : ℕ) : Type 0 where
+  tag : Tag
+  begins : commandAt file (d .place) ≡ TypeBlock tag states
+  same-tag : d .tag ≡ tag .0
+
+-- a block by states, whatever its accepting states and steps
+by-states : {file : List ℕ} {d : Draft} {k : ℕ} → Begun file d (suc k) → DraftWritten file d
+by-states {k = k} b =
+    record { tag = b .tag; states = suc k; begins = b .begins; same-tag = b .same-tag; stands = λ z. absurd (omega arith) }
+
+-- What holds of the blocks before the place i: each is written, but the one whose expression begins there.
+record AllWritten (file : List ℕ) (i : ℕ) (g : Stated) : Type 0 where
+  older : Each (DraftWritten file) (others (g .blocks))
+  whole : rank (g .phase) ≢ rank InExpression → Each (DraftWritten file) (g .blocks)
+  block : rank (g .phase) ≡ rank InBlock → (k : ℕ) × Begun file (current (g .blocks)) (suc k)
+  waits : rank (g .phase) ≡ rank InExpression → Begun file (current (g .blocks)) 0 × (i ≡ current (g .blocks) .place + 3)
+
+-- the types that it names are below the number of types
+types-below : (xs : List Name) → TypesBelow xs → Each (λ j. j < mostTypes) (typesOf xs)
+types-below [] h = each-none (λ j. j < mostTypes) [] refl
+types-below (x ∷ xs) h = each-more (λ j. j < mostTypes) (h .0) (types-below xs (h .1))
+
+-- the block that the file is in, with an accepting state or a step more
+module _ (file : List ℕ) where
+  final-begun : (q : ℕ) (ds : List Draft) (k : ℕ) → Begun file (current ds) k → Begun file (current (withFinal q ds)) k
+  final-begun q [] k b = b
+  final-begun q (d ∷ ds) k b = record { tag = b .tag; begins = b .begins; same-tag = b .same-tag }
+
+  step-begun : (s : Step) (ds : List Draft) (k : ℕ) → Begun file (current ds) k → Begun file (current (withStep s ds)) k
+  step-begun s [] k b = b
+  step-begun s (d ∷ ds) k b = record { tag = b .tag; begins = b .begins; same-tag = b .same-tag }
+
+  -- the blocks, the first of them by states
+  one-written : (ds : List Draft) {k : ℕ} → Begun file (current ds) (suc k) → Each (DraftWritten file) (others ds) → Each (DraftWritten file) ds
+  one-written [] b h = each-none (DraftWritten file) [] refl
+  one-written (d ∷ ds) b h = each-more (DraftWritten file) (by-states b) h
+
+  by-command : (i : ℕ) (g : Stated) (c : Command) → commandAt file i ≡ c → Passed g c → AllWritten file i g
+      → AllWritten file (i + size c) (after g i c)
+  unfolding after
+  by-command i g (Tags n) e p h =
+      record { older = h .older; whole = λ d. h .whole (omega arith); block = λ q. absurd (omega arith); waits = λ q. absurd (omega arith) }
+  by-command i g (TypeBlock t s) e p h =
+      let phase = type-phase s in
+      record {
+        older = h .whole (p .2);
+        whole = λ d. each-more (DraftWritten file)
+            (record { tag = t; states = s; begins = e; same-tag = refl; stands = λ z. absurd (omega (arith, phase .2 d)) })
+            (h .whole (p .2));
+        block = λ q. some-states s (phase .2 (λ z. omega arith)) (record { tag = t; begins = e; same-tag = refl });
+        waits = λ q. (waiting s q (record { tag = t; begins = e; same-tag = refl }), omega arith);
+      }
+    where
+      d : Draft
+      d = record { place = i; tag = t .0; states = s; accepting = noStates; steps = [] }
+
+      some-states : (n : ℕ) → 1 ≤ n → Begun file d n → (k : ℕ) × Begun file d (suc k)
+      some-states zero l b = absurd (omega arith)
+      some-states (suc n) l b = (n, b)
+
+      waiting : (n : ℕ) → rank (cond (eqb n 0) InExpression InBlock) ≡ rank InExpression → Begun file d n → Begun file d 0
+      waiting n q b = subst (Begun file d) (no-states n q) b
+        where
+          no-states : (n : ℕ) → rank (cond (eqb n 0) InExpression InBlock) ≡ rank InExpression → n ≡ 0
+          no-states n q = go (eqb n 0) (λ t. eqb-true n 0 t) q
+            where
+              go : (b : Bool) → (b ≡ true → n ≡ 0) → rank (cond b InExpression InBlock) ≡ rank InExpression → n ≡ 0
+              go true f q = f refl
+              go false f q = absurd (omega arith)
+  by-command i g (Final q) e p h =
+      let b = h .block (p .0) in
+      let older : Each (DraftWritten file) (others (withFinal q (g .blocks))) = rw (final-others q (g .blocks)) (h .older) in
+      record {
+        older = older;
+        whole = λ d. one-written (withFinal q (g .blocks)) (final-begun q (g .blocks) (suc (b .0)) (b .1)) older;
+        block = λ z. (b .0, final-begun q (g .blocks) (suc (b .0)) (b .1));
+        waits = λ z. absurd (omega arith);
+      }
+  by-command i g (StepCommand x j y) e p h =
+      let s = step x (j .0) y in
+      let b = h .block (p .0) in
+      let older : Each (DraftWritten file) (others (withStep s (g .blocks))) = rw (step-others s (g .blocks)) (h .older) in
+      record {
+        older = older;
+        whole = λ d. one-written (withStep s (g .blocks)) (step-begun s (g .blocks) (suc (b .0)) (b .1)) older;
+        block = λ z. (b .0, step-begun s (g .blocks) (suc (b .0)) (b .1));
+        waits = λ z. absurd (omega arith);
+      }
+  by-command i g (Root a) e p h =
+      record { older = h .older; whole = λ d. h .whole (p .2); block = λ q. absurd (omega arith); waits = λ q. absurd (omega arith) }
+  by-command i g Done e p h =
+      record { older = h .older; whole = λ d. h .whole (omega arith); block = λ q. absurd (omega arith); waits = λ q. absurd (omega arith) }
+  by-command i g (Expression x) e p h = absurd p
+  by-command i g NoCommand e p h = absurd p
+
+  -- the automaton in place of the block that waited for it
+  expression-written : (e : Exp) (ns : List Name) (p : ℕ) (ds : List Draft) → contentAt file (current ds .place + 3) ≡ whole e ns p
+      → Begun file (current ds) 0 → Each (DraftWritten file) (others ds) → Each (DraftWritten file) (withAutomaton e ds)
+  expression-written e ns p [] q b h = each-none (DraftWritten file) [] refl
+  expression-written e ns p (d ∷ ds) q b h =
+      let w = whole-content file (d .place + 3) q in
+      let few : uses e < mostStates = omega (arith, w .few, named-uses e, ap length (w .names), length-map ns (λ (x : Name). x .type)) in
+      let below : (j : ℕ) → List·Memᴰ j (named e) → j < mostTypes =
+      λ j m. types-below ns (w .types) j (subst (λ (l : List ℕ). List·Memᴰ j l) (sym (w .names)) m) in
+      each-more (DraftWritten file)
+      (record {
+        tag = b .tag;
+        states = 0;
+        begins = b .begins;
+        same-tag = b .same-tag;
+        stands = λ z.
+            record {
+              expression = e;
+              names = ns;
+              end = p;
+              read = q;
+              automaton = subst (AutomatonOf e) (sym (automaton-block e few d ds)) (automaton-of (d .tag) e below);
+            };
+      })
+      h
+
+  by-expression : (i : ℕ) (g : Stated) (e : Exp) (ns : List Name) (p : ℕ) → ExpressionRead file i g e ns p → AllWritten file i g
+      → AllWritten file (p + 1) (afterExpression g e ns)
+  by-expression i g e ns p r h =
+      let w = h .waits (r .phase) in
+      let content : contentAt file (current (g .blocks) .place + 3) ≡ whole e ns p = rw (w .1) at (r .content) in
+      record {
+        older = rw (automaton-others e (g .blocks)) (h .older);
+        whole = λ d. expression-written e ns p (g .blocks) content (w .0) (h .older);
+        block = λ q. absurd (omega arith);
+        waits = λ q. absurd (omega arith);
+      }
+
+-- Each block that a file states is written so.
+all-written : (file : List ℕ) {g : Stated} → commands file ≡ states g → Each (DraftWritten file) (g .blocks)
+all-written file e =
+    let r = kept-to-end file (record { by-command = by-command file; by-expression = by-expression file }) e
+    (record {
+      older = each-none (DraftWritten file) [] refl;
+      whole = λ d. each-none (DraftWritten file) [] refl;
+      block = λ q. absurd (omega arith);
+      waits = λ q. absurd (omega arith);
+    }) in
+    let end = r .phase in
+    r .holds .whole (omega arith)
+
+draft-block : {file : List ℕ} (d : Draft) → DraftWritten file d → Written file (blockBy d)
+draft-block d w =
+    record { place = d .place; tag = w .tag; states = w .states; begins = w .begins; same-tag = w .same-tag; stands = w .stands }
+
+-- "The accepted schema is the one that the file states": each block of a schema that a file states is begun by a TYPE of the file, and if
+-- that has state count 0 it has the automaton of the expression that follows.
+pub stated-written : {file : List ℕ} {S : Schema} → StatesSchema file S → (b : Block) → List·Memᴰ b (S .blocks) → Written file b
+unfolding schemaBy
+stated-written {file} {S} x b m =
+    let o : List·Memᴰ b (map blockBy (reverse (x .stated .blocks))) = subst (λ (R : Schema). List·Memᴰ b (R .blocks)) (sym (x .schema)) m in
+    each-turned (Written file) blockBy (x .stated .blocks) (λ d k. draft-block d (all-written file (x .passes) d k)) b o
