@@ -2,6 +2,7 @@
 //! the repository's top. Exit 1 if answers differ.
 mod documents;
 mod engine;
+mod expressions;
 mod made_up;
 mod measure;
 mod plot;

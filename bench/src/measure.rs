@@ -32,43 +32,52 @@ const MOST: usize = 200;
 const LEAST: usize = 20;
 const ROW: Duration = Duration::from_millis(900);
 
-/// What is asked of a row: the most microseconds of the proved call, and its highest ratio to the first contender beside it.
+/// What is asked of a row: the most microseconds of the proved call, and its highest ratios to the first contender beside it and to the second.
 #[derive(Clone, Copy, Default)]
 pub struct Asked {
     pub microseconds: Option<f64>,
     pub ratio: Option<f64>,
+    pub second: Option<f64>,
 }
 
 impl Asked {
     pub const NOTHING: Asked = Asked {
         microseconds: None,
         ratio: None,
+        second: None,
     };
 
     pub const fn microseconds(most: f64) -> Asked {
         Asked {
             microseconds: Some(most),
-            ratio: None,
+            ..Asked::NOTHING
         }
     }
 
     pub const fn ratio(most: f64) -> Asked {
         Asked {
-            microseconds: None,
             ratio: Some(most),
+            ..Asked::NOTHING
         }
     }
 
-    fn met(self, microseconds: f64, ratio: f64) -> bool {
-        self.microseconds.is_none_or(|most| microseconds <= most)
-            && self.ratio.is_none_or(|most| ratio <= most)
+    fn met(self, microseconds: f64, ratios: impl Iterator<Item = f64>) -> bool {
+        let asked = [self.ratio, self.second].into_iter();
+        let by_ratios = asked
+            .zip(ratios)
+            .all(|(most, ratio)| most.is_none_or(|most| ratio <= most));
+        self.microseconds.is_none_or(|most| microseconds <= most) && by_ratios
     }
 
     /// What a row says of it.
     fn text(self) -> String {
         let microseconds = self.microseconds.map(figure);
         let ratio = self.ratio.map(|most| format!("ratio {most}"));
-        let all: Vec<String> = microseconds.into_iter().chain(ratio).collect();
+        let second = self.second.map(|most| format!("the second {most}"));
+        let all: Vec<String> = [microseconds, ratio, second]
+            .into_iter()
+            .flatten()
+            .collect();
         if all.is_empty() {
             return String::new();
         }
@@ -169,7 +178,8 @@ pub fn row(what: &str, size: &str, times: &[Vec<f64>], asked: Asked) -> bool {
             print!(" {:>9} {ratio:>6.2}", figure(median(other)));
         }
     }
-    let met = asked.met(median(proved), ratio(proved, &others[0]));
+    let ratios = others.iter().map(|other| ratio(proved, other));
+    let met = asked.met(median(proved), ratios);
     println!("{}{}", if met { "" } else { "  OVER" }, asked.text());
     met
 }

@@ -1,5 +1,6 @@
 //! The schema file's call beside plain Rust of the same questions.
 use crate::engine;
+use crate::expressions;
 use crate::measure::{Asked, agree, heading, in_turn, row};
 use crate::random::Random;
 use crate::schemas::{
@@ -7,9 +8,9 @@ use crate::schemas::{
     single, small, wide,
 };
 use crate::witness::is_left_right;
-use plain::codes::{STEP, TYPE};
+use plain::codes::{CLOSE_BRACKET, END, OPEN_BRACKET, REPEAT, STEP, TYPE, USE};
 use plain::limits::WITNESS;
-use plain::{Schema, SchemaAnswer, check_schema, competes};
+use plain::{Schema, SchemaAnswer, check_schema, competes, schema_file::read};
 use std::hint::black_box;
 
 type Read = fn(&[u8], &mut [u8]) -> SchemaAnswer;
@@ -48,6 +49,7 @@ fn report(what: &str, files: &[Vec<u8>], leads: Leads, microseconds: Option<f64>
     let asked = Asked {
         microseconds,
         ratio: by_bytes.then_some(RATIO),
+        second: None,
     };
     let all = |read: Read, witness: &mut [u8]| {
         for file in files {
@@ -93,22 +95,85 @@ fn longest_files() -> bool {
     )
 }
 
+/// A row for a file with expressions: beside plain Rust the proved call on the file that states the same schema by states.
+fn expressed(what: &str, file: Vec<u8>, asked: Asked) -> bool {
+    let mut stated = Schema::BLANK;
+    read(&file, &mut stated).expect("the file states a schema");
+    let by_states = schema_file(&stated);
+    let once = |read: Read, file: &[u8], room: &mut [u8]| {
+        black_box(read(black_box(file), room));
+    };
+    let [mut ours, mut theirs, mut other] = [[0; WITNESS]; 3];
+    let times = in_turn(&mut [
+        &mut || once(engine::check_schema, &file, &mut ours),
+        &mut || once(check_schema, &file, &mut theirs),
+        &mut || once(engine::check_schema, &by_states, &mut other),
+    ]);
+    row(what, &file.len().to_string(), &times, asked);
+    agree(same(&file, WITNESS) && same(&by_states, WITNESS))
+}
+
+/// Content written as expressions.
+fn expression_files() -> bool {
+    heading(
+        "Schema files with expressions",
+        "bytes",
+        &["plain", "by states"],
+    );
+    let many = Asked::ratio(RATIO);
+    let one = Asked {
+        second: Some(1.0),
+        ..Asked::NOTHING
+    };
+    let mut same = expressed("64: a rack's, 6 steps", expressions::racks(), many);
+    same &= expressed("64: 5 uses, 12 steps", expressions::five_uses(), many);
+    same &= expressed("64: a row of 16 uses", expressions::rows(), many);
+    same &= expressed("one: a row of 31 uses", expressions::one_row(), one);
+    same &= expressed("one: 31 uses, 992 steps", expressions::any_order(), one);
+    let falling = expressions::any_order_falling();
+    same &= expressed("one: the same, types falling", falling, one);
+    let in_brackets = expressions::in_brackets();
+    same &= expressed("one: 31 uses in 16 brackets, 527 steps", in_brackets, one);
+    let empty = expressions::empty_sequences(16_000);
+    same &= expressed("one: 16,000 empty sequences", empty, Asked::NOTHING);
+    let empty = expressions::empty_brackets(8_000);
+    same & expressed("one: 8,000 empty brackets", empty, Asked::NOTHING)
+}
+
+/// One more than the highest number of a schema file.
+const NUMBERS: usize = 24;
+
 /// Files with a command more, bytes changed or an end cut off, most of them refused, to both readers. How many got each number.
-fn spoiled() -> Option<[u32; 10]> {
+fn spoiled() -> Option<[u32; NUMBERS]> {
     let mut random = Random(0x9E37_79B9_7F4A_7C15);
     let mut schemas = samples();
     schemas.extend([small(), layered(5), layered(64), mixed(8, 4)]);
-    let mut numbers = [0; 10];
+    let mut files: Vec<Vec<u8>> = schemas.iter().map(schema_file).collect();
+    files.extend([
+        expressions::five_uses(),
+        expressions::any_order(),
+        expressions::in_brackets(),
+    ]);
+    let mut numbers = [0; NUMBERS];
     for n in 0..40_000 {
-        let mut file = schema_file(&schemas[n % schemas.len()]);
+        let mut file = files[n % files.len()].clone();
         if random.below(4) == 0 {
-            let more: &[u8] = [&[TYPE, 0, 1][..], &[STEP, 0, 0, 0]][random.below(2) as usize];
+            let more: [&[u8]; 4] = [
+                &[TYPE, 0, 1],
+                &[STEP, 0, 0, 0],
+                &[TYPE, 0, 0, USE, 0, END],
+                &[TYPE, 0, 0, OPEN_BRACKET, USE, 1, CLOSE_BRACKET, REPEAT, END],
+            ];
             let root = file.len() - 3;
-            file.splice(root..root, more.iter().copied());
+            file.splice(root..root, more[random.below(4) as usize].iter().copied());
         }
         for _ in 0..random.below(3) {
             let at = random.below(file.len() as u64) as usize;
-            file[at] = random.byte(0x21);
+            file[at] = random.byte(0x41);
+        }
+        if random.below(8) == 0 {
+            let at = random.below(file.len() as u64) as usize;
+            file.insert(at, OPEN_BRACKET + random.byte(5));
         }
         if random.below(16) == 0 {
             file.truncate(random.below(file.len() as u64) as usize);
@@ -158,10 +223,13 @@ pub fn run() -> bool {
         let what = format!("steps grow: {steps} by 31 types, in one of {states} states");
         same &= one(&what, &mixed(states, targets));
     }
+    same &= expression_files();
     match spoiled() {
         Some(numbers) => println!(
-            "{} spoiled files: the same answers, and witnesses that are. Numbers 0 to 9: {numbers:?}",
-            numbers.iter().sum::<u32>()
+            "{} spoiled files: the same answers, and witnesses that are. Numbers 0 to 9: {:?}; 21 to 23: {:?}",
+            numbers.iter().sum::<u32>(),
+            &numbers[..10],
+            &numbers[21..]
         ),
         None => {
             println!("A SPOILED FILE'S ANSWERS DIFFER");

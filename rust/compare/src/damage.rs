@@ -1,12 +1,35 @@
 //! Damage to files: by commands, and by bytes.
 
 use crate::chance::Chance;
-use plain::codes::{CLOSE, DONE, FINAL, FINISH, OPEN, ROOT, STEP, TAGS, TYPE};
+use plain::codes::{
+    CLOSE, CLOSE_BRACKET, DONE, END, FINAL, FINISH, NEXT, OPEN, OPEN_BRACKET, REPEAT, ROOT, STEP,
+    TAGS, TYPE, USE,
+};
 use plain::limits::{MOST_STATES, MOST_STEPS, MOST_TYPES};
 
 /// Bytes at the edges of the file forms.
-const EDGES: [u8; 16] = [
-    0x00, 0x01, TAGS, TYPE, FINAL, STEP, ROOT, DONE, 0x20, OPEN, CLOSE, FINISH, 0x3F, 0x40, 0x80,
+const EDGES: [u8; 22] = [
+    0x00,
+    0x01,
+    TAGS,
+    TYPE,
+    FINAL,
+    STEP,
+    ROOT,
+    DONE,
+    0x20,
+    OPEN,
+    CLOSE,
+    FINISH,
+    OPEN_BRACKET,
+    CLOSE_BRACKET,
+    USE,
+    NEXT,
+    REPEAT,
+    0x35,
+    END,
+    0x40,
+    0x80,
     0xFF,
 ];
 
@@ -28,7 +51,7 @@ fn offsets(file: &[u8]) -> Vec<usize> {
     let mut place = 0;
     while place < file.len() {
         place += match file[place] {
-            TAGS | FINAL | ROOT => 2,
+            TAGS | FINAL | ROOT | USE => 2,
             TYPE => 3,
             STEP => 4,
             _ => 1,
@@ -44,7 +67,7 @@ fn commands(chance: &mut Chance, file: &mut Vec<u8>) {
     let pick = chance.below(count);
     let (start, end) = (offsets[pick], offsets[pick + 1]);
     let command = file[start..end].to_vec();
-    match chance.below(10) {
+    match chance.below(12) {
         // Again, at once or anywhere.
         0 => insert(file, end, &command),
         1 => insert(file, offsets[chance.below(count + 1)], &command),
@@ -63,6 +86,12 @@ fn commands(chance: &mut Chance, file: &mut Vec<u8>) {
         4..6 => unknown_type(chance, file, &offsets),
         6..8 => operand(chance, file, start, end),
         8 => too_many(chance, file, &offsets),
+        9..11 => {
+            let sign = chance.of(&[OPEN_BRACKET, CLOSE_BRACKET, USE, NEXT, REPEAT, END]);
+            let of = (sign == USE).then(|| chance.small(0..=5));
+            let inserted: Vec<u8> = [sign].into_iter().chain(of).collect();
+            insert(file, start, &inserted);
+        }
         _ => {
             let any = [
                 chance.small(TAGS..=ROOT),
@@ -80,14 +109,15 @@ fn insert(file: &mut Vec<u8>, place: usize, bytes: &[u8]) {
     file.splice(place..place, bytes.iter().copied());
 }
 
-/// A STEP, or several, by a type that may not have been given.
+/// A STEP or a use, or several, of a type that may not have been given.
 fn unknown_type(chance: &mut Chance, file: &mut [u8], offsets: &[usize]) {
-    let steps: Vec<usize> = offsets
-        .iter()
-        .copied()
-        .filter(|&place| file.get(place) == Some(&STEP))
-        .collect();
-    if steps.is_empty() {
+    let named = |&place: &usize| match file.get(place) {
+        Some(&STEP) => Some(place + 2),
+        Some(&USE) => Some(place + 1),
+        _ => None,
+    };
+    let named: Vec<usize> = offsets.iter().filter_map(named).collect();
+    if named.is_empty() {
         return;
     }
     for _ in 0..chance.within(1..=2) {
@@ -96,7 +126,7 @@ fn unknown_type(chance: &mut Chance, file: &mut [u8], offsets: &[usize]) {
         } else {
             chance.small(50..=64)
         };
-        file[chance.of(&steps) + 2] = by;
+        file[chance.of(&named)] = by;
     }
 }
 

@@ -6,6 +6,7 @@ mod calls;
 mod chance;
 mod damage;
 mod documents;
+mod expressions;
 mod far_words;
 mod guide;
 mod input;

@@ -1,7 +1,9 @@
 //! A schema as the generators keep it, and its file.
 
 use crate::chance::Chance;
-use plain::codes::{DONE, FINAL, ROOT, STEP, TAGS, TYPE};
+use plain::codes::{DONE, END, FINAL, ROOT, STEP, TAGS, TYPE, USE};
+use plain::limits::MOST_TYPES;
+use plain::{Schema, schema_file};
 
 #[derive(Debug, Clone)]
 pub struct Model {
@@ -16,6 +18,9 @@ pub struct Type {
     pub states: u8,
     pub accepting: Vec<u8>,
     pub steps: Vec<Step>,
+    /// The expression that the content is written as, without its end; the automaton is what it
+    /// becomes, or has one state and nothing else where it is refused.
+    pub content: Option<Vec<u8>>,
 }
 
 #[derive(Debug, Clone, Copy, PartialEq, Eq, PartialOrd, Ord)]
@@ -32,7 +37,37 @@ impl Type {
             states,
             accepting: vec![],
             steps: vec![],
+            content: None,
         }
+    }
+
+    pub fn with_content(tag: u8, text: Vec<u8>) -> Self {
+        let mut block = Type::new(tag, 1);
+        block.set_content(text);
+        block
+    }
+
+    fn set_content(&mut self, text: Vec<u8>) {
+        let mut file = vec![TAGS, 1, TYPE, 0, 0];
+        file.extend(&text);
+        file.push(END);
+        file.extend([TYPE, 0, 0, END].repeat(MOST_TYPES - 1));
+        file.extend([ROOT, 0, DONE]);
+        let mut schema = Schema::BLANK;
+        *self = Type::new(self.tag, 1);
+        if schema_file::read(&file, &mut schema).is_ok() {
+            self.states = schema.states[0];
+            self.accepting = schema.accepting[0].iter().collect();
+            let steps = schema.steps_at(schema.block(0));
+            self.steps = steps
+                .map(|step| Step {
+                    from: step.from,
+                    by: step.by,
+                    to: step.to,
+                })
+                .collect();
+        }
+        self.content = Some(text);
     }
 
     pub fn leaf(tag: u8) -> Self {
@@ -67,7 +102,8 @@ impl Type {
 }
 
 impl Model {
-    /// Gives the types other numbers, and the states other than the start as well.
+    /// Gives the types other numbers, and where there is no expression the states other than the
+    /// start as well.
     pub fn renumber(&mut self, chance: &mut Chance) {
         let mut numbers: Vec<u8> = (0..self.types.len() as u8).collect();
         chance.shuffle(&mut numbers);
@@ -81,6 +117,18 @@ impl Model {
             .collect();
         self.root = numbers[usize::from(self.root)];
         for block in &mut self.types {
+            if let Some(mut text) = block.content.take() {
+                let mut place = 0;
+                while place < text.len() {
+                    if text[place] == USE {
+                        place += 1;
+                        text[place] = numbers[usize::from(text[place])];
+                    }
+                    place += 1;
+                }
+                block.set_content(text);
+                continue;
+            }
             let mut states: Vec<u8> = (0..block.states).collect();
             chance.shuffle(&mut states[1..]);
             for state in &mut block.accepting {
@@ -101,6 +149,12 @@ impl Model {
     pub fn file(&self, chance: &mut Chance) -> Vec<u8> {
         let mut file = vec![TAGS, self.tags];
         for block in &self.types {
+            if let Some(text) = &block.content {
+                file.extend([TYPE, block.tag, 0]);
+                file.extend(text);
+                file.push(END);
+                continue;
+            }
             file.extend([TYPE, block.tag, block.states]);
             let finals = block
                 .accepting

@@ -1,6 +1,7 @@
 //! Random schemas: many that are accepted, many that compete, some that bear no tree.
 
 use crate::chance::Chance;
+use crate::expressions;
 use crate::far_words;
 use crate::guide::{Guide, NEVER};
 use crate::model::{Model, Step, Type};
@@ -37,7 +38,8 @@ const LIMITS: Size = Size {
 /// A schema, within the limits but for a step or two now and then.
 pub fn schema(chance: &mut Chance) -> Model {
     let size = size(chance);
-    let mut model = match chance.below(100) {
+    let mut model = match chance.below(130) {
+        100.. => expressions::schema(chance),
         0..36 => by_tag(chance, size),
         36..58 => any(chance, size),
         58..66 => one_type_a_tag(chance, size),

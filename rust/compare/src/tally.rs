@@ -5,10 +5,10 @@ use std::fmt;
 use crate::input::Input;
 use crate::side_by_side::Answers;
 use plain::Job;
-use plain::questions::{COMPETITION, FINISHED, NO_ROOM, NONE};
+use plain::questions::{CANNOT_FOLLOW, COMPETITION, FINISHED, NO_ROOM, NONE, TOO_MANY_BRACKETS};
 
-/// How many numbers a schema file and an event file are answered with, 0 among them.
-const SCHEMAS: usize = COMPETITION as usize + 1;
+/// One more than the highest number that a schema file and an event file are answered with.
+const SCHEMAS: usize = TOO_MANY_BRACKETS as usize + 1;
 const EVENTS: usize = NO_ROOM as usize + 1;
 
 #[derive(Debug, Clone, Default)]
@@ -61,7 +61,8 @@ impl Tally {
 
     /// The answers of schema files and event files, with how often each came up.
     pub fn numbers(&self) -> impl Iterator<Item = (&'static str, usize, u64)> {
-        let schemas = (0..SCHEMAS).map(|number| ("schema", number, self.schemas[number]));
+        let schemas = (0..=usize::from(COMPETITION)).chain(usize::from(CANNOT_FOLLOW)..SCHEMAS);
+        let schemas = schemas.map(|number| ("schema", number, self.schemas[number]));
         let events = std::iter::once(usize::from(NONE)).chain(usize::from(FINISHED)..EVENTS);
         schemas.chain(events.map(|number| ("events", number, self.events[number])))
     }

@@ -128,6 +128,98 @@ fn files_cut_at_every_byte() {
     }
 }
 
+/// Type 0 by this expression, and 31 leaves of tags of their own.
+fn over_leaves(text: &[u8]) -> Vec<u8> {
+    let mut schema = vec![0x10, 32, 0x11, 0, 0];
+    schema.extend(text);
+    schema.push(0x3F);
+    schema.extend((1..32).flat_map(|tag| [0x11, tag, 0, 0x3F]));
+    schema.extend([0x14, 0, 0x1F]);
+    schema
+}
+
+/// Number and place of type 0 by this expression, which may be wrong.
+fn expression(text: &[u8]) -> (u8, usize) {
+    both(&over_leaves(text), &[], WITNESS, 0).schema
+}
+
+#[test]
+fn every_expression_of_few_commands() {
+    let signs: [&[u8]; 5] = [&[0x30], &[0x31], &[0x32, 1], &[0x33], &[0x34]];
+    let mut texts = vec![vec![]];
+    for _ in 0..6 {
+        texts = texts
+            .iter()
+            .flat_map(|text| signs.map(|sign| [text, sign].concat()))
+            .collect();
+        let taken = texts.iter().filter(|text| expression(text).0 == 0).count();
+        assert!(0 < taken && taken < texts.len());
+    }
+}
+
+#[test]
+fn expressions_cut_at_every_byte() {
+    // ((1 | 2)* (3 |))* 4
+    let text = [
+        0x30, 0x30, 0x32, 1, 0x33, 0x32, 2, 0x31, 0x34, 0x30, 0x32, 3, 0x33, 0x31, 0x31, 0x34,
+        0x32, 4,
+    ];
+    let schema = over_leaves(&text);
+    for end in 0..schema.len() {
+        assert_eq!(both(&schema[..end], &[], WITNESS, 0).schema.0, 2);
+    }
+    assert_eq!(both(&schema, &[], WITNESS, 0).schema, (0, 0));
+}
+
+#[test]
+fn uses_and_brackets_at_their_limits() {
+    let uses = |count: u8| {
+        let uses = (0..count).flat_map(|n| [0x32, 1 + n % 31, 0x34]);
+        expression(&uses.collect::<Vec<u8>>())
+    };
+    assert_eq!((uses(31), uses(32)), ((0, 0), (22, 5 + 3 * 31)));
+    let deep = |depth| expression(&[vec![0x30; depth], vec![0x31; depth]].concat());
+    assert_eq!((deep(16), deep(17)), ((0, 0), (23, 5 + 16)));
+}
+
+#[test]
+fn steps_of_expressions_at_their_limit() {
+    // Each of 31 uses may follow each.
+    let mut any = vec![0x30];
+    any.extend((1..32).flat_map(|of| [0x32, of, 0x33]));
+    any.extend([0x31, 0x34]);
+    for steps in 30..35 {
+        let mut schema = over_leaves(&any);
+        schema.truncate(schema.len() - 3);
+        schema.extend([0x11, 0, 32]);
+        schema.extend((0..steps.min(32)).flat_map(|to| [0x13, 0, 0, to]));
+        schema.extend([0x11, 0, 0, 0x32, 1]);
+        let place = schema.len();
+        schema.extend([0x3F, 0x14, 0, 0x1F]);
+        let expected = if steps < 32 { (0, 0) } else { (5, place) };
+        assert_eq!(both(&schema, &[], WITNESS, 0).schema, expected);
+    }
+}
+
+#[test]
+fn expressions_of_many_bytes() {
+    let parts: [&[u8]; 4] = [
+        &[0x33],
+        &[0x30, 0x31],
+        &[0x30, 0x31, 0x34],
+        &[0x30, 0x33, 0x31],
+    ];
+    for part in parts {
+        let many = part.repeat(300_000);
+        assert_eq!(expression(&many), (0, 0));
+        let then = |more: &[u8]| expression(&[&many, more].concat());
+        let place = 5 + many.len();
+        assert_eq!(then(&[0x32, 63]), (7, place));
+        assert_eq!(then(&[0x32, 64]), (4, place));
+        assert_eq!(then(&[0x31]), (21, place));
+    }
+}
+
 #[test]
 fn slices_of_no_bytes() {
     assert_eq!(typestock::check_schema(&[], &mut []).number, 1);

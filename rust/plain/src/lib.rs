@@ -1,15 +1,16 @@
 //! Typing of tagged documents as they open, in plain Rust.
 //!
-//! A schema file states tags, types and a content automaton for each type. If no two types compete,
-//! each element of a document gets its type at its opening tag. This crate is written from the
-//! document that describes the files and answers, and shares no code with the engine: it is what the
-//! engine is compared with, and what its time is measured against.
+//! A schema file states tags, types and a content automaton for each type, or an expression that
+//! becomes one. If no two types compete, each element of a document gets its type at its opening tag.
+//! This crate is written from the documents that describe the files and answers, and shares no code
+//! with the engine: it is what the engine is compared with, and what its time is measured against.
 #![forbid(unsafe_code)]
 
 pub mod codes;
 pub mod competition;
 pub mod event_file;
 pub mod event_file_by_steps;
+mod expression;
 pub mod limits;
 mod program;
 pub mod questions;
@@ -98,7 +99,7 @@ pub fn competes(schema: &[u8], witness: &Witness) -> bool {
     has_documents && competition::confirm(&stated, &trimming, witness)
 }
 
-/// Questions 1 to 9: reads the schema that the file states into a blank one, if it is accepted.
+/// Questions 1 to 9 and 21 to 23: reads the schema that the file states into a blank one, if it is accepted.
 fn accept(file: &[u8], witness: &mut [u8], schema: &mut Schema) -> Result<(), Refusal> {
     let at_start = |number| Refusal { number, place: 0 };
     if witness.len() < WITNESS {

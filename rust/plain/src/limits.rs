@@ -12,6 +12,12 @@ pub const MOST_TYPES: usize = 64;
 pub const MOST_STATES: usize = 32;
 pub const MOST_STEPS: usize = 1024;
 
+/// The most uses of types in an expression; state 0 is the automaton's other state.
+pub const MOST_USES: usize = MOST_STATES - 1;
+
+/// The most brackets of an expression that are open at once.
+pub const MOST_BRACKETS: usize = 16;
+
 /// The most elements that are open at once.
 pub const MOST_OPEN: usize = 64;
 

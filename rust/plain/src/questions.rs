@@ -1,4 +1,4 @@
-//! The numbers of document 01's questions. A refusal answers that of the first question answered no.
+//! The numbers of document 01's questions and of document 02's 21 to 23. A refusal answers that of the first question answered no.
 
 /// A question's number.
 pub type Number = u8;
@@ -31,6 +31,11 @@ pub const ROOT_NOT_CLOSED: Number = 18;
 // An event file's.
 pub const NO_EVENT: Number = 19;
 pub const NO_ROOM: Number = 20;
+
+// An expression's in a schema file, after OUT_OF_RANGE.
+pub const CANNOT_FOLLOW: Number = 21;
+pub const TOO_MANY_USES: Number = 22;
+pub const TOO_MANY_BRACKETS: Number = 23;
 
 /// The question's number if the answer is no.
 #[inline]

@@ -1,6 +1,9 @@
-//! The schema file: its commands and the questions 2 to 7.
+//! The schema file: its commands and the questions 2 to 7, and those of expressions.
 
-use crate::codes::{DONE, FINAL, ROOT, STEP, TAGS, TYPE};
+use crate::codes::{
+    CLOSE_BRACKET, DONE, END, FINAL, NEXT, OPEN_BRACKET, REPEAT, ROOT, STEP, TAGS, TYPE, USE,
+};
+use crate::expression::Reader;
 use crate::limits::{MOST_STATES, MOST_STEPS, MOST_TAGS, MOST_TYPES, State, Tag, Type};
 use crate::questions::{
     NO_COMMAND, Number, OUT_OF_ORDER, OUT_OF_RANGE, REPEATED, TOO_MANY, UNKNOWN_TYPE, ask,
@@ -14,6 +17,7 @@ pub struct Refusal {
     pub place: usize,
 }
 
+/// A command; of those that stand in expressions no more than that it is one.
 #[derive(Debug, Clone, Copy)]
 enum Command {
     Tags { count: u8 },
@@ -22,6 +26,7 @@ enum Command {
     Step(Step),
     Root { of: Type },
     Done,
+    OfExpression,
 }
 
 /// The command that these bytes begin with, and its length.
@@ -34,8 +39,17 @@ fn command(bytes: &[u8]) -> Option<(Command, usize)> {
         [STEP, from, by, to, ..] => Some((Command::Step(Step { from, by, to }), 4)),
         [ROOT, of, ..] => Some((Command::Root { of }, 2)),
         [DONE, ..] => Some((Command::Done, 1)),
+        [USE, _, ..] => Some((Command::OfExpression, 2)),
+        [OPEN_BRACKET | CLOSE_BRACKET | NEXT | REPEAT | END, ..] => {
+            Some((Command::OfExpression, 1))
+        }
         _ => None,
     }
+}
+
+/// Do these bytes begin with a command?
+pub(crate) fn is_command(bytes: &[u8]) -> bool {
+    command(bytes).is_some()
 }
 
 /// Reads the schema that a file states into a blank one.
@@ -44,7 +58,8 @@ pub fn read(file: &[u8], schema: &mut Schema) -> Result<(), Refusal> {
         phase: Phase::Start,
         schema,
         steps: 0,
-        named: [NOWHERE; MOST_TYPES],
+        named: Named([NOWHERE; MOST_TYPES]),
+        reader: None,
     };
     let mut place = 0;
     while draft.phase != Phase::Done {
@@ -52,6 +67,9 @@ pub fn read(file: &[u8], schema: &mut Schema) -> Result<(), Refusal> {
         let (command, length) = command(&file[place..]).ok_or(refused(NO_COMMAND))?;
         draft.take(command, place).map_err(refused)?;
         place += length;
+        if let Command::Type { states: 0, .. } = command {
+            place = draft.take_expression(file, place)?;
+        }
     }
     if place < file.len() {
         let number = OUT_OF_ORDER;
@@ -66,12 +84,14 @@ pub fn read(file: &[u8], schema: &mut Schema) -> Result<(), Refusal> {
     }
 }
 
-/// Which commands may come: TAGS, a TYPE, what stands in a block or after it, DONE, none.
+/// Which commands may come: TAGS, a TYPE, what stands in a block or after it, what stands after an
+/// expression, DONE, none.
 #[derive(Debug, Clone, Copy, PartialEq, Eq)]
 enum Phase {
     Start,
     Tags,
     Blocks,
+    Expression,
     Root,
     Done,
 }
@@ -82,12 +102,24 @@ struct Draft<'s> {
     schema: &'s mut Schema,
     /// The steps of all blocks so far.
     steps: usize,
-    /// For each type the place of the first STEP that names it.
-    named: [usize; MOST_TYPES],
+    named: Named,
+    /// From the first expression on.
+    reader: Option<Reader>,
 }
 
-/// The place of a STEP that no file has.
+/// For each type the place of the first STEP or use that names it.
+pub(crate) struct Named([usize; MOST_TYPES]);
+
+/// The place of a command that no file has.
 const NOWHERE: usize = usize::MAX;
+
+impl Named {
+    #[inline]
+    pub(crate) fn put(&mut self, of: Type, place: usize) {
+        let first = &mut self.0[usize::from(of)];
+        *first = place.min(*first);
+    }
+}
 
 impl Draft<'_> {
     /// Takes the command at a place, or answers the number of its refusal.
@@ -105,26 +137,29 @@ impl Draft<'_> {
     fn in_order(&self, command: Command) -> bool {
         match command {
             Command::Tags { .. } => self.phase == Phase::Start,
-            Command::Type { .. } => matches!(self.phase, Phase::Tags | Phase::Blocks),
-            Command::Final { .. } | Command::Step(_) | Command::Root { .. } => {
-                self.phase == Phase::Blocks
+            Command::Type { .. } => {
+                matches!(self.phase, Phase::Tags | Phase::Blocks | Phase::Expression)
             }
+            Command::Final { .. } | Command::Step(_) => self.phase == Phase::Blocks,
+            Command::Root { .. } => matches!(self.phase, Phase::Blocks | Phase::Expression),
             Command::Done => self.phase == Phase::Root,
+            Command::OfExpression => false,
         }
     }
 
     #[inline]
     fn in_range(&self, command: Command) -> bool {
-        let up_to = |count: u8, most: usize| (1..=most).contains(&usize::from(count));
         match command {
-            Command::Tags { count } => up_to(count, MOST_TAGS),
-            Command::Type { tag, states } => tag < self.schema.tags && up_to(states, MOST_STATES),
+            Command::Tags { count } => (1..=MOST_TAGS).contains(&usize::from(count)),
+            Command::Type { tag, states } => {
+                tag < self.schema.tags && usize::from(states) <= MOST_STATES
+            }
             Command::Final { state } => state < self.states(),
             Command::Step(Step { from, by, to }) => {
                 from < self.states() && usize::from(by) < MOST_TYPES && to < self.states()
             }
             Command::Root { of } => of < self.schema.types,
-            Command::Done => true,
+            Command::Done | Command::OfExpression => true,
         }
     }
 
@@ -167,7 +202,31 @@ impl Draft<'_> {
                 self.phase = Phase::Root;
             }
             Command::Done => self.phase = Phase::Done,
+            Command::OfExpression => {}
         }
+    }
+
+    /// Takes the expression that begins at a place, as the content of the type whose block is being
+    /// read; the place after it.
+    #[inline(never)]
+    fn take_expression(&mut self, file: &[u8], place: usize) -> Result<usize, Refusal> {
+        let of = self.block();
+        let reader = self.reader.get_or_insert_with(Reader::new);
+        let (content, end) = reader.read(file, place, &mut self.named)?;
+        let steps = content.count();
+        let fits = self.steps + steps <= MOST_STEPS;
+        ask(TOO_MANY, fits).map_err(|number| Refusal { number, place: end })?;
+        self.schema.states[of] = content.states();
+        self.schema.accepting[of] = content.accepting();
+        self.schema.steps[of] = steps as u16;
+        content.for_each_step(|Step { from, by, to }| {
+            self.schema.from[self.steps] = from;
+            self.schema.by[self.steps] = by;
+            self.schema.to[self.steps] = to;
+            self.steps += 1;
+        });
+        self.phase = Phase::Expression;
+        Ok(end + 1)
     }
 
     #[inline]
@@ -186,8 +245,7 @@ impl Draft<'_> {
         self.schema.to[self.steps] = to;
         self.schema.steps[self.block()] += 1;
         self.steps += 1;
-        let named = &mut self.named[usize::from(by)];
-        *named = place.min(*named);
+        self.named.put(by, place);
     }
 
     /// The type whose block is being read.
@@ -202,9 +260,9 @@ impl Draft<'_> {
         self.schema.states[self.block()]
     }
 
-    /// The place of the first STEP that names a type that was not given.
+    /// The place of the first STEP or use that names a type that was not given.
     fn first_unknown(&self) -> usize {
-        let unknown = &self.named[usize::from(self.schema.types)..];
+        let unknown = &self.named.0[usize::from(self.schema.types)..];
         unknown.iter().copied().min().unwrap_or(NOWHERE)
     }
 }

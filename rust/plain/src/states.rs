@@ -29,6 +29,10 @@ impl States {
         self.meets(States::START)
     }
 
+    pub const fn without_start(self) -> Self {
+        States(self.0 & !States::START.0)
+    }
+
     pub const fn meets(self, other: Self) -> bool {
         self.0 & other.0 != 0
     }
