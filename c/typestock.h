@@ -29,25 +29,38 @@ extern "C" {
 /* The least length of a witness buffer: with fewer bytes every schema is refused with TYPESTOCK_SHORT_WITNESS. */
 #define TYPESTOCK_WITNESS 532
 
-/* The greatest length of an accepted schema file. */
+/*
+ * The greatest length of an accepted schema file with one ROOT and only the commands 10 to 14 and 1F. One with expressions may be longer:
+ * an expression has no largest length.
+ */
 #define TYPESTOCK_LONGEST_SCHEMA 8389
 
 /* The most levels that may be open in a document. */
 #define TYPESTOCK_LEVELS 64
 
 /*
- * The answers to a schema file: the number of the first question that is answered no, with the place of the command in question.
+ * The answers to a schema file: the number of the first question that is answered no, with the place of the command in question. Each command
+ * in turn is asked 2, 3, 4, 21, 22, 23, 5 and 6, in this order; after the last come 7, 8 and 9.
+ *
+ * The content of a type is given by states, with FINAL and STEP, or, after a TYPE with state count 0, by an expression: 32 and a type is a use of
+ * that type, what stands side by side comes in that order, 33 divides what is chosen from, 30 and 31 are brackets, 34 repeats the use or
+ * the brackets before it zero or more times, and 3F ends the expression. Both may stand in one file. docs/FORMATS.md says what it becomes.
  */
 #define TYPESTOCK_ACCEPTED 0        /* accepted; place 0 */
 #define TYPESTOCK_SHORT_WITNESS 1   /* the witness buffer has fewer than 532 bytes; place 0 */
-#define TYPESTOCK_NO_COMMAND 2      /* none of the six commands, or its operands run past the end; an unfinished file: at its length */
-#define TYPESTOCK_OUT_OF_ORDER 3    /* a command out of its order; a byte after DONE: at that byte */
+#define TYPESTOCK_NO_COMMAND 2      /* no command, or its operands run past the end; an unfinished file: at its length */
+#define TYPESTOCK_OUT_OF_ORDER 3    /* a command out of its order: also one of an expression outside, any other inside; a byte after DONE:
+                                       at that byte */
 #define TYPESTOCK_OUT_OF_RANGE 4    /* an operand out of range */
-#define TYPESTOCK_TOO_MANY 5        /* a 65th type or a 1,025th step */
+#define TYPESTOCK_TOO_MANY 5        /* a 65th type or a 1,025th step; for an expression's steps at its 3F */
 #define TYPESTOCK_REPEATED 6        /* a FINAL or STEP that its block already has */
-#define TYPESTOCK_UNKNOWN_TYPE 7    /* a STEP by a type that was not given; the first such */
+#define TYPESTOCK_UNKNOWN_TYPE 7    /* a STEP or a 32 with a type that was not given; the first such in the file */
 #define TYPESTOCK_NO_TREE 8         /* the root type bears no tree; place 0 */
 #define TYPESTOCK_COMPETITION 9     /* two types compete, as the witness shows; place 0 */
+#define TYPESTOCK_CANNOT_FOLLOW 21  /* in an expression, a 31 with no bracket open, a 34 that is not right after a 32 or a 31, or a 3F with
+                                       a bracket open */
+#define TYPESTOCK_TOO_MANY_USES 22  /* a 32nd use in one expression */
+#define TYPESTOCK_TOO_MANY_BRACKETS 23 /* a 17th bracket open in an expression */
 
 /*
  * The answers to an event file: the number of the first question that is answered no, with the place of the event in question.
@@ -67,7 +80,7 @@ extern "C" {
 
 /* A schema file's answer. */
 struct typestock_schema {
-    uint8_t number; /* TYPESTOCK_ACCEPTED to TYPESTOCK_COMPETITION */
+    uint8_t number; /* TYPESTOCK_ACCEPTED to TYPESTOCK_COMPETITION, or TYPESTOCK_CANNOT_FOLLOW to TYPESTOCK_TOO_MANY_BRACKETS */
     size_t place;   /* where a refused file is refused; 0 for an accepted one */
 };
 

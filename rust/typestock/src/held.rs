@@ -1,13 +1,16 @@
-//! What is tested of each answer before it is handed on: that it is one of document 01's for what was asked.
+//! What is tested of each answer before it is handed on: that it is one of document 01's, or of document 02's 21 to 23, for what was asked.
 use crate::{foreign, witness, WITNESS};
 
 /// Types are below this.
 pub const TYPES: u8 = 64;
 
-/// A schema file's: 0 to 9; 1 exactly with a short buffer; the place inside the file, at its end for 2 alone, 0 where no command is in
-/// question; on 9 a witness.
+/// A schema file's: 0 to 9 or 21 to 23; 1 exactly with a short buffer; the place inside the file, at its end for 2 alone, 0 where no command
+/// is in question; on 9 a witness.
 pub fn schema(number: u8, place: usize, length: usize, buffer: &[u8]) {
-    assert!(number <= 9, "typestock: no schema's answer is {number}");
+    assert!(
+        matches!(number, 0..=9 | 21..=23),
+        "typestock: no schema's answer is {number}"
+    );
     assert!(
         (number == 1) == (buffer.len() < WITNESS),
         "typestock: a schema was answered {number} with a witness buffer of {} bytes",
@@ -15,7 +18,7 @@ pub fn schema(number: u8, place: usize, length: usize, buffer: &[u8]) {
     );
     let fits = match number {
         2 => place <= length,
-        3..=7 => place < length,
+        3..=7 | 21..=23 => place < length,
         _ => place == 0,
     };
     assert!(
@@ -117,6 +120,8 @@ mod tests {
         schema(2, 10, 10, &buffer);
         schema(7, 9, 10, &buffer);
         schema(9, 0, 10, &competing);
+        schema(21, 9, 10, &buffer);
+        schema(23, 0, 10, &buffer);
         for (number, place) in [
             (0, 1),
             (2, 11),
@@ -125,6 +130,10 @@ mod tests {
             (8, 3),
             (9, 1),
             (10, 0),
+            (20, 0),
+            (21, 10),
+            (23, 10),
+            (24, 0),
             (255, 0),
         ] {
             breach(move || schema(number, place, 10, &competing));

@@ -12,6 +12,14 @@
 //! assert_eq!(job, typestock::Job::EventsRead { number: 0, place: 5, count: 1 });
 //! assert_eq!(types[0], 0);
 //! ```
+//!
+//! A type's content may be written as an expression too:
+//!
+//! ```
+//! let schema = b"\x10\x01\x11\x00\x00\x32\x00\x34\x3f\x14\x00\x1f"; // one tag, one type, which has children of its own type: 0*
+//! let answer = typestock::check_schema(schema, &mut [0; typestock::WITNESS]);
+//! assert_eq!(answer, typestock::SchemaAnswer { number: 0, place: 0 });
+//! ```
 #[cfg(not(all(target_arch = "x86_64", target_os = "linux")))]
 compile_error!("libtypestock_c.a is for x86-64 Linux");
 
@@ -21,7 +29,8 @@ mod held;
 /// The least length of a witness buffer: with fewer bytes every schema is refused with 1.
 pub const WITNESS: usize = 532;
 
-/// A schema file's answer: 0 and 0 for an accepted one, else the number of the first question answered no, 1 to 9, and its place.
+/// A schema file's answer: 0 and 0 for an accepted one, else the number of the first question answered no, 1 to 9 or 21 to 23, and its place.
+/// 21 to 23 are of content written as an expression: a command that cannot follow there, a 32nd use, a 17th bracket. docs/FORMATS.md has them all.
 #[derive(Debug, Clone, Copy, PartialEq, Eq)]
 pub struct SchemaAnswer {
     pub number: u8,
@@ -39,8 +48,8 @@ pub fn check_schema(schema: &[u8], witness: &mut [u8]) -> SchemaAnswer {
     }
 }
 
-/// What a schema file and an event file get: the schema's refusal, 1 to 9; or the event file's number, 0 for taken or 11 to 20, the place of
-/// the refused event or the file's length, and the count of openings taken.
+/// What a schema file and an event file get: the schema's refusal, 1 to 9 or 21 to 23; or the event file's number, 0 for taken or 11 to 20,
+/// the place of the refused event or the file's length, and the count of openings taken.
 #[derive(Debug, Clone, Copy, PartialEq, Eq)]
 pub enum Job {
     SchemaRefused {

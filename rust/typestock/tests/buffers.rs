@@ -1,7 +1,7 @@
-// Buffers of every length, damaged files and small threads: which bytes are written, and that every answer is one of document 01's (the
-// wrapper tests that of each).
+// Buffers of every length, damaged files and small threads: which bytes are written, and that every answer is one of document 01's or 02's
+// (the wrapper tests that of each).
 mod common;
-use common::{checked, hex, read, refused, typed, R, R_EVENTS};
+use common::{checked, hex, read, refused, typed, R, R_BY_EXPRESSIONS, R_EVENTS};
 use typestock::{check_schema, openings, witness, Job, SchemaAnswer, Witness, WITNESS};
 
 // The steps of a content automaton whose types 2 and 3 lead on from the states 30 and 31 alone. Type 1 enters two cycles, of the states 1 to
@@ -101,7 +101,7 @@ fn size(code: u8) -> usize {
     match code {
         0x13 => 4,
         0x11 => 3,
-        0x10 | 0x12 | 0x14 | 0x21 | 0x22 => 2,
+        0x10 | 0x12 | 0x14 | 0x21 | 0x22 | 0x32 => 2,
         _ => 1,
     }
 }
@@ -118,12 +118,14 @@ fn cut_at(file: &[u8], length: usize) -> usize {
 #[test]
 fn files_cut_short() {
     let (schema, events) = (hex(R), hex(R_EVENTS));
-    for length in 0..schema.len() {
-        let expected = SchemaAnswer {
-            number: 2,
-            place: cut_at(&schema, length),
-        };
-        assert_eq!(checked(&schema[..length], WITNESS).0, expected);
+    for schema in [&schema, &hex(R_BY_EXPRESSIONS)] {
+        for length in 0..schema.len() {
+            let expected = SchemaAnswer {
+                number: 2,
+                place: cut_at(schema, length),
+            };
+            assert_eq!(checked(&schema[..length], WITNESS).0, expected);
+        }
     }
     for length in 0..events.len() {
         let cut = &events[..length];
@@ -135,16 +137,14 @@ fn files_cut_short() {
     }
 }
 
-// Each byte of the two files changed to each value: both calls agree on the schema, and no more is counted than there are openings.
-#[test]
-fn one_byte_changed() {
-    let (schema, events) = (hex(R), hex(R_EVENTS));
+// Each byte of a schema file changed to each value: both calls agree on it.
+fn schema_byte_changed(schema: &[u8], events: &[u8]) {
     for place in 0..schema.len() {
         for value in 0..=255 {
-            let mut damaged = schema.clone();
+            let mut damaged = schema.to_vec();
             damaged[place] = value;
             let (answer, found) = checked(&damaged, WITNESS);
-            let (job, same, _) = typed(&damaged, &events, WITNESS, 4);
+            let (job, same, _) = typed(&damaged, events, WITNESS, 4);
             assert_eq!(found, same);
             match job {
                 Job::SchemaRefused { number, place } => {
@@ -154,6 +154,14 @@ fn one_byte_changed() {
             }
         }
     }
+}
+
+// So of R, by states and by expressions; of each byte of the events, no more is counted than there are openings.
+#[test]
+fn one_byte_changed() {
+    let (schema, events) = (hex(R), hex(R_EVENTS));
+    schema_byte_changed(&schema, &events);
+    schema_byte_changed(&hex(R_BY_EXPRESSIONS), &events);
     for place in 0..events.len() {
         for value in 0..=255 {
             let mut damaged = events.clone();
@@ -225,15 +233,24 @@ fn witnesses_read_off() {
     assert_eq!(witness(&[0, 1, 2, 0]), None);
 }
 
+// One type of itself, in brackets 16 deep around 31 uses.
+fn deepest() -> Vec<u8> {
+    let open = "30 ".repeat(16);
+    let uses = "32 00 34 ".repeat(31);
+    let close = "31 ".repeat(16);
+    hex(&format!("10 01 11 00 00 {open} {uses} {close} 3F 14 00 1F"))
+}
+
 // Calls at once, each on a stack of 128 KB.
 #[test]
 fn small_threads() {
     let work = || {
-        let competing = long_witness();
+        let (competing, deepest) = (long_witness(), deepest());
         let (schema, events) = (hex(R), hex(R_EVENTS));
         for _ in 0..200 {
             let mut buffer = vec![0; WITNESS];
             assert_eq!(check_schema(&competing, &mut buffer).number, 9);
+            assert_eq!(check_schema(&deepest, &mut buffer).number, 0);
             let (job, _, types) = typed(&schema, &events, WITNESS, 4);
             assert_eq!((job, types), (read(0, 17, 4), vec![0, 1, 2, 3]));
         }

@@ -1,6 +1,7 @@
-// Document 01's "Samples from the boot wall". Where a sample names elements a, b, c their tags are 1, 2, 3; the root's is 0.
+// Document 01's "Samples from the boot wall", and schemas written as expressions. Where a sample names elements a, b, c their tags are 1, 2, 3;
+// the root's is 0.
 mod common;
-use common::{checked, hex, read, refused, typed, R, R_EVENTS};
+use common::{checked, hex, read, refused, typed, R, R_BY_EXPRESSIONS, R_EVENTS};
 use typestock::{openings, witness, Opening, SchemaAnswer, Witness, WITNESS};
 
 // The schema gets the number at the place, with the witness, from both calls.
@@ -149,4 +150,77 @@ fn witness_buffers_of_531_and_532_bytes() {
 fn tag_counts() {
     schema_gets("10 20", 2, 2, "");
     schema_gets("10 21", 4, 0, "");
+}
+
+#[test]
+fn r_by_expressions() {
+    events_get(R_BY_EXPRESSIONS, R_EVENTS, 0, 17, &[0, 1, 2, 3]);
+    events_get(R_BY_EXPRESSIONS, "21 00 22 00", 17, 2, &[0]);
+    events_get(R_BY_EXPRESSIONS, "21 00 21 02 22 02 21 02", 13, 6, &[0, 2]);
+}
+
+// a? (b | c)*
+#[test]
+fn a_or_none_then_b_and_c() {
+    let schema = "10 04  11 00 00 30 32 01 33 31 30 32 02 33 32 03 31 34 3F  11 01 00 3F  11 02 00 3F  11 03 00 3F  14 00 1F";
+    events_get(schema, "21 00 22 00 2F", 0, 5, &[0]);
+    events_get(
+        schema,
+        "21 00  21 01 22 01 21 02 22 02 21 03 22 03 21 02 22 02  22 00 2F",
+        0,
+        21,
+        &[0, 1, 2, 3, 2],
+    );
+    events_get(schema, "21 00  21 02 22 02 21 01", 13, 6, &[0, 2]);
+    events_get(schema, "21 00  21 01 22 01 21 01", 13, 6, &[0, 1]);
+}
+
+// Content of the one type, from place 5 on, up to its 3F; then ROOT and DONE.
+fn content_gets(content: &str, number: u8, place: usize) {
+    schema_gets(
+        &format!("10 01 11 00 00 {content} 3F 14 00 1F"),
+        number,
+        place,
+        "",
+    );
+}
+
+#[test]
+fn commands_that_cannot_follow() {
+    content_gets("", 0, 0);
+    content_gets("33", 0, 0);
+    content_gets("30 31 34", 0, 0);
+    content_gets("31", 21, 5);
+    content_gets("34", 21, 5);
+    content_gets("32 00 34 34", 21, 8);
+    content_gets("30 34 31", 21, 6);
+    content_gets("32 00 33 34", 21, 8);
+    content_gets("30 32 00", 21, 8);
+    content_gets("12 00", 3, 5);
+    content_gets("32 40", 4, 5);
+    content_gets("32 01", 7, 5);
+    content_gets("3F 30 31", 3, 6);
+}
+
+#[test]
+fn uses_31_and_32() {
+    let uses = "32 00 34 ".repeat(31);
+    content_gets(&uses, 0, 0);
+    content_gets(&format!("{uses} 32 00"), 22, 98);
+    content_gets(&format!("{uses} 32 40"), 4, 98);
+}
+
+#[test]
+fn brackets_16_and_17() {
+    let nested = |n: usize| format!("{} {}", "30 ".repeat(n), "31 ".repeat(n));
+    content_gets(&nested(16), 0, 0);
+    content_gets(&nested(17), 23, 21);
+}
+
+// 31 uses, each repeated, have 31 steps from state 0 and 496 from the uses: two such types have 1,054.
+#[test]
+fn steps_of_expressions() {
+    let content = format!("{} 3F", "32 00 34 ".repeat(31));
+    let types = format!("10 01 11 00 00 {content} 11 00 00 {content}");
+    schema_gets(&format!("{types} 14 00 1F"), 5, 195, "");
 }

@@ -1,4 +1,4 @@
-// What the tests share: bytes from hexadecimal text, document 01's schema R, and calls on buffers that are watched.
+// What the tests share: bytes from hexadecimal text, document 01's schema R, by states and by expressions, and calls on buffers that are watched.
 #![allow(dead_code)]
 use typestock::{check_schema, type_document, Job, SchemaAnswer};
 
@@ -8,8 +8,12 @@ pub fn hex(text: &str) -> Vec<u8> {
         .collect()
 }
 
-// The schema R of document 01, and its events.
+// The schema R of document 01.
 pub const R: &str = "10 03 11 00 02 12 01 13 00 01 00 13 00 02 01 13 01 03 01 11 01 01 12 00 11 02 01 12 00 11 01 01 12 00 14 00 1F";
+// R with its content written as expressions: type 0 is 1* 2 3*, the others have nothing inside.
+pub const R_BY_EXPRESSIONS: &str =
+    "10 03 11 00 00 32 01 34 32 02 32 03 34 3F 11 01 00 3F 11 02 00 3F 11 01 00 3F 14 00 1F";
+// Its events.
 pub const R_EVENTS: &str = "21 00 21 01 22 01 21 02 22 02 21 01 22 01 22 00 2F";
 
 // A buffer between guard bytes. Each byte, the guards too, has a value of its place's; `turned` has each bit the other way, so that a
