@@ -26,7 +26,8 @@ use Rattle.expression.proofs.SetLaws.{same-test, member-or, without-own, withou
 use Rattle.expression.proofs.TestLaws.{leads-below}
 use Rattle.expression.proofs.TestSets.{member-set}
 use Rattle.commands.specs.Laying.{Grouped, ofMembers, laidBy, laidFrom, laidSteps}
-use Rattle.commands.proofs.LayingLaws.{each-last, each-same, members-none}
+use Rattle.expression.proofs.EachLaws.{each-last, each-same}
+use Rattle.commands.proofs.LayingLaws.{members-none}
 
 -- one use more in the set of its type
 use-more : (t : List ℕ) (i s j q : ℕ) → i < length t → getD t i 0 < 2 ^ mostStates → s < mostStates

@@ -1,7 +1,7 @@
--- Laws of numbers put into a table one after another, and of what is made of each of some numbers.
+-- Laws of numbers put into a table one after another, and of what is made of the members of a set.
 use mathlib.Core.Path.{_≡_, refl, sym, ap, _∙_}
 use mathlib.Core.Bool.{cond}
-use mathlib.Core.List.{List, [], _∷_, _++_, map-append, append-nil, append-assoc}
+use mathlib.Core.List.{List, [], _∷_, _++_, map-append}
 use Prim.Native.Nat.{ℕ, zero, suc, _+_, _-_, _%_, _^_, _≤_, _<_, min, max}
 use native.Mathlib.Decide.{ℕ-discrete}
 use native.Mathlib.Numerals.{add-one}
@@ -16,23 +16,10 @@ use Rattle.schema.specs.States.{member}
 use Rattle.schema.specs.Putting.{putAll}
 use Rattle.schema.proofs.PuttingLaws.{put-append}
 use Rattle.expression.specs.Tests.{ofEach}
+use Rattle.expression.proofs.EachLaws.{each-none, each-same}
 use Rattle.expression.proofs.SetLaws.{member-zero, smallest-member, none-smaller, smallest-out, without-own, without-other}
 use Rattle.commands.specs.Laying.{ofMembers, PutAs, LaidAs, namesFrom}
 use Rattle.commands.specs.Progress.{placesWith, boundWith}
-
--- one number more, at the end
-pub each-last : {A : Type 0} (f : ℕ → List A) (s n : ℕ) → ofEach f s (suc n) ≡ ofEach f s n ++ f (s + n)
-unfolding ofEach
-each-last f s zero = rw (let e : s + 0 ≡ s = omega arith in e) (append-nil (f s))
-each-last f s (suc n) =
-    let e : s + suc n ≡ suc s + n = omega arith in
-    rw e (ap (λ (l : List _). f s ++ l) (each-last f (suc s) n) ∙ sym (append-assoc (f s) (ofEach f (suc s) n) (f (suc s + n))))
-
--- the numbers below i, one more
-pub each-more : {A : Type 0} (f : ℕ → List A) (i : ℕ) → ofEach f 0 (i + 1) ≡ ofEach f 0 i ++ f i
-each-more f i =
-    let z : 0 + i ≡ i = omega arith in
-    rw (add-one i) (rw z at (each-last f 0 i))
 
 -- nothing is put
 pub put-nothing : {n : ℕ} {t : List ℕ} → n ≤ mostSteps + 1 → PutAs [] n t t n
@@ -78,19 +65,6 @@ laid-both xs ys h k =
 -- the place behind what is put is at most one past the last
 pub laid-most : (xs : List Step) {n : ℕ} {from by to from′ by′ to′ : List ℕ} {r : ℕ} → LaidAs xs n from by to from′ by′ to′ r → r ≤ mostSteps + 1
 laid-most xs h = omega (arith, h .sources .count)
-
--- where nothing is made of any number, nothing is made of all
-each-none : {A : Type 0} (f : ℕ → List A) → ((k : ℕ) → f k ≡ []) → (s n : ℕ) → ofEach f s n ≡ []
-unfolding ofEach
-each-none f e s zero = refl
-each-none f e s (suc n) = rw (e s, each-none f e (suc s) n)
-
--- what is made of each number is the same where it is the same of each
-pub each-same : {A : Type 0} (f g : ℕ → List A) (s n : ℕ) → ((k : ℕ) → s ≤ k → k < s + n → f k ≡ g k) → ofEach f s n ≡ ofEach g s n
-unfolding ofEach
-each-same f g s zero h = refl
-each-same f g s (suc n) h =
-    rw (h s (omega arith) (omega arith), each-same f g (suc s) n (λ k l m. h k (omega arith) (omega arith)))
 
 -- what is made of the first number of which anything is made, and of the others
 each-first : {A : Type 0} (f g : ℕ → List A) (p s n : ℕ) → s ≤ p → p < s + n → ((q : ℕ) → q < p → f q ≡ []) → g p ≡ []

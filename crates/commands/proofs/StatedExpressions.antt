@@ -36,16 +36,16 @@ use Rattle.commands.proofs.Passing.{Passed, ExpressionRead, kept-to-end
 use Rattle.expression.proofs.UseTypes.{named-uses}
 use Rattle.commands.specs.File.{Draft, Stated, withFinal, withStep, after, withAutomaton, afterExpression, current}
 use Rattle.commands.specs.File.{states, commands, blockBy, schemaBy, StatesSchema}
-use Rattle.commands.proofs.LayingLaws.{each-last, each-same}
+use Rattle.expression.proofs.EachLaws.{each-last, each-same}
 
 -- where nothing is made of the numbers from a on, the first a make all
-each-first : {A : Type 0} (f : ℕ → List A) (a n : ℕ) → a ≤ n → ((k : ℕ) → a ≤ k → f k ≡ []) → ofEach f 0 n ≡ ofEach f 0 a
-each-first f a zero l none = ap (ofEach f 0) (omega arith)
-each-first f a (suc n) l none = elim (decLt n a) [
+each-below : {A : Type 0} (f : ℕ → List A) (a n : ℕ) → a ≤ n → ((k : ℕ) → a ≤ k → f k ≡ []) → ofEach f 0 n ≡ ofEach f 0 a
+each-below f a zero l none = ap (ofEach f 0) (omega arith)
+each-below f a (suc n) l none = elim (decLt n a) [
   | yes h ↦ ap (ofEach f 0) (let e : suc n ≡ a = omega arith in e)
   | no h ↦
       let z : 0 + n ≡ n = omega arith in
-      (rw z at (each-last f 0 n)) ∙ rw (none n (omega arith)) (append-nil (ofEach f 0 n)) ∙ each-first f a n (omega arith) none
+      (rw z at (each-last f 0 n)) ∙ rw (none n (omega arith)) (append-nil (ofEach f 0 n)) ∙ each-below f a n (omega arith) none
 ]
 
 -- the states of a set, one by one
@@ -65,7 +65,7 @@ accepting-same tag e l =
     ∙ each-same (λ q. cond (member q (setOf (accepts e) mostStates)) (q ∷ []) []) f 0 mostStates (λ q a b.
     let m = member-set (accepts e) mostStates q (omega arith) in
     ap (λ (t : Bool). cond t (q ∷ []) []) (same-test (member q (setOf (accepts e) mostStates)) (accepts e q) (λ h. m .0 h .0) (λ h. m .1 (h, omega arith))))
-    ∙ each-first f (suc (uses e)) mostStates (omega arith)
+    ∙ each-below f (suc (uses e)) mostStates (omega arith)
     (λ k a. rw (is-false (accepts e k) (λ t. omega (arith, accepts-below e k t))))
 
 -- the block that an expression leaves is its automaton

@@ -1,8 +1,9 @@
 -- Laws of lists that are gathered number by number, and of lists that rise.
-use mathlib.Core.Path.{_≡_, refl, sym, subst, ap}
+use native.Mathlib.Numerals.{add-one}
+use mathlib.Core.Path.{_≡_, refl, sym, subst, ap, _∙_}
 use mathlib.Core.Logic.{_↔_, ⊎-elim}
 use mathlib.Core.Bool.{Bool, true, false, cond}
-use mathlib.Core.List.{List, [], _∷_, _++_, List·Memᴰ, List·Memᴰ·head, List·Memᴰ·tail, List·Memᴰ·cases-cons, List·Memᴰ·not-nil}
+use mathlib.Core.List.{List, [], _∷_, _++_, List·Memᴰ, List·Memᴰ·head, List·Memᴰ·tail, List·Memᴰ·cases-cons, List·Memᴰ·not-nil, append-nil, append-assoc}
 use mathlib.Core.List.{List·Memᴰ·eq-of-singleton, Memᴰ·append-left, Memᴰ·append-right, List·Memᴰ·append-cases}
 use Prim.Native.Nat.{ℕ, zero, suc, _+_, _≤_, _<_}
 use native.Mathlib.Decide.{ℕ-discrete}
@@ -10,6 +11,33 @@ use native.Mathlib.Omega.{arith}
 use lib.Dec.{T}
 use Rattle.expression.specs.Automaton.{Rising, RisingFrom}
 use Rattle.expression.specs.Tests.{ofEach}
+
+-- one number more, at the end
+pub each-last : {A : Type 0} (f : ℕ → List A) (s n : ℕ) → ofEach f s (suc n) ≡ ofEach f s n ++ f (s + n)
+unfolding ofEach
+each-last f s zero = rw (let e : s + 0 ≡ s = omega arith in e) (append-nil (f s))
+each-last f s (suc n) =
+    let e : s + suc n ≡ suc s + n = omega arith in
+    rw e (ap (λ (l : List _). f s ++ l) (each-last f (suc s) n) ∙ sym (append-assoc (f s) (ofEach f (suc s) n) (f (suc s + n))))
+
+-- the numbers below i, one more
+pub each-more : {A : Type 0} (f : ℕ → List A) (i : ℕ) → ofEach f 0 (i + 1) ≡ ofEach f 0 i ++ f i
+each-more f i =
+    let z : 0 + i ≡ i = omega arith in
+    rw (add-one i) (rw z at (each-last f 0 i))
+
+-- where nothing is made of any number, nothing is made of all
+pub each-none : {A : Type 0} (f : ℕ → List A) → ((k : ℕ) → f k ≡ []) → (s n : ℕ) → ofEach f s n ≡ []
+unfolding ofEach
+each-none f e s zero = refl
+each-none f e s (suc n) = rw (e s, each-none f e (suc s) n)
+
+-- what is made of each number is the same where it is the same of each
+pub each-same : {A : Type 0} (f g : ℕ → List A) (s n : ℕ) → ((k : ℕ) → s ≤ k → k < s + n → f k ≡ g k) → ofEach f s n ≡ ofEach g s n
+unfolding ofEach
+each-same f g s zero h = refl
+each-same f g s (suc n) h =
+    rw (h s (omega arith) (omega arith), each-same f g (suc s) n (λ k l m. h k (omega arith) (omega arith)))
 
 -- x is given by f of one of the n numbers from s on.
 pub record OfSome {A : Type 0} (f : ℕ → List A) (s n : ℕ) (x : A) : Type 0 where

@@ -7,7 +7,8 @@ use Rattle.sdtd.specs.Limits.{mostTypes}
 use Rattle.expression.specs.Tests.{ofEach}
 use Rattle.commands.specs.Laying.{laidFrom, LaidAs}
 use Rattle.commands.proofs.Drafts.{zeros-empty}
-use Rattle.commands.proofs.LayingLaws.{each-more, laid-nothing, laid-both, laid-most}
+use Rattle.expression.proofs.EachLaws.{each-more}
+use Rattle.commands.proofs.LayingLaws.{laid-nothing, laid-both, laid-most}
 use Rattle.commands.proofs.laying.lay_steps.Statement.{statement}
 use Rattle.commands.proofs.laying.lay_steps.Tie as tie
 
