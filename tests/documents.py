@@ -2,7 +2,8 @@
 """The cases of the test program `cases`, and what it must print, by an independent model.
 
     documents.py FOLDER [COMMITTED_STDOUT]
-        writes FOLDER/stdin, the cases, and FOLDER/stdout, what must be printed for them.
+        writes FOLDER/stdin, the cases, and FOLDER/stdout, what must be printed for them; and
+        FOLDER/pairtable, what the program `pairtable` must print.
     documents.py --folders COUNT FOLDER
         writes about COUNT random jobs of the program and those at the limits, each as a folder
         with schema.tab, events and expected.
@@ -39,7 +40,7 @@ from pathlib import Path
 
 sys.dont_write_bytecode = True
 
-from listing import cases_under_expressions, choices, least
+from listing import cases_under_expressions, choices, least, pair_numbers
 from listing.case import HEAD
 from listing.cases_jobs import damaged_cases, named_size_cases, random_cases, sample_cases
 from listing.groups import GROUPS, made
@@ -80,6 +81,7 @@ def write_cases(folder, committed):
     stdin = b"".join(case.framed() for case in cases) + bytes(HEAD)
     (folder / "stdin").write_bytes(stdin)
     (folder / "stdout").write_text("".join(texts) + END)
+    (folder / "pairtable").write_text(pair_numbers.table_text())
     report(cases)
 
 

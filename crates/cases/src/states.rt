@@ -6,8 +6,8 @@ use crate::show::next_number;
 use crate::show::number;
 use crate::show::text;
 use crate::show::wide;
-use competition::PairNumber;
-use competition::pair_number;
+use pairs::PairNumber;
+use pairs::pair_number;
 use schema::StateSet;
 
 pub(crate) fn run_pair(states: &[u8]) {

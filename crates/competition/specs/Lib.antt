@@ -1,5 +1,4 @@
 -- Competition. `Rows`, `Marks`, `Rivals` and `Queue` say what the private loops compute; no public promise cites them.
-pub mod Pairs
 pub mod Questions
 pub mod Search
 pub mod Witness

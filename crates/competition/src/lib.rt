@@ -1,14 +1,11 @@
-// Competition in a schema: pair numbers, the search over pairs of states with its witness, and the verdict on a schema.
+// Competition in a schema: the search over pairs of states with its witness, and the verdict on a schema.
 mod entries;
 mod marks;
-mod pairs;
 mod rivals;
 mod rows;
 mod search;
 mod witness;
 
-pub use pairs::PairNumber;
-pub use pairs::pair_number;
 pub use search::Searched;
 pub use search::competition;
 pub use search::judge;

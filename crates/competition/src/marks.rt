@@ -1,15 +1,26 @@
 // Pairs of states marked as reached, with a queue of those found.
 use crate::entries::entry_of;
 use crate::entries::link_of;
-use crate::pairs::PAIRS;
-use crate::pairs::number;
 use crate::rows::Row;
+use pairs::ORDERED_PAIRS;
+use pairs::PAIRS;
+use pairs::number_in;
 use schema::Entry;
 use schema::STEPS;
 ghost use mathlib.Core.Path.{_≡_};
 ghost use Prim.Native.Nat.{_<_, _≤_};
 ghost use Rattle.sdtd.specs.Limits.{mostStates, mostSteps, mostPairs};
+ghost use Rattle.sdtd.specs.Competition.{pairNumber};
+ghost use Rattle.pairs.specs.Table.{PairTable};
 ghost use Rattle.competition.specs.Marks.{mostLinks, marks, markOf, markBoth, markWith, markRows};
+
+// The number of a pair of states, by the table of them.
+fn number(numbers: &[u16; ORDERED_PAIRS], s: u8, t: u8) -> usize
+    requires { ⌜ PairTable (now numbers) × (s < mostStates) × (t < mostStates) ⌝ }
+    ensures { λ r. ⌜ (r ≡ pairNumber s t) × (r < mostPairs) ⌝ }
+{
+    number_in(numbers, s, t) as usize
+}
 
 // The pair joins the queue, unless it is reached already.
 // The test for a full queue is there for the bound. It never holds in a search: there are only so many pairs, and each joins once.
@@ -17,15 +28,16 @@ fn mark<'a>(
     reached: &'a mut [bool; PAIRS],
     queue: &'a mut [u32; PAIRS],
     count: usize,
+    numbers: &[u16; ORDERED_PAIRS],
     p: u8,
     q: u8,
     link: u32,
 ) -> usize
-    requires { ⌜ (p < mostStates) × (q < mostStates) × (link < mostLinks) ⌝ }
+    requires { ⌜ (p < mostStates) × (q < mostStates) × (link < mostLinks) × PairTable (now numbers) ⌝ }
     ensures { λ r. ⌜ marks (now (reached .exit)) (now (queue .exit)) r
         ≡ markOf (marks (now (reached .entry)) (now (queue .entry)) count) p q link ⌝ }
 {
-    let n = number(p, q);
+    let n = number(numbers, p, q);
     if reached[n] {
         return count;
     }
@@ -42,11 +54,12 @@ fn mark_both<'a>(
     reached: &'a mut [bool; PAIRS],
     queue: &'a mut [u32; PAIRS],
     count: usize,
+    numbers: &[u16; ORDERED_PAIRS],
     e: u32,
     f: u32,
     at: usize,
 ) -> usize
-    requires { ⌜ at < mostPairs ⌝ }
+    requires { ⌜ (at < mostPairs) × PairTable (now numbers) ⌝ }
     ensures { λ r. ⌜ marks (now (reached .exit)) (now (queue .exit)) r
         ≡ markBoth e f at (marks (now (reached .entry)) (now (queue .entry)) count) ⌝ }
 {
@@ -57,7 +70,7 @@ fn mark_both<'a>(
     let p = Entry(e).to();
     let q = Entry(f).to();
     let link = link_of(by.0 as usize, at);
-    mark(reached, queue, count, p, q, link)
+    mark(reached, queue, count, numbers, p, q, link)
 }
 
 // The pairs that e leads to with the entries of the row.
@@ -65,12 +78,13 @@ fn mark_with<'a>(
     reached: &'a mut [bool; PAIRS],
     queue: &'a mut [u32; PAIRS],
     count: usize,
+    numbers: &[u16; ORDERED_PAIRS],
     entries: &[u32; STEPS],
     row: Row,
     e: u32,
     at: usize,
 ) -> usize
-    requires { ⌜ (row .end ≤ mostSteps) × (at < mostPairs) ⌝ }
+    requires { ⌜ (row .end ≤ mostSteps) × (at < mostPairs) × PairTable (now numbers) ⌝ }
     ensures { λ r. ⌜ marks (now (reached .exit)) (now (queue .exit)) r
         ≡ markWith (now (entries .entry)) row e at (marks (now (reached .entry)) (now (queue .entry)) count) ⌝ }
 {
@@ -79,7 +93,7 @@ fn mark_with<'a>(
     let mut i = row.start;
     while i < end {
         let f = entries[i];
-        queued = mark_both(reached, queue, queued, e, f, at);
+        queued = mark_both(reached, queue, queued, numbers, e, f, at);
         i += 1;
     }
     queued
@@ -90,12 +104,13 @@ fn mark_rows<'a>(
     reached: &'a mut [bool; PAIRS],
     queue: &'a mut [u32; PAIRS],
     count: usize,
+    numbers: &[u16; ORDERED_PAIRS],
     entries: &[u32; STEPS],
     left: Row,
     right: Row,
     at: usize,
 ) -> usize
-    requires { ⌜ (left .end ≤ mostSteps) × (right .end ≤ mostSteps) × (at < mostPairs) ⌝ }
+    requires { ⌜ (left .end ≤ mostSteps) × (right .end ≤ mostSteps) × (at < mostPairs) × PairTable (now numbers) ⌝ }
     ensures { λ r. ⌜ marks (now (reached .exit)) (now (queue .exit)) r
         ≡ markRows (now (entries .entry)) left right at (marks (now (reached .entry)) (now (queue .entry)) count) ⌝ }
 {
@@ -104,7 +119,7 @@ fn mark_rows<'a>(
     let mut i = left.start;
     while i < end {
         let e = entries[i];
-        queued = mark_with(reached, queue, queued, entries, right, e, at);
+        queued = mark_with(reached, queue, queued, numbers, entries, right, e, at);
         i += 1;
     }
     queued
@@ -122,17 +137,18 @@ fn search_step(
     reached: [bool; PAIRS],
     queue: &mut [u32; PAIRS],
     count: usize,
+    numbers: &[u16; ORDERED_PAIRS],
     entries: &[u32; STEPS],
     left: Row,
     right: Row,
     at: usize,
 ) -> PairsMarked
-    requires { ⌜ (left .end ≤ mostSteps) × (right .end ≤ mostSteps) × (at < mostPairs) ⌝ }
+    requires { ⌜ (left .end ≤ mostSteps) × (right .end ≤ mostSteps) × (at < mostPairs) × PairTable (now numbers) ⌝ }
     ensures { λ r. ⌜ marks (r .reached) (now (queue .exit)) (r .count)
         ≡ markRows (now (entries .entry)) left right at (marks reached (now (queue .entry)) count) ⌝ }
 {
     let mut marked = reached;
-    let queued = mark_rows(&mut marked, queue, count, entries, left, right, at);
+    let queued = mark_rows(&mut marked, queue, count, numbers, entries, left, right, at);
     PairsMarked {
         reached: marked,
         count: queued,
@@ -144,12 +160,13 @@ pub(crate) fn search_from<'a>(
     reached: &'a mut [bool; PAIRS],
     queue: &'a mut [u32; PAIRS],
     count: usize,
+    numbers: &[u16; ORDERED_PAIRS],
     entries: &[u32; STEPS],
     left: Row,
     right: Row,
     at: usize,
 ) -> usize
-    requires { ⌜ (left .end ≤ mostSteps) × (right .end ≤ mostSteps) × (at < mostPairs) ⌝ }
+    requires { ⌜ (left .end ≤ mostSteps) × (right .end ≤ mostSteps) × (at < mostPairs) × PairTable (now numbers) ⌝ }
     ensures { λ r. ⌜ marks (now (reached .exit)) (now (queue .exit)) r
         ≡ markRows (now (entries .entry)) left right at (marks (now (reached .entry)) (now (queue .entry)) count) ⌝ }
 {
@@ -162,7 +179,7 @@ pub(crate) fn search_from<'a>(
     if right.end <= right.start {
         return count;
     }
-    let marked = search_step(*reached, queue, count, entries, left, right, at);
+    let marked = search_step(*reached, queue, count, numbers, entries, left, right, at);
     let grown = marked.reached;
     *reached = grown;
     marked.count

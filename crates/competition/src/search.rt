@@ -2,12 +2,14 @@
 use crate::entries::first_of;
 use crate::entries::second_of;
 use crate::marks::search_from;
-use crate::pairs::PAIRS;
 use crate::rivals::Rivals;
 use crate::rivals::rivals_at;
 use crate::rows::row_of;
 use crate::witness::LEAST_WITNESS;
 use crate::witness::write_rivals;
+use pairs::ORDERED_PAIRS;
+use pairs::PAIRS;
+use pairs::pair_numbers;
 use schema::BEGINS;
 use schema::STEPS;
 use schema::Schema;
@@ -20,6 +22,7 @@ ghost use Prim.Native.Nat.{_<_, _≤_};
 ghost use lib.ListN.{length};
 ghost use Rattle.sdtd.specs.Limits.{mostTypes, leastWitness};
 ghost use Rattle.sdtd.specs.Schema.{WithinLimits};
+ghost use Rattle.pairs.specs.Table.{PairTable};
 ghost use Rattle.schema.specs.Trimming.{Exact};
 ghost use Rattle.schema.specs.Value.{meaning};
 ghost use Rattle.schema.specs.Rows.{RowsInside, RowsMean};
@@ -53,12 +56,13 @@ pub(crate) struct TypeTables {
 
 // The search of the type a: the first pair found with rivals, with the queue that leads to it.
 fn search_type<'a>(
+    numbers: &[u16; ORDERED_PAIRS],
     entries: &'a [u32; STEPS],
     begins: &'a [u16; BEGINS],
     a: TypeNo,
     queue: &mut [u32; PAIRS],
 ) -> PairFound
-    requires { ⌜ (a .0 < mostTypes) × RowsInside (now begins) ⌝ }
+    requires { ⌜ (a .0 < mostTypes) × RowsInside (now begins) × PairTable (now numbers) ⌝ }
     ensures { λ r. ⌜ PairFoundMeans (now (entries .entry)) (now (begins .entry)) (a .0) (now (queue .exit)) r ⌝ }
 {
     let mut reached = [false; PAIRS];
@@ -76,7 +80,16 @@ fn search_type<'a>(
         if let Rivals::Of(j, k) = rivals {
             return PairFound::At(at, j, k);
         }
-        count = search_from(&mut reached, queue, count, entries, left, right, at);
+        count = search_from(
+            &mut reached,
+            queue,
+            count,
+            numbers,
+            entries,
+            left,
+            right,
+            at,
+        );
         at += 1;
     }
     PairFound::Nowhere
@@ -84,13 +97,14 @@ fn search_type<'a>(
 
 // The search of the type a, if it is reached and bears a tree.
 fn search_at<'a>(
+    numbers: &[u16; ORDERED_PAIRS],
     entries: &'a [u32; STEPS],
     begins: &'a [u16; BEGINS],
     tables: TypeTables,
     a: TypeNo,
     queue: &mut [u32; PAIRS],
 ) -> PairFound
-    requires { ⌜ (a .0 < mostTypes) × RowsInside (now begins) ⌝ }
+    requires { ⌜ (a .0 < mostTypes) × RowsInside (now begins) × PairTable (now numbers) ⌝ }
     ensures { λ r. ⌜ SearchedAt (now (entries .entry)) (now (begins .entry)) tables (a .0) (now (queue .exit)) r ⌝ }
 {
     let i = a.0 as usize;
@@ -100,7 +114,7 @@ fn search_at<'a>(
     if !tables.bears[i] {
         return PairFound::Nowhere;
     }
-    search_type(entries, begins, a, queue)
+    search_type(numbers, entries, begins, a, queue)
 }
 
 // The smallest type in which two compete: the type, the place in the queue of a pair with rivals, and the rivals.
@@ -111,19 +125,20 @@ pub(crate) enum Competing {
 
 // The search of one type after another.
 fn first_competing<'a>(
+    numbers: &[u16; ORDERED_PAIRS],
     entries: &'a [u32; STEPS],
     begins: &'a [u16; BEGINS],
     tables: TypeTables,
     queue: &mut [u32; PAIRS],
 ) -> Competing
-    requires { ⌜ (tables .types ≤ mostTypes) × RowsInside (now begins) ⌝ }
+    requires { ⌜ (tables .types ≤ mostTypes) × RowsInside (now begins) × PairTable (now numbers) ⌝ }
     ensures { λ r. ⌜ CompetingMeans (now (entries .entry)) (now (begins .entry)) tables (now (queue .exit)) r ⌝ }
 {
     let types = tables.types;
     let mut i = 0;
     while i < types {
         let a = TypeNo(i as u8);
-        let pair = search_at(entries, begins, tables, a, queue);
+        let pair = search_at(numbers, entries, begins, tables, a, queue);
         if let PairFound::At(at, j, k) = pair {
             return Competing::In(a, at, j, k);
         }
@@ -153,7 +168,8 @@ fn competes<'a>(
         types: schema.types as usize,
     };
     let mut queue = [0u32; PAIRS];
-    let competing = first_competing(entries, begins, tables, &mut queue);
+    let numbers = pair_numbers();
+    let competing = first_competing(&numbers, entries, begins, tables, &mut queue);
     if let Competing::In(a, at, j, k) = competing {
         write_rivals(witness, a, j, k, &queue, at);
         return true;

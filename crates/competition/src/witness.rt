@@ -1,7 +1,7 @@
 // The witness of a competition: written to the lent buffer, and its head read again.
 use crate::entries::by_of;
 use crate::entries::parent_of;
-use crate::pairs::PAIRS;
+use pairs::PAIRS;
 use sdtd::TypeNo;
 ghost use mathlib.Core.Path.{_≡_};
 ghost use mathlib.Core.List.{_∷_, _++_};

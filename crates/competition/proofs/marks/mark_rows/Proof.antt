@@ -8,12 +8,12 @@ use Rattle.competition.proofs.marks.mark_rows.Statement.{statement}
 use Rattle.competition.proofs.marks.mark_rows.Tie as tie
 
 abbrev Inv-loop : tie.InvT-loop
-Inv-loop reached₀ queue₀ count entries right at end queued₀ i₀ reached queue queued i =
+Inv-loop reached₀ queue₀ count numbers entries right at end queued₀ i₀ reached queue queued i =
     markEach (λ e. markWith entries right e at) entries i (end - i) (marks reached queue queued)
     ≡ markEach (λ e. markWith entries right e at) entries i₀ (end - i₀) (marks reached₀ queue₀ count)
 
 abbrev μ-loop : tie.MeasureT-loop
-μ-loop reached₀ queue₀ count entries right at end queued₀ i₀ reached queue queued i = end - i
+μ-loop reached₀ queue₀ count numbers entries right at end queued₀ i₀ reached queue queued i = end - i
 
 loop-holds : tie.Need-loop-holds Inv-loop μ-loop
 loop-holds c = refl
@@ -25,7 +25,7 @@ element-copy-out-e : tie.Need-element-copy-out-e Inv-loop μ-loop
 element-copy-out-e c = omega arith
 
 mark-with-requires : tie.Need-mark-with-requires Inv-loop μ-loop
-mark-with-requires c κs = omega arith
+mark-with-requires c κs = (omega arith, omega arith, c .before .before .before .before .before .pre .3)
 
 add-i : tie.Need-add-i Inv-loop μ-loop
 add-i c = omega arith

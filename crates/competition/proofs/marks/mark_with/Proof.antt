@@ -8,12 +8,12 @@ use Rattle.competition.proofs.marks.mark_with.Statement.{statement}
 use Rattle.competition.proofs.marks.mark_with.Tie as tie
 
 abbrev Inv-loop : tie.InvT-loop
-Inv-loop reached₀ queue₀ count entries e at end queued₀ i₀ reached queue queued i =
+Inv-loop reached₀ queue₀ count numbers entries e at end queued₀ i₀ reached queue queued i =
     markEach (λ f. markBoth e f at) entries i (end - i) (marks reached queue queued)
     ≡ markEach (λ f. markBoth e f at) entries i₀ (end - i₀) (marks reached₀ queue₀ count)
 
 abbrev μ-loop : tie.MeasureT-loop
-μ-loop reached₀ queue₀ count entries e at end queued₀ i₀ reached queue queued i = end - i
+μ-loop reached₀ queue₀ count numbers entries e at end queued₀ i₀ reached queue queued i = end - i
 
 loop-holds : tie.Need-loop-holds Inv-loop μ-loop
 loop-holds c = refl
@@ -25,7 +25,7 @@ element-copy-out-f : tie.Need-element-copy-out-f Inv-loop μ-loop
 element-copy-out-f c = omega arith
 
 mark-both-requires : tie.Need-mark-both-requires Inv-loop μ-loop
-mark-both-requires c κs = omega arith
+mark-both-requires c κs = (omega arith, c .before .before .before .before .before .pre .2)
 
 add-i : tie.Need-add-i Inv-loop μ-loop
 add-i c = omega arith

@@ -9,15 +9,18 @@ use Rattle.competition.proofs.search.competes.Tie as tie
 
 -- the start of the function, from where it calls the search
 abbrev start : tie.After-queue → tie.Start
-start c = c .before .before .before .before .before
+start c = c .before .before .before .before .before .before .before
 
-cast-t15 : tie.Need-cast-t15
-cast-t15 c = search needs
+cast-t16 : tie.Need-cast-t16
+cast-t16 c = search needs
+
+pair-numbers-requires : tie.Need-pair-numbers-requires
+pair-numbers-requires c κs = search needs
 
 first-competing-requires : tie.Need-first-competing-requires
 first-competing-requires c κs =
     let given = start c .pre in
-    (within-room _ (given .0) .types, given .2 .inside)
+    (within-room _ (given .0) .types, given .2 .inside, c .before .before .pair-numbers .ensures)
 
 enum-known-competing : tie.Need-enum-known-competing
 enum-known-competing c = search needs
@@ -52,7 +55,8 @@ pub competes-spec : {M : Type 1} → statement M
 competes-spec =
     tie.close
     (tie.spec
-    cast-t15
+    cast-t16
+    pair-numbers-requires
     first-competing-requires
     enum-known-competing
     write-rivals-requires

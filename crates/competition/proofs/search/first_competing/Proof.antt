@@ -8,19 +8,19 @@ use Rattle.competition.proofs.search.first_competing.Statement.{stateme
 use Rattle.competition.proofs.search.first_competing.Tie as tie
 
 abbrev Inv-loop : tie.InvT-loop
-Inv-loop entries begins tables queue₀ types i₀ queue i = (i ≤ types) × ((c : ℕ) → c < i → RestrainedIn entries begins tables c)
+Inv-loop numbers entries begins tables queue₀ types i₀ queue i = (i ≤ types) × ((c : ℕ) → c < i → RestrainedIn entries begins tables c)
 
 abbrev μ-loop : tie.MeasureT-loop
-μ-loop entries begins tables queue₀ types i₀ queue i = types - i
+μ-loop numbers entries begins tables queue₀ types i₀ queue i = types - i
 
 loop-holds : tie.Need-loop-holds Inv-loop μ-loop
 loop-holds c = (omega arith, λ i l. absurd (omega arith))
 
-cast-t13 : tie.Need-cast-t13 Inv-loop μ-loop
-cast-t13 c = omega arith
+cast-t14 : tie.Need-cast-t14 Inv-loop μ-loop
+cast-t14 c = omega arith
 
 search-at-requires : tie.Need-search-at-requires Inv-loop μ-loop
-search-at-requires c κs = (omega arith, c .before .before .before .pre .1)
+search-at-requires c κs = (omega arith, c .before .before .before .pre .1, c .before .before .before .pre .2)
 
 enum-known-pair : tie.Need-enum-known-pair Inv-loop μ-loop
 enum-known-pair c = c .match .keys1
@@ -60,7 +60,7 @@ first-competing-spec =
     Inv-loop
     μ-loop
     loop-holds
-    cast-t13
+    cast-t14
     search-at-requires
     enum-known-pair
     returns

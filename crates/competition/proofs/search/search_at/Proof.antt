@@ -42,7 +42,7 @@ element-copy-out-if1 : tie.Need-element-copy-out-if1
 element-copy-out-if1 c = search needs
 
 returns : tie.Need-returns
-returns c = unreached (c .before .before .before .args .t3) (c .before .before .before .args .a .0) (c .if1 .taken)
+returns c = unreached (c .before .before .before .args .t4) (c .before .before .before .args .a .0) (c .if1 .taken)
 
 element-copy-out-if2 : tie.Need-element-copy-out-if2
 element-copy-out-if2 c = search needs
@@ -51,7 +51,7 @@ returns-2 : tie.Need-returns-2
 returns-2 c =
     let e = c .before .before in
     let a = e .before .before .before .args in
-    treeless (a .t3) (a .a .0) (e .if1 .left) (c .if2 .taken)
+    treeless (a .t4) (a .a .0) (e .if1 .left) (c .if2 .taken)
 
 search-type-requires : tie.Need-search-type-requires
 search-type-requires c κs = search needs
@@ -61,7 +61,7 @@ returns-3 c =
     let b = c .before .before in
     let e = b .before .before in
     let a = e .before .before .before .args in
-    searched (a .t3) (a .a .0) _ _ _ (c .search-type .result) (useful (a .t3) (a .a .0) (e .if1 .left) (b .if2 .left))
+    searched (a .t4) (a .a .0) _ _ _ (c .search-type .result) (useful (a .t4) (a .a .0) (e .if1 .left) (b .if2 .left))
     (c .search-type .ensures)
 
 pub search-at-spec : {M : Type 1} → statement M

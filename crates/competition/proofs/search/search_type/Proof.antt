@@ -11,10 +11,10 @@ use Rattle.competition.proofs.search.search_type.Statement.{statement}
 use Rattle.competition.proofs.search.search_type.Tie as tie
 
 abbrev Inv-loop : tie.InvT-loop
-Inv-loop entries begins a queue₀ reached₀ count₀ at₀ queue reached count at = SearchInv entries begins (a .0) at (marks reached queue count)
+Inv-loop numbers entries begins a queue₀ reached₀ count₀ at₀ queue reached count at = SearchInv entries begins (a .0) at (marks reached queue count)
 
 abbrev μ-loop : tie.MeasureT-loop
-μ-loop entries begins a queue₀ reached₀ count₀ at₀ queue reached count at = mostPairs - at
+μ-loop numbers entries begins a queue₀ reached₀ count₀ at₀ queue reached count at = mostPairs - at
 
 array-write-reached : tie.Need-array-write-reached Inv-loop μ-loop
 array-write-reached c = search needs
@@ -73,6 +73,7 @@ search-from-requires c κs =
       r .before .before .before .row-of .ensures .1,
       r .before .row-of2 .ensures .1,
       omega (arith, t .loop-test .taken, t .before .loop .inv .kept .most),
+      t .before .before .before .pre .2,
     )
 
 add-at : tie.Need-add-at Inv-loop μ-loop

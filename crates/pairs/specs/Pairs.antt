@@ -4,8 +4,8 @@ use Prim.Native.Nat.{ℕ}
 use lib.Dec.{ltb}
 use Rattle.sdtd.specs.Limits.{mostStates}
 use Rattle.sdtd.specs.Competition.{pairNumber}
-use Rattle.competition.specs.declared.pairs.PairNumber.{PairNumber}
-use Rattle.competition.specs.declared.pairs.PairNumber.the-variants.{At, Outside}
+use Rattle.pairs.specs.declared.numbers.PairNumber.{PairNumber}
+use Rattle.pairs.specs.declared.numbers.PairNumber.the-variants.{At, Outside}
 
 -- the number of the pair, where both are states
 abbrev pub pairAnswer : ℕ → ℕ → PairNumber

@@ -1,0 +1,46 @@
+// The number of a pair, looked up in the table.
+use crate::limits::ORDERED_PAIRS;
+use crate::table::PAIR_NUMBERS;
+use schema::STATES;
+ghost use mathlib.Core.Path.{_≡_};
+ghost use lib.ListN.{getD};
+ghost use Rattle.pairs.specs.Table.{placeOf, PairTable};
+ghost use Rattle.pairs.specs.Pairs.{pairAnswer};
+
+// The number of a pair of states, or that one of them is no state.
+pub enum PairNumber {
+    At(u16),
+    Outside,
+}
+
+// The table, for a caller that looks up many pairs: it makes the array once and lends it.
+pub fn pair_numbers() -> [u16; ORDERED_PAIRS]
+    ensures { λ r. ⌜ PairTable r ⌝ }
+{
+    PAIR_NUMBERS
+}
+
+// What the table has for the states s and t, in this order; past its end 0.
+pub fn number_in(numbers: &[u16], s: u8, t: u8) -> u16
+    ensures { λ r. ⌜ r ≡ getD (now (numbers .entry)) (placeOf s t) 0 ⌝ }
+{
+    let place = STATES as usize * s as usize + t as usize;
+    if place < numbers.len() {
+        return numbers[place];
+    }
+    0
+}
+
+// The number of the pair, or Outside where one of the two is no state.
+pub fn pair_number(s: u8, t: u8) -> PairNumber
+    ensures { λ r. ⌜ r ≡ pairAnswer s t ⌝ }
+{
+    if STATES <= s {
+        return PairNumber::Outside;
+    }
+    if STATES <= t {
+        return PairNumber::Outside;
+    }
+    let numbers = pair_numbers();
+    PairNumber::At(number_in(&numbers, s, t))
+}

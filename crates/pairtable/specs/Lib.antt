@@ -1,0 +1,2 @@
+-- What is printed of a table.
+pub mod Lines
