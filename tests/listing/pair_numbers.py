@@ -2,7 +2,7 @@
 
 from . import samples
 from .meaning import Wrong
-from .tables import MOST_PAIRS, MOST_STATES
+from .tables import MOST_PAIRS, MOST_STATES, ORDERED_PAIRS
 
 
 def pair_number(p, q):
@@ -21,7 +21,7 @@ def table():
     if [pair_number(p, q) for p, q in counted] != list(range(MOST_PAIRS)):
         raise Wrong("the pairs are not numbered 0 to 527")
     numbers = [pair_number(p, q) for p in range(MOST_STATES) for q in range(MOST_STATES)]
-    if len(numbers) != 1024 or set(numbers) != set(range(MOST_PAIRS)):
+    if len(numbers) != ORDERED_PAIRS or set(numbers) != set(range(MOST_PAIRS)):
         raise Wrong("the table has not 1,024 numbers with each of 0 to 527 among them")
     return numbers
 

@@ -12,7 +12,8 @@ from typing import NamedTuple
 MOST_TAGS, MOST_TYPES, MOST_STATES, MOST_STEPS, MOST_LEVELS = 32, 64, 32, 1024, 64
 MOST_USES, MOST_BRACKETS = 31, 16       # of one expression
 LONGEST_FILE = 8389         # of the accepted schema files with no expression
-MOST_PAIRS, MOST_WORD, LEAST_WITNESS_ROOM = 528, 527, 532
+ORDERED_PAIRS, MOST_PAIRS = 1024, 528   # of states
+MOST_WORD, LEAST_WITNESS_ROOM = 527, 532
 SCHEMA_BYTES, EVENT_BYTES, PROGRAM_TYPES = 16384, 32768, 16384
 
 # How far is listed, and the rooms and lengths that a case has.

@@ -6,6 +6,7 @@ use lib.Dec.{eqb, ltb}
 use lib.ListN.{getD, set}
 use Rattle.sdtd.specs.Limits.{mostTypes, mostStates, mostPairs}
 use Rattle.sdtd.specs.Competition.{pairNumber}
+use Rattle.pairs.specs.Table.{orderedPairs}
 use Rattle.schema.specs.Rows.{toIn, byIn}
 use Rattle.competition.specs.declared.rows.Row.{Row}
 
@@ -26,12 +27,8 @@ mostLinks = mostTypes * mostPairs
 abbrev pub linkOf : ℕ → ℕ → ℕ
 linkOf by at = by + mostTypes * at
 
--- how many pairs a state and a state make
-abbrev pub statePairs : ℕ
-statePairs = mostStates * mostStates
-
 abbrev pub entryOf : ℕ → ℕ → ℕ → ℕ
-entryOf p q link = p + mostStates * q + statePairs * link
+entryOf p q link = p + mostStates * q + orderedPairs * link
 
 abbrev pub firstOf : ℕ → ℕ
 firstOf e = e % mostStates
@@ -40,10 +37,10 @@ abbrev pub secondOf : ℕ → ℕ
 secondOf e = e / mostStates % mostStates
 
 abbrev pub byOf : ℕ → ℕ
-byOf e = e / statePairs % mostTypes
+byOf e = e / orderedPairs % mostTypes
 
 abbrev pub parentOf : ℕ → ℕ
-parentOf e = e / (statePairs * mostTypes)
+parentOf e = e / (orderedPairs * mostTypes)
 
 -- the pair p, q joins the queue, unless it is reached already or the queue is full
 unfoldable pub markOf : Marks → ℕ → ℕ → ℕ → Marks

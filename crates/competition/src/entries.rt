@@ -1,5 +1,6 @@
 // Entries of the queue, as bare numbers. From the lowest digit on: a pair's first state, its second, and its link, which is the type that led
 // to the pair and the place in the queue of the pair it led from.
+use pairs::ORDERED_PAIRS;
 use schema::STATES;
 use schema::TYPES;
 use sdtd::TypeNo;
@@ -11,9 +12,9 @@ ghost use Rattle.competition.specs.Marks.{mostLinks, linkOf, entryOf, fi
 // the second state, the link and the place in the link, by what one more of each adds to the entry
 const SECOND: u32 = STATES as u32;
 
-const LINK: u32 = STATES as u32 * STATES as u32;
+const LINK: u32 = ORDERED_PAIRS as u32;
 
-const PARENT: u32 = STATES as u32 * STATES as u32 * TYPES as u32;
+const PARENT: u32 = LINK * TYPES as u32;
 
 pub(crate) fn link_of(by: usize, at: usize) -> u32
     requires { ⌜ (by < mostTypes) × (at < mostPairs) ⌝ }

@@ -15,11 +15,11 @@ ghost use Rattle.pairs.specs.Table.{PairTable};
 ghost use Rattle.competition.specs.Marks.{mostLinks, marks, markOf, markBoth, markWith, markRows};
 
 // The number of a pair of states, by the table of them.
-fn number(numbers: &[u16; ORDERED_PAIRS], s: u8, t: u8) -> usize
-    requires { ⌜ PairTable (now numbers) × (s < mostStates) × (t < mostStates) ⌝ }
+fn number(table: &[u16; ORDERED_PAIRS], s: u8, t: u8) -> usize
+    requires { ⌜ PairTable (now table) × (s < mostStates) × (t < mostStates) ⌝ }
     ensures { λ r. ⌜ (r ≡ pairNumber s t) × (r < mostPairs) ⌝ }
 {
-    number_in(numbers, s, t) as usize
+    number_in(table, s, t) as usize
 }
 
 // The pair joins the queue, unless it is reached already.
@@ -28,16 +28,16 @@ fn mark<'a>(
     reached: &'a mut [bool; PAIRS],
     queue: &'a mut [u32; PAIRS],
     count: usize,
-    numbers: &[u16; ORDERED_PAIRS],
+    table: &[u16; ORDERED_PAIRS],
     p: u8,
     q: u8,
     link: u32,
 ) -> usize
-    requires { ⌜ (p < mostStates) × (q < mostStates) × (link < mostLinks) × PairTable (now numbers) ⌝ }
+    requires { ⌜ (p < mostStates) × (q < mostStates) × (link < mostLinks) × PairTable (now table) ⌝ }
     ensures { λ r. ⌜ marks (now (reached .exit)) (now (queue .exit)) r
         ≡ markOf (marks (now (reached .entry)) (now (queue .entry)) count) p q link ⌝ }
 {
-    let n = number(numbers, p, q);
+    let n = number(table, p, q);
     if reached[n] {
         return count;
     }
@@ -54,12 +54,12 @@ fn mark_both<'a>(
     reached: &'a mut [bool; PAIRS],
     queue: &'a mut [u32; PAIRS],
     count: usize,
-    numbers: &[u16; ORDERED_PAIRS],
+    table: &[u16; ORDERED_PAIRS],
     e: u32,
     f: u32,
     at: usize,
 ) -> usize
-    requires { ⌜ (at < mostPairs) × PairTable (now numbers) ⌝ }
+    requires { ⌜ (at < mostPairs) × PairTable (now table) ⌝ }
     ensures { λ r. ⌜ marks (now (reached .exit)) (now (queue .exit)) r
         ≡ markBoth e f at (marks (now (reached .entry)) (now (queue .entry)) count) ⌝ }
 {
@@ -70,7 +70,7 @@ fn mark_both<'a>(
     let p = Entry(e).to();
     let q = Entry(f).to();
     let link = link_of(by.0 as usize, at);
-    mark(reached, queue, count, numbers, p, q, link)
+    mark(reached, queue, count, table, p, q, link)
 }
 
 // The pairs that e leads to with the entries of the row.
@@ -78,13 +78,13 @@ fn mark_with<'a>(
     reached: &'a mut [bool; PAIRS],
     queue: &'a mut [u32; PAIRS],
     count: usize,
-    numbers: &[u16; ORDERED_PAIRS],
+    table: &[u16; ORDERED_PAIRS],
     entries: &[u32; STEPS],
     row: Row,
     e: u32,
     at: usize,
 ) -> usize
-    requires { ⌜ (row .end ≤ mostSteps) × (at < mostPairs) × PairTable (now numbers) ⌝ }
+    requires { ⌜ (row .end ≤ mostSteps) × (at < mostPairs) × PairTable (now table) ⌝ }
     ensures { λ r. ⌜ marks (now (reached .exit)) (now (queue .exit)) r
         ≡ markWith (now (entries .entry)) row e at (marks (now (reached .entry)) (now (queue .entry)) count) ⌝ }
 {
@@ -93,7 +93,7 @@ fn mark_with<'a>(
     let mut i = row.start;
     while i < end {
         let f = entries[i];
-        queued = mark_both(reached, queue, queued, numbers, e, f, at);
+        queued = mark_both(reached, queue, queued, table, e, f, at);
         i += 1;
     }
     queued
@@ -104,13 +104,13 @@ fn mark_rows<'a>(
     reached: &'a mut [bool; PAIRS],
     queue: &'a mut [u32; PAIRS],
     count: usize,
-    numbers: &[u16; ORDERED_PAIRS],
+    table: &[u16; ORDERED_PAIRS],
     entries: &[u32; STEPS],
     left: Row,
     right: Row,
     at: usize,
 ) -> usize
-    requires { ⌜ (left .end ≤ mostSteps) × (right .end ≤ mostSteps) × (at < mostPairs) × PairTable (now numbers) ⌝ }
+    requires { ⌜ (left .end ≤ mostSteps) × (right .end ≤ mostSteps) × (at < mostPairs) × PairTable (now table) ⌝ }
     ensures { λ r. ⌜ marks (now (reached .exit)) (now (queue .exit)) r
         ≡ markRows (now (entries .entry)) left right at (marks (now (reached .entry)) (now (queue .entry)) count) ⌝ }
 {
@@ -119,7 +119,7 @@ fn mark_rows<'a>(
     let mut i = left.start;
     while i < end {
         let e = entries[i];
-        queued = mark_with(reached, queue, queued, numbers, entries, right, e, at);
+        queued = mark_with(reached, queue, queued, table, entries, right, e, at);
         i += 1;
     }
     queued
@@ -137,18 +137,18 @@ fn search_step(
     reached: [bool; PAIRS],
     queue: &mut [u32; PAIRS],
     count: usize,
-    numbers: &[u16; ORDERED_PAIRS],
+    table: &[u16; ORDERED_PAIRS],
     entries: &[u32; STEPS],
     left: Row,
     right: Row,
     at: usize,
 ) -> PairsMarked
-    requires { ⌜ (left .end ≤ mostSteps) × (right .end ≤ mostSteps) × (at < mostPairs) × PairTable (now numbers) ⌝ }
+    requires { ⌜ (left .end ≤ mostSteps) × (right .end ≤ mostSteps) × (at < mostPairs) × PairTable (now table) ⌝ }
     ensures { λ r. ⌜ marks (r .reached) (now (queue .exit)) (r .count)
         ≡ markRows (now (entries .entry)) left right at (marks reached (now (queue .entry)) count) ⌝ }
 {
     let mut marked = reached;
-    let queued = mark_rows(&mut marked, queue, count, numbers, entries, left, right, at);
+    let queued = mark_rows(&mut marked, queue, count, table, entries, left, right, at);
     PairsMarked {
         reached: marked,
         count: queued,
@@ -160,13 +160,13 @@ pub(crate) fn search_from<'a>(
     reached: &'a mut [bool; PAIRS],
     queue: &'a mut [u32; PAIRS],
     count: usize,
-    numbers: &[u16; ORDERED_PAIRS],
+    table: &[u16; ORDERED_PAIRS],
     entries: &[u32; STEPS],
     left: Row,
     right: Row,
     at: usize,
 ) -> usize
-    requires { ⌜ (left .end ≤ mostSteps) × (right .end ≤ mostSteps) × (at < mostPairs) × PairTable (now numbers) ⌝ }
+    requires { ⌜ (left .end ≤ mostSteps) × (right .end ≤ mostSteps) × (at < mostPairs) × PairTable (now table) ⌝ }
     ensures { λ r. ⌜ marks (now (reached .exit)) (now (queue .exit)) r
         ≡ markRows (now (entries .entry)) left right at (marks (now (reached .entry)) (now (queue .entry)) count) ⌝ }
 {
@@ -179,7 +179,7 @@ pub(crate) fn search_from<'a>(
     if right.end <= right.start {
         return count;
     }
-    let marked = search_step(*reached, queue, count, numbers, entries, left, right, at);
+    let marked = search_step(*reached, queue, count, table, entries, left, right, at);
     let grown = marked.reached;
     *reached = grown;
     marked.count

@@ -56,13 +56,13 @@ pub(crate) struct TypeTables {
 
 // The search of the type a: the first pair found with rivals, with the queue that leads to it.
 fn search_type<'a>(
-    numbers: &[u16; ORDERED_PAIRS],
+    table: &[u16; ORDERED_PAIRS],
     entries: &'a [u32; STEPS],
     begins: &'a [u16; BEGINS],
     a: TypeNo,
     queue: &mut [u32; PAIRS],
 ) -> PairFound
-    requires { ⌜ (a .0 < mostTypes) × RowsInside (now begins) × PairTable (now numbers) ⌝ }
+    requires { ⌜ (a .0 < mostTypes) × RowsInside (now begins) × PairTable (now table) ⌝ }
     ensures { λ r. ⌜ PairFoundMeans (now (entries .entry)) (now (begins .entry)) (a .0) (now (queue .exit)) r ⌝ }
 {
     let mut reached = [false; PAIRS];
@@ -80,16 +80,7 @@ fn search_type<'a>(
         if let Rivals::Of(j, k) = rivals {
             return PairFound::At(at, j, k);
         }
-        count = search_from(
-            &mut reached,
-            queue,
-            count,
-            numbers,
-            entries,
-            left,
-            right,
-            at,
-        );
+        count = search_from(&mut reached, queue, count, table, entries, left, right, at);
         at += 1;
     }
     PairFound::Nowhere
@@ -97,14 +88,14 @@ fn search_type<'a>(
 
 // The search of the type a, if it is reached and bears a tree.
 fn search_at<'a>(
-    numbers: &[u16; ORDERED_PAIRS],
+    table: &[u16; ORDERED_PAIRS],
     entries: &'a [u32; STEPS],
     begins: &'a [u16; BEGINS],
     tables: TypeTables,
     a: TypeNo,
     queue: &mut [u32; PAIRS],
 ) -> PairFound
-    requires { ⌜ (a .0 < mostTypes) × RowsInside (now begins) × PairTable (now numbers) ⌝ }
+    requires { ⌜ (a .0 < mostTypes) × RowsInside (now begins) × PairTable (now table) ⌝ }
     ensures { λ r. ⌜ SearchedAt (now (entries .entry)) (now (begins .entry)) tables (a .0) (now (queue .exit)) r ⌝ }
 {
     let i = a.0 as usize;
@@ -114,7 +105,7 @@ fn search_at<'a>(
     if !tables.bears[i] {
         return PairFound::Nowhere;
     }
-    search_type(numbers, entries, begins, a, queue)
+    search_type(table, entries, begins, a, queue)
 }
 
 // The smallest type in which two compete: the type, the place in the queue of a pair with rivals, and the rivals.
@@ -125,20 +116,20 @@ pub(crate) enum Competing {
 
 // The search of one type after another.
 fn first_competing<'a>(
-    numbers: &[u16; ORDERED_PAIRS],
+    table: &[u16; ORDERED_PAIRS],
     entries: &'a [u32; STEPS],
     begins: &'a [u16; BEGINS],
     tables: TypeTables,
     queue: &mut [u32; PAIRS],
 ) -> Competing
-    requires { ⌜ (tables .types ≤ mostTypes) × RowsInside (now begins) × PairTable (now numbers) ⌝ }
+    requires { ⌜ (tables .types ≤ mostTypes) × RowsInside (now begins) × PairTable (now table) ⌝ }
     ensures { λ r. ⌜ CompetingMeans (now (entries .entry)) (now (begins .entry)) tables (now (queue .exit)) r ⌝ }
 {
     let types = tables.types;
     let mut i = 0;
     while i < types {
         let a = TypeNo(i as u8);
-        let pair = search_at(numbers, entries, begins, tables, a, queue);
+        let pair = search_at(table, entries, begins, tables, a, queue);
         if let PairFound::At(at, j, k) = pair {
             return Competing::In(a, at, j, k);
         }
@@ -168,8 +159,8 @@ fn competes<'a>(
         types: schema.types as usize,
     };
     let mut queue = [0u32; PAIRS];
-    let numbers = pair_numbers();
-    let competing = first_competing(&numbers, entries, begins, tables, &mut queue);
+    let table = pair_numbers();
+    let competing = first_competing(&table, entries, begins, tables, &mut queue);
     if let Competing::In(a, at, j, k) = competing {
         write_rivals(witness, a, j, k, &queue, at);
         return true;

@@ -7,11 +7,15 @@ use lib.ListN.{length, getD}
 use Rattle.sdtd.specs.Limits.{mostStates}
 use Rattle.sdtd.specs.Competition.{pairNumber}
 
--- where the entry of the states s and t stands: "rising by first state, then second"
-abbrev pub placeOf : ℕ → ℕ → ℕ
-placeOf s t = mostStates * s + t
+-- the 1,024 ordered pairs of 32 states
+abbrev pub orderedPairs : ℕ
+orderedPairs = mostStates * mostStates
 
--- The numbers are that table: an entry for each two states and no more, and each is its pair's number.
+-- where the entry of the states s and t stands: "rising by first state, then second"
+abbrev pub pairPlace : ℕ → ℕ → ℕ
+pairPlace s t = mostStates * s + t
+
+-- The numbers are that table: an entry for each ordered pair and no more, and each is its pair's number.
 pub record PairTable (numbers : List ℕ) : Type 0 where
-  pub size : length numbers ≡ mostStates * mostStates
-  pub rule : (s t : ℕ) → s < mostStates → t < mostStates → getD numbers (placeOf s t) 0 ≡ pairNumber s t
+  pub size : length numbers ≡ orderedPairs
+  pub rule : (s t : ℕ) → s < mostStates → t < mostStates → getD numbers (pairPlace s t) 0 ≡ pairNumber s t

@@ -4,7 +4,7 @@ use crate::table::PAIR_NUMBERS;
 use schema::STATES;
 ghost use mathlib.Core.Path.{_≡_};
 ghost use lib.ListN.{getD};
-ghost use Rattle.pairs.specs.Table.{placeOf, PairTable};
+ghost use Rattle.pairs.specs.Table.{pairPlace, PairTable};
 ghost use Rattle.pairs.specs.Pairs.{pairAnswer};
 
 // The number of a pair of states, or that one of them is no state.
@@ -20,13 +20,13 @@ pub fn pair_numbers() -> [u16; ORDERED_PAIRS]
     PAIR_NUMBERS
 }
 
-// What the table has for the states s and t, in this order; past its end 0.
-pub fn number_in(numbers: &[u16], s: u8, t: u8) -> u16
-    ensures { λ r. ⌜ r ≡ getD (now (numbers .entry)) (placeOf s t) 0 ⌝ }
+// The entry at the place 32 s + t, which in the table is that of the states s and t in this order; 0 past the end.
+pub fn number_in(table: &[u16], s: u8, t: u8) -> u16
+    ensures { λ r. ⌜ r ≡ getD (now (table .entry)) (pairPlace s t) 0 ⌝ }
 {
     let place = STATES as usize * s as usize + t as usize;
-    if place < numbers.len() {
-        return numbers[place];
+    if place < table.len() {
+        return table[place];
     }
     0
 }
@@ -41,6 +41,6 @@ pub fn pair_number(s: u8, t: u8) -> PairNumber
     if STATES <= t {
         return PairNumber::Outside;
     }
-    let numbers = pair_numbers();
-    PairNumber::At(number_in(&numbers, s, t))
+    let table = pair_numbers();
+    PairNumber::At(number_in(&table, s, t))
 }

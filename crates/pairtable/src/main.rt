@@ -2,21 +2,26 @@
 use libc::STDOUT_FILENO;
 use pairs::ORDERED_PAIRS;
 use pairs::PAIR_NUMBERS;
+use text::LINE_END;
 use text::put_byte;
 use text::put_decimal;
 ghost use Rattle.text.specs.Laid.{Laid};
-ghost use Rattle.pairtable.specs.Lines.{lineOf, linesOf};
+ghost use Rattle.pairs.specs.Table.{PairTable};
+ghost use Rattle.pairtable.specs.Lines.{lineOf, linesOf, TextOf};
 
-const END: u8 = 0x0a;
-
-// Three digits, since no number is above 527, and the line end of each.
+// Of each number at most three digits, since it is below 528, and a line end.
 const OUTPUT: usize = 4 * ORDERED_PAIRS;
+
+struct Text {
+    pub bytes: [u8; OUTPUT],
+    pub length: usize,
+}
 
 fn put_line(out: &mut [u8], at: usize, n: u16) -> usize
     ensures { λ r. ⌜ Laid (now (out .entry)) at (lineOf n) (now (out .exit)) r ⌝ }
 {
     let place = put_decimal(out, at, n as usize);
-    put_byte(out, place, END)
+    put_byte(out, place, LINE_END)
 }
 
 fn put_lines(out: &mut [u8], numbers: &[u16]) -> usize
@@ -31,9 +36,19 @@ fn put_lines(out: &mut [u8], numbers: &[u16]) -> usize
     at
 }
 
+// The text of the table.
+fn table_text(numbers: [u16; ORDERED_PAIRS]) -> Text
+    requires { ⌜ PairTable numbers ⌝ }
+    ensures { λ r. ⌜ TextOf numbers (r .bytes) (r .length) ⌝ }
+{
+    let mut bytes = [0u8; OUTPUT];
+    let length = put_lines(&mut bytes, &numbers);
+    Text { bytes, length }
+}
+
 fn main() {
-    let mut out = [0u8; OUTPUT];
-    let numbers = PAIR_NUMBERS;
-    let n = put_lines(&mut out, &numbers);
-    io::write_all(STDOUT_FILENO, &out[..n]);
+    let text = table_text(PAIR_NUMBERS);
+    let bytes = text.bytes;
+    let length = text.length;
+    io::write_all(STDOUT_FILENO, &bytes[..length]);
 }

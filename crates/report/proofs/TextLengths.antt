@@ -15,10 +15,11 @@ use Rattle.events.specs.Events.{Events, ends, stray, event, eventsOf}
 use Rattle.reading.specs.declared.event_file.EventFile.{EventFile}
 use Rattle.events.specs.Outline.{Line, outline}
 use Rattle.typing.specs.declared.job.Job.the-variants.{SchemaRefused, EventsRead}
-use Rattle.report.specs.Words.{header, schemaRefused, refused, accepted, lineEnd}
+use Rattle.report.specs.Words.{header, schemaRefused, refused, accepted}
 use Rattle.report.specs.Text.{numbered, refusalLine, rivals, witnessLine, openingLine, openingLines, lastLine, textOf}
 use Rattle.report.specs.Report.{mostEvents, typesHeld, mostLine, mostLast, mostText}
 use Rattle.text.proofs.DecimalLaws.{decimal-long}
+use Rattle.text.specs.Line.{lineEnd}
 
 -- every byte of a list
 abbrev Bytes : List ℕ → Type 0

@@ -4,6 +4,7 @@ use mathlib.Core.Path.{_≡_, sym, ap, subst, subst₂, _∙_}
 use mathlib.Core.List.{List, _++_}
 use Prim.Native.Nat.{ℕ, _≤_}
 use lib.ListN.{length, take, drop, replicate}
+use Rattle.text.specs.Line.{lineEnd}
 use Rattle.sdtd.specs.Limits.{leastWitness}
 use Rattle.sdtd.specs.Schema.{Schema as Meaning}
 use Rattle.sdtd.specs.Competition.{Witness}
@@ -16,7 +17,7 @@ use Rattle.sdtd.specs.declared.TypeNo.{TypeNo}
 use Rattle.schema_file.proofs.FileAnswers.{file-unique}
 use Rattle.schema_file.proofs.OneWitness.{AnsweredNine, nine-zero, nine-written, one-witness}
 use Rattle.typing.specs.declared.job.Job.the-variants.{SchemaRefused}
-use Rattle.report.specs.Words.{schemaRefused, after, lineEnd}
+use Rattle.report.specs.Words.{schemaRefused, after}
 use Rattle.report.specs.Text.{numbered, refusalLine, rivals, witnessLine, textOf}
 use Rattle.report.specs.Report.{mostSchema, mostEvents, JobPrinted, Printed}
 

@@ -5,6 +5,7 @@ use Prim.Native.Nat.{ℕ}
 use lib.Dec.{eqb}
 use lib.ListN.{take}
 use Rattle.text.specs.Decimal.{decimal}
+use Rattle.text.specs.Line.{lineEnd}
 use Rattle.events.specs.Events.{eventsOf}
 use Rattle.competition.specs.Witness.{headOf}
 use Rattle.competition.specs.declared.witness.WitnessHead.{WitnessHead}
@@ -13,7 +14,7 @@ use Rattle.reading.specs.declared.event_file.EventFile.{EventFile}
 use Rattle.events.specs.Outline.{Line, outline}
 use Rattle.typing.specs.declared.job.Job.{Job}
 use Rattle.typing.specs.declared.job.Job.the-variants.{SchemaRefused, EventsRead}
-use Rattle.report.specs.Words.{header, schemaRefused, refused, atPlace, typeOf, gives, orElse, after, accepted, space, lineEnd}
+use Rattle.report.specs.Words.{header, schemaRefused, refused, atPlace, typeOf, gives, orElse, after, accepted, space}
 
 -- words, and a number after them
 abbrev pub numbered : List ℕ → ℕ → List ℕ

@@ -45,7 +45,3 @@ tooLong = 0x74 ∷ 0x6f ∷ 0x6f ∷ 0x20 ∷ 0x6c ∷ 0x6f ∷ 0x6e ∷ 0x67 �
 -- a space
 abbrev pub space : List ℕ
 space = 0x20 ∷ []
-
--- "Each line ends in byte 0A."
-abbrev pub lineEnd : List ℕ
-lineEnd = 0x0a ∷ []

@@ -3,14 +3,13 @@ use competition::WitnessHead;
 use reading::EventFile;
 use sdtd::Tag;
 use sdtd::TypeNo;
+use text::LINE_END;
 use text::put_byte;
 use text::put_bytes;
 use text::put_decimal;
 ghost use mathlib.Core.Path.{_≡_};
 ghost use Rattle.text.specs.Laid.{Laid};
 ghost use Rattle.report.specs.Text.{numbered, refusalLine, rivals, witnessLine, openingLine, lastLine};
-
-const END: u8 = 0x0a;
 
 fn wide(byte: u8) -> usize
     ensures { λ r. ⌜ r ≡ byte ⌝ }
@@ -38,7 +37,7 @@ pub(crate) fn put_refusal(
 {
     let first = put_numbered(out, at, words, wide(number));
     let second = put_numbered(out, first, b" at ", place);
-    put_byte(out, second, END)
+    put_byte(out, second, LINE_END)
 }
 
 // `type A gives J or K`.
@@ -56,7 +55,7 @@ pub(crate) fn put_witness(out: &mut [u8], at: usize, head: WitnessHead) -> usize
 {
     let first = put_rivals(out, at, head.of, head.first, head.second);
     let last = put_numbered(out, first, b" after ", head.word);
-    put_byte(out, last, END)
+    put_byte(out, last, LINE_END)
 }
 
 // An opening's level, tag and type.
@@ -72,7 +71,7 @@ pub(crate) fn put_opening(
     let first = put_decimal(out, at, level);
     let second = put_numbered(out, first, b" ", wide(tag.0));
     let third = put_numbered(out, second, b" ", wide(type_no.0));
-    put_byte(out, third, END)
+    put_byte(out, third, LINE_END)
 }
 
 // `accepted` with the count of openings, or `refused N at P`.
@@ -81,7 +80,7 @@ pub(crate) fn put_last(out: &mut [u8], at: usize, e: EventFile) -> usize
 {
     if e.number == 0 {
         let place = put_numbered(out, at, b"accepted ", e.count);
-        put_byte(out, place, END)
+        put_byte(out, place, LINE_END)
     } else {
         put_refusal(out, at, b"refused ", e.number, e.place)
     }

@@ -8,6 +8,11 @@ use native.Mathlib.Omega.{arith}
 use Rattle.sdtd.specs.Limits.{mostStates, mostPairs, mostWord, leastWitness}
 use Rattle.sdtd.specs.Competition.{pairNumber}
 
+-- "Pairs (0,0), (3,1), (31,31): 0, 7, 527", and two with an even larger state
+pub pair-samples :
+    (pairNumber 0 0 ≡ 0) × (pairNumber 3 1 ≡ 7) × (pairNumber 31 31 ≡ 527) × (pairNumber 1 2 ≡ 4) × (pairNumber 30 30 ≡ 495)
+pair-samples = (refl, refl, refl, refl, refl)
+
 -- for m < n, the numbers of the pairs whose larger state is m are below those of the pairs whose larger state is n
 rows : (m n : ℕ) → m < n → m * (m + 1) / 2 + m < n * (n + 1) / 2
 rows m n h =
@@ -49,8 +54,3 @@ pair-either {P} swap s t s′ t′ e h =
 -- Document 01's numbers agree: the pairs of states, words of fewer types than pairs, and 5 bytes and the longest word.
 pub numbers-agree : (mostPairs ≡ mostStates * (mostStates + 1) / 2) × (suc mostWord ≡ mostPairs) × (leastWitness ≡ 5 + mostWord)
 numbers-agree = (refl, refl, refl)
-
--- "Pairs (0,0), (3,1), (31,31): 0, 7, 527", and two with an even larger state
-pub pair-samples :
-    (pairNumber 0 0 ≡ 0) × (pairNumber 3 1 ≡ 7) × (pairNumber 31 31 ≡ 527) × (pairNumber 1 2 ≡ 4) × (pairNumber 30 30 ≡ 495)
-pair-samples = (refl, refl, refl, refl, refl)

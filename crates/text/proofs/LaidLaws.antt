@@ -5,7 +5,7 @@ use Prim.Native.Nat.{ℕ, suc, _+_, _≤_, _<_}
 use native.Mathlib.Decide.{decLe}
 use native.Mathlib.Omega.{arith}
 use lib.ListN.{length, set, take, drop, take-append-drop, drop-of-length-le, length-append}
-use lib.Seq.{sets, sets-eq, length-sets, set-out, take-all, length-take-le}
+use lib.Seq.{sets, sets-eq, length-sets, set-out, take-all, length-take-le, take-at}
 use Rattle.text.specs.Laid.{Laid}
 
 pub laid-none : (was : List ℕ) (at : ℕ) → Laid was at [] was at
@@ -33,6 +33,13 @@ fits : (was text : List ℕ) → length text ≤ length was → sets was 0 text 
 fits was text h =
     let same : 0 + length text ≡ length text = omega arith in
     sets-eq text was 0 (omega arith) ∙ ap (λ (n : ℕ). text ++ drop n was) same
+
+-- A text that fits is laid whole, and the next place counts its bytes.
+pub laid-whole : {was text is : List ℕ} {r : ℕ} → Laid was 0 text is r → length text ≤ length was → (r ≤ length is) × (take r is ≡ text)
+laid-whole {was} {text} {is} {r} x h =
+    let same : r ≡ length text = omega (arith, x .place) in
+    let long : length is ≡ length was = ap length (x .bytes) ∙ length-sets was 0 text in
+    (omega arith, rw (x .bytes, fits was text h) (take-at text (drop (length text) was) r (sym same)))
 
 -- from the buffer's start on
 pub sets-start : (was text : List ℕ) → sets was 0 text ≡ take (length was) text ++ drop (length text) was

@@ -1,3 +1,4 @@
--- Text in a buffer: what laying leaves there, and a number's digits.
+-- Text in a buffer: what laying leaves there, a number's digits, and a line's end.
 pub mod Laid
 pub mod Decimal
+pub mod Line

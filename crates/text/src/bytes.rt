@@ -2,6 +2,9 @@
 ghost use mathlib.Core.List.{[], _∷_};
 ghost use Rattle.text.specs.Laid.{Laid};
 
+// Each line ends in byte 0A.
+pub const LINE_END: u8 = 0x0a;
+
 // Puts a byte, and gives the place after it; from the buffer's end on nothing is put, and the place stays.
 pub fn put_byte(out: &mut [u8], at: usize, byte: u8) -> usize
     ensures { λ r. ⌜ Laid (now (out .entry)) at (byte ∷ []) (now (out .exit)) r ⌝ }

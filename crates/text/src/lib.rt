@@ -2,6 +2,7 @@
 mod bytes;
 mod decimal;
 
+pub use bytes::LINE_END;
 pub use bytes::put_byte;
 pub use bytes::put_bytes;
 pub use decimal::put_decimal;

@@ -1,25 +1,19 @@
--- `pairtable::main` is safe and ends: the lines laid end inside the buffer.
+-- `pairtable::main` is safe and ends: the constant passes the table's test, and the lines end inside the buffer.
 use mathlib.Core.Path.{sym}
-use native.Mathlib.Omega.{arith}
 use borrow.Author.Needs.{needs}
 use lib.Seq.{length-take-le}
+use Rattle.pairs.proofs.TableRule.{passes}
 use Rattle.pairtable.proofs.main.Statement.{statement}
 use Rattle.pairtable.proofs.main.Tie as tie
 
-slice-aggregate-put-lines : tie.Need-slice-aggregate-put-lines
-slice-aggregate-put-lines c = search needs
+table-text-requires : tie.Need-table-text-requires
+table-text-requires c κs = passes _ tt tt
 
-slice-aggregate-put-lines-2 : tie.Need-slice-aggregate-put-lines-2
-slice-aggregate-put-lines-2 c = search needs
-
-put-lines-requires : tie.Need-put-lines-requires
-put-lines-requires c κs = search needs
-
-array-share-prefix-out : tie.Need-array-share-prefix-out
-array-share-prefix-out c = search needs
+array-share-prefix-bytes : tie.Need-array-share-prefix-bytes
+array-share-prefix-bytes c = c .before .table-text .ensures .inside
 
 slice-aggregate-write-all : tie.Need-slice-aggregate-write-all
-slice-aggregate-write-all c = sym (length-take-le _ _ (search needs))
+slice-aggregate-write-all c = sym (length-take-le _ _ (c .before .before .table-text .ensures .inside))
 
 write-all-requires : tie.Need-write-all-requires
 write-all-requires c κs = search needs
@@ -31,10 +25,8 @@ pub main-spec : {M : Type 1} → statement M
 main-spec =
     tie.close
     (tie.spec
-    slice-aggregate-put-lines
-    slice-aggregate-put-lines-2
-    put-lines-requires
-    array-share-prefix-out
+    table-text-requires
+    array-share-prefix-bytes
     slice-aggregate-write-all
     write-all-requires
     returns)

@@ -8,12 +8,12 @@ use Rattle.competition.proofs.marks.mark_with.Statement.{statement}
 use Rattle.competition.proofs.marks.mark_with.Tie as tie
 
 abbrev Inv-loop : tie.InvT-loop
-Inv-loop reached₀ queue₀ count numbers entries e at end queued₀ i₀ reached queue queued i =
+Inv-loop reached₀ queue₀ count table entries e at end queued₀ i₀ reached queue queued i =
     markEach (λ f. markBoth e f at) entries i (end - i) (marks reached queue queued)
     ≡ markEach (λ f. markBoth e f at) entries i₀ (end - i₀) (marks reached₀ queue₀ count)
 
 abbrev μ-loop : tie.MeasureT-loop
-μ-loop reached₀ queue₀ count numbers entries e at end queued₀ i₀ reached queue queued i = end - i
+μ-loop reached₀ queue₀ count table entries e at end queued₀ i₀ reached queue queued i = end - i
 
 loop-holds : tie.Need-loop-holds Inv-loop μ-loop
 loop-holds c = refl

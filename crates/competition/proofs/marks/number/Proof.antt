@@ -1,6 +1,7 @@
 -- `competition::marks::number` meets its contract, by the table's rule.
+use mathlib.Core.Path.{refl}
 use borrow.Author.Needs.{needs}
-use Rattle.pairs.proofs.TableRule.{looked-up}
+use Rattle.sdtd.proofs.Pairs.{pair-below-most}
 use Rattle.competition.proofs.marks.number.Statement.{statement}
 use Rattle.competition.proofs.marks.number.Tie as tie
 
@@ -13,7 +14,9 @@ cast-result c = search needs
 returns : tie.Need-returns
 returns c =
     let start = c .before .before in
-    rw (c .number-in .ensures) (looked-up (start .pre .0) (start .args .s) (start .args .t) (start .pre .1) (start .pre .2))
+    let s = start .args .s in
+    let t = start .args .t in
+    rw (c .number-in .ensures, start .pre .0 .rule s t (start .pre .1) (start .pre .2)) (refl, pair-below-most s t (start .pre .1) (start .pre .2))
 
 pub number-spec : {M : Type 1} → statement M
 number-spec = tie.close (tie.spec number-in-requires cast-result returns)

@@ -8,10 +8,10 @@ use Rattle.competition.proofs.search.first_competing.Statement.{stateme
 use Rattle.competition.proofs.search.first_competing.Tie as tie
 
 abbrev Inv-loop : tie.InvT-loop
-Inv-loop numbers entries begins tables queue₀ types i₀ queue i = (i ≤ types) × ((c : ℕ) → c < i → RestrainedIn entries begins tables c)
+Inv-loop table entries begins tables queue₀ types i₀ queue i = (i ≤ types) × ((c : ℕ) → c < i → RestrainedIn entries begins tables c)
 
 abbrev μ-loop : tie.MeasureT-loop
-μ-loop numbers entries begins tables queue₀ types i₀ queue i = types - i
+μ-loop table entries begins tables queue₀ types i₀ queue i = types - i
 
 loop-holds : tie.Need-loop-holds Inv-loop μ-loop
 loop-holds c = (omega arith, λ i l. absurd (omega arith))

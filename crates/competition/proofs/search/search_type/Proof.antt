@@ -11,10 +11,10 @@ use Rattle.competition.proofs.search.search_type.Statement.{statement}
 use Rattle.competition.proofs.search.search_type.Tie as tie
 
 abbrev Inv-loop : tie.InvT-loop
-Inv-loop numbers entries begins a queue₀ reached₀ count₀ at₀ queue reached count at = SearchInv entries begins (a .0) at (marks reached queue count)
+Inv-loop table entries begins a queue₀ reached₀ count₀ at₀ queue reached count at = SearchInv entries begins (a .0) at (marks reached queue count)
 
 abbrev μ-loop : tie.MeasureT-loop
-μ-loop numbers entries begins a queue₀ reached₀ count₀ at₀ queue reached count at = mostPairs - at
+μ-loop table entries begins a queue₀ reached₀ count₀ at₀ queue reached count at = mostPairs - at
 
 array-write-reached : tie.Need-array-write-reached Inv-loop μ-loop
 array-write-reached c = search needs

@@ -24,7 +24,7 @@ returns : tie.Need-returns
 returns c = search needs
 
 returns-2 : tie.Need-returns-2
-returns-2 c = sym (List·getD-eq-default (c .before .args .numbers .now) 0 (c .if1 .left))
+returns-2 c = sym (List·getD-eq-default (c .before .args .table .now) 0 (c .if1 .left))
 
 pub number-in-spec : {M : Type 1} → statement M
 number-in-spec =

@@ -13,7 +13,7 @@ returns c = rw (le-ltb (c .before .args .s) mostStates (c .if1 .taken))
 returns-2 : tie.Need-returns-2
 returns-2 c =
     let a = c .before .before .args in
-    rw (lt-ltb (a .s) mostStates (c .before .if1 .left), le-ltb (a .t) mostStates (c .if2 .taken))
+    rw (lt-ltb (a .s) mostStates (c .before .if1 .left), le-ltb (a .t) mostStates (omega arith))
 
 pair-numbers-requires : tie.Need-pair-numbers-requires
 pair-numbers-requires c κs = search needs
