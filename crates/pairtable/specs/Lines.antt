@@ -6,9 +6,11 @@ use lib.ListN.{length, take}
 use Rattle.text.specs.Decimal.{decimal}
 use Rattle.text.specs.Line.{lineEnd}
 
+-- a decimal number and the line's end
 unfoldable pub lineOf : ℕ → List ℕ
 lineOf n = decimal n ++ lineEnd
 
+-- a line for each number
 abbrev pub linesOf : List ℕ → List ℕ
 linesOf [] = []
 linesOf (n ∷ ns) = lineOf n ++ linesOf ns

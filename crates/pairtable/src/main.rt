@@ -12,11 +12,13 @@ ghost use Rattle.pairtable.specs.Lines.{lineOf, linesOf, TextOf};
 // Of each number at most three digits, since it is below 528, and a line end.
 const OUTPUT: usize = 4 * ORDERED_PAIRS;
 
+// A text, and how many of the bytes it has.
 struct Text {
     pub bytes: [u8; OUTPUT],
     pub length: usize,
 }
 
+// Puts the number's digits and a line end, and gives the place after them.
 fn put_line(out: &mut [u8], at: usize, n: u16) -> usize
     ensures { λ r. ⌜ Laid (now (out .entry)) at (lineOf n) (now (out .exit)) r ⌝ }
 {
@@ -24,6 +26,7 @@ fn put_line(out: &mut [u8], at: usize, n: u16) -> usize
     put_byte(out, place, LINE_END)
 }
 
+// Puts a line for each number, and gives the place after the last.
 fn put_lines(out: &mut [u8], numbers: &[u16]) -> usize
     ensures { λ r. ⌜ Laid (now (out .entry)) 0 (linesOf (now (numbers .entry))) (now (out .exit)) r ⌝ }
 {
@@ -36,7 +39,7 @@ fn put_lines(out: &mut [u8], numbers: &[u16]) -> usize
     at
 }
 
-// The text of the table.
+// The lines of the table.
 fn table_text(numbers: [u16; ORDERED_PAIRS]) -> Text
     requires { ⌜ PairTable numbers ⌝ }
     ensures { λ r. ⌜ TextOf numbers (r .bytes) (r .length) ⌝ }
