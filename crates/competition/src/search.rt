@@ -91,18 +91,18 @@ fn search_at<'a>(
     table: &[u16; ORDERED_PAIRS],
     entries: &'a [u32; STEPS],
     begins: &'a [u16; BEGINS],
-    tables: TypeTables,
+    useful: TypeTables,
     a: TypeNo,
     queue: &mut [u32; PAIRS],
 ) -> PairFound
     requires { ⌜ (a .0 < mostTypes) × RowsInside (now begins) × PairTable (now table) ⌝ }
-    ensures { λ r. ⌜ SearchedAt (now (entries .entry)) (now (begins .entry)) tables (a .0) (now (queue .exit)) r ⌝ }
+    ensures { λ r. ⌜ SearchedAt (now (entries .entry)) (now (begins .entry)) useful (a .0) (now (queue .exit)) r ⌝ }
 {
     let i = a.0 as usize;
-    if !tables.reached[i] {
+    if !useful.reached[i] {
         return PairFound::Nowhere;
     }
-    if !tables.bears[i] {
+    if !useful.bears[i] {
         return PairFound::Nowhere;
     }
     search_type(table, entries, begins, a, queue)
@@ -119,17 +119,17 @@ fn first_competing<'a>(
     table: &[u16; ORDERED_PAIRS],
     entries: &'a [u32; STEPS],
     begins: &'a [u16; BEGINS],
-    tables: TypeTables,
+    useful: TypeTables,
     queue: &mut [u32; PAIRS],
 ) -> Competing
-    requires { ⌜ (tables .types ≤ mostTypes) × RowsInside (now begins) × PairTable (now table) ⌝ }
-    ensures { λ r. ⌜ CompetingMeans (now (entries .entry)) (now (begins .entry)) tables (now (queue .exit)) r ⌝ }
+    requires { ⌜ (useful .types ≤ mostTypes) × RowsInside (now begins) × PairTable (now table) ⌝ }
+    ensures { λ r. ⌜ CompetingMeans (now (entries .entry)) (now (begins .entry)) useful (now (queue .exit)) r ⌝ }
 {
-    let types = tables.types;
+    let types = useful.types;
     let mut i = 0;
     while i < types {
         let a = TypeNo(i as u8);
-        let pair = search_at(table, entries, begins, tables, a, queue);
+        let pair = search_at(table, entries, begins, useful, a, queue);
         if let PairFound::At(at, j, k) = pair {
             return Competing::In(a, at, j, k);
         }
@@ -153,14 +153,14 @@ fn competes<'a>(
 {
     let reached = trimming.reached;
     let bears = trimming.bears;
-    let tables = TypeTables {
+    let useful = TypeTables {
         reached,
         bears,
         types: schema.types as usize,
     };
     let mut queue = [0u32; PAIRS];
     let table = pair_numbers();
-    let competing = first_competing(&table, entries, begins, tables, &mut queue);
+    let competing = first_competing(&table, entries, begins, useful, &mut queue);
     if let Competing::In(a, at, j, k) = competing {
         write_rivals(witness, a, j, k, &queue, at);
         return true;

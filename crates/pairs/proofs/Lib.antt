@@ -1,2 +1,2 @@
--- The rule of the table, and what it says of a number looked up.
+-- The rule of the table, and what follows from it.
 pub mod TableRule

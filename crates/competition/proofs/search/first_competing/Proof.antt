@@ -8,10 +8,10 @@ use Rattle.competition.proofs.search.first_competing.Statement.{stateme
 use Rattle.competition.proofs.search.first_competing.Tie as tie
 
 abbrev Inv-loop : tie.InvT-loop
-Inv-loop table entries begins tables queue₀ types i₀ queue i = (i ≤ types) × ((c : ℕ) → c < i → RestrainedIn entries begins tables c)
+Inv-loop table entries begins useful queue₀ types i₀ queue i = (i ≤ types) × ((c : ℕ) → c < i → RestrainedIn entries begins useful c)
 
 abbrev μ-loop : tie.MeasureT-loop
-μ-loop table entries begins tables queue₀ types i₀ queue i = types - i
+μ-loop table entries begins useful queue₀ types i₀ queue i = types - i
 
 loop-holds : tie.Need-loop-holds Inv-loop μ-loop
 loop-holds c = (omega arith, λ i l. absurd (omega arith))
@@ -46,7 +46,7 @@ loop-again c =
     let l = s .before .before .before in
     let a = l .before .args in (
       omega arith,
-      below-more (λ i. RestrainedIn (a .entries .now) (a .begins .now) (a .tables) i) (l .loop .i) (l .loop .inv .1)
+      below-more (λ i. RestrainedIn (a .entries .now) (a .begins .now) (a .useful) i) (l .loop .i) (l .loop .inv .1)
           (rw (c .enum-told .given .1) at (s .search-at .ensures)),
     )
 
