@@ -17,19 +17,20 @@ list of calls, E an event file, J a whole job of the program, V a schema value m
 states, Q a set of states.
 
 How the model decides. It lists words and typed trees from document 000's definition, as
-listing/meaning.py says: whether a type bears a tree, is reached, or has two that compete in it;
-whether a valid document begins with some events is found by typing them and completing the typed
-beginning, as listing/reading.py says. What a reading holds, and what made-up values answer, is
-said by document 01's words on such values, in listing/value.py; where both apply both are taken
-and must agree. Every number of document 01 stands in listing/tables.py. Beside that the valid
-documents of random schemas are listed up to some size and compared (listing/listed.py), and for
-each competition two documents of demand 3 are built and looked at, and all shorter words are
-listed, if there are not too many. Of content written as an expression the words are listed too, and
-the automaton is made from them by the request's wording (listing/expression.py).
+listing/meaning.py says: whether a type bears a tree, is reached, or has two that compete in it, and
+whether roots compete; whether a valid document begins with some events is found by typing them and
+completing the typed beginning, as listing/reading.py says. What a reading holds, and what made-up
+values answer, is said by document 01's words on such values, in listing/value.py; where both apply
+both are taken and must agree. Every number of document 01 stands in listing/tables.py. Beside that
+the valid documents of random schemas are listed up to some size and compared (listing/listed.py),
+and for each competition, of roots too, two documents of demand 3 are built and looked at, and all
+shorter words are listed, if there are not too many. Of content written as an expression the words
+are listed too, and the automaton is made from them by the request's wording
+(listing/expression.py).
 
 The schema fixes A and n of a witness; J, K and w are the program's choice, w among the shortest
-words. With a committed stdout given, the choice made there is taken over if the listing confirms
-it; otherwise this fails.
+words. Where roots compete A is 255 and n is 0, and J and K are any two that do. With a committed
+stdout given, the choice made there is taken over if the listing confirms it; otherwise this fails.
 """
 
 import sys
@@ -40,7 +41,8 @@ from pathlib import Path
 
 sys.dont_write_bytecode = True
 
-from listing import cases_under_expressions, choices, least, pair_numbers
+from listing import (cases_roots, cases_under_expressions, cases_under_roots, choices, least,
+                     pair_numbers)
 from listing.case import HEAD
 from listing.cases_jobs import damaged_cases, named_size_cases, random_cases, sample_cases
 from listing.groups import GROUPS, made
@@ -111,8 +113,10 @@ def write_folders(count, folder):
     cases = list(random_cases("folders", count // 5, count // 15, count // 30, lists=4))
     cases += list(damaged_cases(count // 10))
     cases += list(islice(cases_under_expressions.random_job_cases(), count // 10))
+    cases += list(islice(cases_under_roots.random_job_cases(), count // 10))
     named = [(f"sample-{n}", case) for n, case in enumerate(sample_cases())]
     named += [(f"random-{n}", case) for n, case in enumerate(cases)]
+    named += [(f"roots-{n}", case) for n, case in enumerate(cases_roots.job_cases())]
     named += [*named_size_cases(), *cases_under_expressions.named_size_cases()]
     for name, case in named:
         here = folder / name

@@ -3,6 +3,7 @@
 from typing import NamedTuple
 
 from . import calls, event_file, judged, program
+from .meaning import Wrong
 
 HEAD = 7        # a case's kind and three lengths of two bytes; so many bytes 00 end the cases
 
@@ -28,6 +29,14 @@ class Case(NamedTuple):
 def schema_case(kind, file, room):
     text, number = judged.schema_line(file, room)
     return Case("S", f"S {kind}", room, file, b"", text + "\n", (number,))
+
+
+def due_case(kind, file, number, place, room):
+    """The case of a schema file of which number and place are known."""
+    found = judged.judge(file)
+    if (found.number, found.place) != (number, place):
+        raise Wrong(f"{number} at {place} is due, not {found.text()}: {file.hex(' ')}")
+    return schema_case(kind, file, room)
 
 
 def calls_case(kind, made):

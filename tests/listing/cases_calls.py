@@ -56,6 +56,10 @@ class Script(Calls):
     def schema(self):
         return judge(self.file).meaning.schema
 
+    def root_tag(self):
+        """The tag of the first root."""
+        return self.schema().blocks[self.schema().roots[0]].tag
+
     def case(self):
         """The case; the events taken so far, if nothing was put, begin a valid document."""
         if self.reading.document:
@@ -87,12 +91,13 @@ def sample_cases():
 
 def no_schema_cases():
     """Under a refused file every call is outside the limits, until a schema of one leaf is made
-    up."""
+    up, the count of its roots with it."""
     start = starter("no schema")
-    for file in (b"", samples.NO_TREE_AT_ROOT, samples.TWO_B):
-        made = start(file).route(f"0 /0 f {BYTE}").puts(("tags", 1)).route("0")
-        made.puts(("tag", 0), ("states", 1), ("accepting", 1), ("steps", 0)).route("f")
-        yield made.puts(("types", 1)).route("f 0 /0 f").case()
+    for counts in ([("types", 1)], [("types", 1), ("roots", 1)]):
+        for file in (b"", samples.NO_TREE_AT_ROOT, samples.TWO_B):
+            made = start(file).route(f"0 /0 f {BYTE}").puts(("tags", 1)).route("0")
+            made.puts(("tag", 0), ("states", 1), ("accepting", 1), ("steps", 0)).route("f")
+            yield made.puts(*counts).route("f 0 /0 f").case()
 
 
 def refusal_cases():
@@ -132,7 +137,7 @@ def large_cases():
     start, last = starter("large"), MOST_TAGS - 1
     for file in (write(schemas.full_steps()), schemas.dense_longest(last=False)):
         made = start(file)
-        root = made.schema().blocks[made.schema().root].tag
+        root = made.root_tag()
         made.route(f"{root} {last} {last + 1} 0 {BYTE} /{last} /0 0 5 /0 /5 f")
         yield made.route(f"0 /0 7 /7 /{root} f {root}").case()
     for m, n, early in ((2, 3, 0), (3, 3, 0), (2, 3, 1), (3, 3, 1), (14, 16, 0), (14, 16, 1)):
@@ -246,7 +251,7 @@ def unused_puts():
         for n in range(MOST_LEVELS):
             made.puts(("level type", BYTE, n), ("level set", SET, n))
         made.refused()
-        made.give(OPEN, made.schema().blocks[made.schema().root].tag)
+        made.give(OPEN, made.root_tag())
         made.refused().events(opened(*range(made.schema().tags)))
         while made.reading.depth() and made.reading.refusal(
                 CLOSE, made.reading.innermost_tag()) is None:
@@ -295,7 +300,7 @@ def type_count_puts():
     start, last = starter("schemas made up", "types"), MOST_TYPES - 1
     blocks = [leaf(a % MOST_TAGS) for a in range(last)]
     blocks.append(Block(MOST_TAGS - 1, 2, [1], [(0, last - 1, 1)]))
-    file = write(Schema(MOST_TAGS, blocks, last))
+    file = write(Schema(MOST_TAGS, blocks, (last,)))
     for types in (last - 1, *damage.around(MOST_TYPES)):
         for root in (0, last - 2, last - 1, last, MOST_TYPES):
             made = start(file).puts(("types", types), ("root", root))
@@ -316,7 +321,7 @@ def step_count_puts():
         yield made.some(tags)
     row = [(0, 0, q) for q in range(MOST_STATES)]
     wide = write(Schema(MOST_TAGS, [Block(tag, MOST_STATES, [0], row)
-                                    for tag in range(MOST_TAGS)], last))
+                                    for tag in range(MOST_TAGS)], (last,)))
     each, half, none = most // MOST_TAGS, most // 2, [0] * (MOST_TAGS - 2)
     for counts in ([WORD] * MOST_TAGS, [2 * most] * MOST_TAGS, [each] * last + [each + 1],
                    [0] * last + [most], [half, half, *none], [half, half + 1, *none]):

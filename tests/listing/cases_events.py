@@ -179,7 +179,7 @@ def large_schema_cases():
     kind, last = "large schemas", MOST_TAGS - 1
     for file in (write(schemas.full_steps()), schemas.dense_longest(last=False)):
         schema = judge(file).meaning.schema
-        root = schema.blocks[schema.root].tag
+        root = schema.blocks[schema.roots[0]].tag
         end = closed(root) + END
         for data in (opened(root) + leaves(0, 0, 0) + end, opened(root) + leaves(last),
                      opened(root, last + 1), opened(root) + leaves(5, 7) + end, opened(last),
@@ -232,7 +232,7 @@ def hand_cases():
             yield event_case("random, valid", file, data, count_openings(data))
             some = rng.choice(damage.EVENT_DAMAGES)(rng, judged, data)
             yield event_case("random, damaged", file, some, count_openings(data) + 1)
-            root = opened(judged.meaning.tag(judged.meaning.schema.root))[:rng.randrange(3)]
+            root = opened(judged.meaning.tag(judged.meaning.schema.roots[0]))[:rng.randrange(3)]
             yield event_case("random, any bytes", file, root + damage.any_bytes(rng, judged, data),
                              rng.choice((1, 2, 8)))
 

@@ -4,12 +4,12 @@ kinds."""
 import random
 
 from . import damage, expressions, samples, schemas
-from .case import event_case, job_case, schema_case, value_case
+from .case import due_case, event_case, job_case, schema_case, value_case
 from .cases_calls import starter
 from .cases_events import PLENTY
 from .cases_jobs import ONE_ELEMENT
 from .cases_schema import listed_case
-from .cases_values import made_up
+from .cases_values import made_up_cases
 from .expressions import (LEAVES, any_words, content, each, leaves_below, never_falling,
                           over_leaves, rising, schema, schema_of, text)
 from .judged import judge
@@ -32,11 +32,7 @@ def s_case(part, file):
 
 
 def due(part, file, number, place):
-    """The case of a file of which number and place are known."""
-    judged = judge(file)
-    if (judged.number, judged.place) != (number, place):
-        raise Wrong(f"{number} at {place} is due, not {judged.text()}: {file.hex(' ')}")
-    return s_case(part, file)
+    return due_case(f"expressions, {part}", file, number, place, LEAST_WITNESS_ROOM)
 
 
 def taken(part, file):
@@ -51,7 +47,7 @@ def sample_cases():
         if judge(by_states).text() != judge(file).text():
             raise Wrong("a sample written as an expression comes out differently")
         yield schema_case("expressions, samples", file, ROOM)
-        yield value_case("expressions", *made_up(file), ROOM)
+        yield from made_up_cases("expressions", file, ROOM)
         yield job_case("expressions", file, b"")
     for by_states, events, number, place, types in samples.DOCUMENTS:
         file = expressions.SAMPLES[by_states]
@@ -80,7 +76,7 @@ def hand_cases():
         if (a, len(w)) != (0, n):
             raise Wrong(f"another competition in {written}")
         yield due("competition", file, COMPETITION, 0)
-        yield value_case("expressions", *made_up(file), ROOM)
+        yield from made_up_cases("expressions", file, ROOM)
         yield job_case("expressions", file, ONE_ELEMENT)
     for tags, written in expressions.NOT_COMPETING:
         yield taken("competition", over_leaves(written, *tags))
@@ -95,7 +91,7 @@ def hand_cases():
         yield s_case("no tree", file)
         yield job_case("expressions", file, ONE_ELEMENT)
     for root, number in ((0, TAKEN), (1, NO_TREE)):
-        yield due("no tree", schema(1, (0, "(1) |"), (0, "1"), root=root), number, 0)
+        yield due("no tree", schema(1, (0, "(1) |"), (0, "1"), roots=(root,)), number, 0)
 
 
 def buffer_cases():
@@ -192,11 +188,11 @@ def type_cases():
     for tag in (1, 2, BYTE):
         yield s_case("types", bytes([TAGS, 2, TYPE, tag, 0, END_EXPRESSION]) + end_of_file(0))
     for root in (0, 1, 2, MOST_TYPES - 1, BYTE):
-        yield s_case("types", write(Schema(2, [content(0, "1"), content(1, "")], root)))
+        yield s_case("types", write(Schema(2, [content(0, "1"), content(1, "")], (root,))))
     for count in damage.around(MOST_TYPES):
         blocks = [Content(a % MOST_TAGS, text(f"{(a + 1) % count}") if a % 2 else b"")
                   for a in range(count)]
-        yield s_case("types", write(Schema(MOST_TAGS, blocks, count - 1)))
+        yield s_case("types", write(Schema(MOST_TAGS, blocks, (count - 1,))))
     full = without_end(schemas.leaves_only(MOST_TYPES))
     for more in ([TYPE, 0, 0], [TYPE, MOST_TAGS, 0], [TYPE, 0, 0, END_EXPRESSION], [TYPE, 0],
                  [OPEN_BRACKET], [END_EXPRESSION]):
@@ -289,7 +285,7 @@ def steps_at_end():
     for count in (*damage.around(SPARE), SPARE + 2):
         block, full = Block(0, MOST_STATES, [0], steps[:count]), Content(0, FULL)
         # At the end of FULL, and at a STEP after it.
-        before = write(Schema(MOST_TAGS, [block, full, *some_leaves], 1))
+        before = write(Schema(MOST_TAGS, [block, full, *some_leaves], (1,)))
         end = len(without_end(write(Schema(MOST_TAGS, [block, full])))) - 1
         yield count, before, end
         after = write(Schema(MOST_TAGS, [full, *some_leaves, block]))

@@ -3,7 +3,8 @@
 The answer 20 cannot come up: events of at most 32,768 bytes have at most 16,384 openings of two
 bytes each, and the program's buffer holds 16,384 types. Nor can a byte of `schema.tab` past its
 first 16,384 matter here: without expressions commands that are not refused fill at most 8,389
-bytes, so the refusal comes long before. cases_under_expressions has longer files.
+bytes, with eight ROOTs 14 more, so the refusal comes long before. cases_under_expressions has
+longer files.
 """
 
 import random
@@ -71,7 +72,7 @@ def random_cases(name, accepted, competing, treeless, lists=len(damage.WAYS)):
             yield from cases
 
 
-def schema_cases(rng, file, judged, lists):
+def schema_cases(rng, file, judged, lists, ways=damage.WAYS):
     """The jobs under a random schema; mostly none under one with a single small document."""
     if not judged.accepted:
         return [job_case("random", file, rng.choice([ONE_ELEMENT, b"", b"\0"]))]
@@ -79,7 +80,7 @@ def schema_cases(rng, file, judged, lists):
     if len(listed.trees) == 1 and rng.random() < 0.9:
         return []
     cases = []
-    for way in rng.sample(damage.WAYS, lists):
+    for way in rng.sample(ways, lists):
         events = way(rng, judged, random_document(rng, judged.meaning, listed.trees))
         walk = walked(judged, events, PROGRAM_TYPES, None)
         listed.check(events, walk)
@@ -165,8 +166,8 @@ def schema_size_cases():
 
 
 def row(file, a, count):
-    """A tree of the root type with so many children of type a, and its document."""
-    tree = (judge(file).meaning.schema.root, ((a, ()),) * count)
+    """A tree of the first root type with so many children of type a, and its document."""
+    tree = (judge(file).meaning.schema.roots[0], ((a, ()),) * count)
     return tree, document(judge(file).meaning, tree)
 
 

@@ -4,12 +4,12 @@ accepted ones lists of calls (C), event files (E) and jobs (J)."""
 import random
 
 from . import damage, expressions, samples, schemas
-from .case import event_case, job_case, schema_case, value_case
+from .case import event_case, job_case, schema_case
 from .cases_calls import starter, walked
 from .cases_events import PLENTY, checked_case
 from .cases_expressions import ROOM
 from .cases_jobs import schema_cases
-from .cases_values import made_up
+from .cases_values import made_up_cases
 from .event_file import END, calls_of, count_openings, leaves, nested, route
 from .event_lists import random_document
 from .expressions import (LEAVES, all_after_all, any_words, each, leaves_below, never_falling,
@@ -44,7 +44,7 @@ def random_cases():
                 Listed(judged.meaning)
             yield schema_case("expressions, random", file, ROOM)
             if rng.random() < 0.3:
-                yield value_case("expressions", *made_up(file), ROOM)
+                yield from made_up_cases("expressions", file, ROOM)
 
 
 def random_job_cases():
@@ -63,8 +63,8 @@ def random_job_cases():
 def random_accepted(rng):
     while True:
         made = expressions.random_schema(rng)
-        if made and made[1].accepted and made[1].meaning.types_in_words(
-                made[1].meaning.schema.root):
+        if made and made[1].accepted and any(map(made[1].meaning.types_in_words,
+                                                 made[1].meaning.schema.roots)):
             return made
 
 

@@ -26,11 +26,23 @@ def made_up(file):
     return (b"", puts_of(judged.meaning.schema)) if refused else (file, [])
 
 
+def made_up_cases(kind, file, room):
+    """The value of the schema that a file states."""
+    file, puts = made_up(file)
+    return by_puts(kind, puts, room) if puts else [value_case(kind, file, [], room)]
+
+
+def by_puts(kind, puts, room):
+    """A schema of one root stated by puts alone. The last, the count of its roots, is left out: a
+    root put into a value of no root is its one root."""
+    return [value_case(kind, b"", puts[:-1], room)]
+
+
 def sample_cases():
     """Document 01's samples, and a competition in a type that is not reached."""
     for file in [*samples.FILES, schemas.USELESS, b""]:
         for room in ROOMS:
-            yield value_case("samples", *made_up(file), room)
+            yield from made_up_cases("samples", file, room)
     # 33 tags, and an accepting state 1 of a type of one state.
     one = write(Schema(1, [leaf(0)]))
     yield value_case("samples", one, [("tags", MOST_TAGS + 1, 0)], ROOM)
@@ -60,16 +72,16 @@ def stated_cases():
     """Structures and random schemas, those refused stated by puts alone."""
     rng = random.Random("schemas by puts")
     for file in schemas.structures():
-        yield value_case("structures", *made_up(file), ROOM)
+        yield from made_up_cases("structures", file, ROOM)
     for _ in range(60):
         made = schemas.random_schema(rng, schemas.SMALL)
         if made:
             puts = puts_of(made[1].meaning.schema)
-            yield value_case("by puts", b"", puts, rng.choice(ROOMS[1:]))
+            yield from by_puts("by puts", puts, rng.choice(ROOMS[1:]))
 
 
 def puts_of(schema):
-    """The puts that state a schema."""
+    """The puts that state a schema; the last is the count of its roots."""
     return [(field, number, index) for field, index, number in entries_of(schema)]
 
 

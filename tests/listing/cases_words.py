@@ -5,16 +5,16 @@ import random
 from itertools import islice
 
 from . import choices, schemas, words
-from .case import job_case, schema_case, value_case
+from .case import job_case, schema_case
 from .cases_jobs import ONE_ELEMENT
-from .cases_values import made_up
+from .cases_values import made_up_cases
 from .judged import judge, witness_text
 from .meaning import TooMany, Wrong
 from .tables import LEAST_WITNESS_ROOM, MOST_WITNESS_ROOM
 
 
 def three_cases(file, room):
-    return [schema_case("words", file, room), value_case("words", *made_up(file), room),
+    return [schema_case("words", file, room), *made_up_cases("words", file, room),
             job_case("words", file, ONE_ELEMENT)]
 
 

@@ -4,7 +4,7 @@ from .event_file import calls_of, event_bytes, events_of
 from .event_lists import every_event, random_event, walk_to_refusal
 from .reading import Reading, Taken
 from .schema_file import commands_of, operand_count
-from .tables import (BYTE, CLOSE, DONE, EVENTS, FIELDS, FINISH, IN_BLOCK, MOST_LEVELS,
+from .tables import (BYTE, CLOSE, DONE, EVENTS, FIELDS, FINISH, IN_BLOCK, MOST_LEVELS, MOST_ROOTS,
                      MOST_STATES, MOST_STEPS, MOST_TAGS, MOST_TYPES, OPEN, ROOT, STATE_COMMANDS,
                      STEP, TAGS, TYPE, WORD)
 
@@ -282,6 +282,12 @@ def second_root(rng, judged, doc):
     return doc[:-1] + rng.choice(more)
 
 
+def root_of_any_tag(rng, judged, doc):
+    """The root's opening has another tag, or a second root of any tag follows the first."""
+    new = event_bytes(OPEN, rng.randrange(judged.value.held["tags"]))
+    return new + doc[2:] if rng.random() < 0.5 else doc[:-1] + new + doc[-1:]
+
+
 def wrong_closing(rng, judged, doc):
     """A closing's tag changed, or a closing before anything."""
     tags = judged.value.held["tags"]
@@ -310,6 +316,8 @@ EVENT_DAMAGES = [prefix, one_byte_changed, one_event_changed, one_event_added, o
                  closed_too_early, closed_too_early, finished_too_early, second_root,
                  wrong_closing, any_bytes, straight_walk, stray_walk, stray_walk]
 WAYS = [whole, whole, whole, *EVENT_DAMAGES]
+ROOT_DAMAGES = [root_of_any_tag, *EVENT_DAMAGES]
+ROOT_WAYS = [whole, whole, *ROOT_DAMAGES]
 
 
 # Values: puts (field, number, index).
@@ -358,6 +366,19 @@ def step_puts(states, types, index):
     return out + [("by", n, index) for n in (types - 1, types, *around(MOST_TYPES)[:2], BYTE)]
 
 
+def root_puts(value):
+    """The limits of the roots: their count; the first and the last used entry; entries that are
+    not used, and past the end of the table."""
+    schema = value.meaning.schema
+    types, used = len(schema.blocks), len(schema.roots)
+    counts = {0, 1, used - 1, used + 1, *around(MOST_ROOTS), 128, BYTE}
+    puts = [("roots", n, 0) for n in sorted(counts)]
+    puts += [("root", n, index) for index in sorted({0, used - 1})
+             for n in sorted({0, types - 1, types, MOST_TYPES, BYTE})]
+    puts += [("root", n, index) for index in range(used, MOST_ROOTS) for n in (types, BYTE)]
+    return puts + [("root", BYTE, index) for index in (MOST_ROOTS, BYTE + 1, WORD)]
+
+
 # Of schemas.TWO_ENDS, once its types 1 and 2 have one tag.
 COMPETITION_PUTS = [
     [], [("accepting", 0, 1)], [("accepting", 0, 2)], [("accepting", 4, 0)],
@@ -376,14 +397,23 @@ def random_schema_put(rng, value):
     types = max(1, min(held["types"], MOST_TYPES))
     wild, a = rng.random() < 0.04, rng.randrange(types)
     field = rng.choice(("root", "tag", "accepting", "from", "by", "to"))
-    index, below = a, {"root": types, "tag": held["tags"]}.get(field)
+    index, below = 0 if field == "root" else a, {"root": types, "tag": held["tags"]}.get(field)
     if field == "accepting":
         below = 1 << min(held["states"][a], MOST_STATES)
     elif field in ("from", "by", "to"):
         index, a = random_step(rng, held, types)
         below = types if field == "by" else held["states"][a]
     number = below if wild else rng.randrange(max(below, 1))
-    return field, min(number, FIELDS[field].most), index if FIELDS[field].entries else 0
+    return field, min(number, FIELDS[field].most), index
+
+
+def random_root_put(rng, value):
+    """A random root, or their number, mostly inside the limits."""
+    wild = rng.random() < 0.04
+    if rng.random() < 0.4:
+        return "roots", rng.choice((0, MOST_ROOTS + 1)) if wild else rng.randint(1, MOST_ROOTS), 0
+    types = max(1, min(value.held["types"], MOST_TYPES))
+    return "root", types if wild else rng.randrange(types), rng.randrange(MOST_ROOTS)
 
 
 def random_step(rng, held, types):

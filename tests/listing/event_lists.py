@@ -41,17 +41,23 @@ def random_tree(rng, meaning, a, elements, levels):
     return (a, tuple(children))
 
 
+def random_root(rng, meaning):
+    """A root type that bears a tree; nothing is drawn where there is only one."""
+    roots = meaning.bearing_roots()
+    return rng.choice(roots) if len(roots) > 1 else roots[0]
+
+
 def random_document(rng, meaning, trees=(), sizes=(2, 4, 8, 16), most=100):
     """A document of the listed trees, or a larger random one, mostly of at most so many bytes."""
     if trees and rng.random() < 0.4:
         return document(meaning, rng.choice(trees))
+    root = random_root(rng, meaning)
     for _ in range(5):
-        tree = random_tree(rng, meaning, meaning.schema.root, rng.choice(sizes),
-                           rng.randint(2, 6))
+        tree = random_tree(rng, meaning, root, rng.choice(sizes), rng.randint(2, 6))
         data = document(meaning, tree)
         if len(data) <= most:
             return data
-    return document(meaning, meaning.borne[meaning.schema.root])
+    return document(meaning, meaning.borne[root])
 
 
 # Walks.

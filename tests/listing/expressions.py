@@ -26,10 +26,10 @@ def content(tag, written):
     return Content(tag, text(written))
 
 
-def schema(tags, *blocks, root=0):
+def schema(tags, *blocks, roots=(0,)):
     """The file of a schema; a block may be (tag, expression)."""
     return write(Schema(tags, [content(*block) if isinstance(block, tuple) else block
-                               for block in blocks], root))
+                               for block in blocks], roots))
 
 
 def over_leaves(written, *tags):
@@ -237,7 +237,7 @@ def any_blocks(rng):
             blocks.append(Block(tag, states, some_states(rng, states, 0.5), steps))
         else:
             blocks.append(Content(tag, b"") if rng.random() < 0.5 else leaf(tag))
-    return Schema(tags, blocks, rng.randrange(count) if rng.random() < 0.2 else 0)
+    return Schema(tags, blocks, (rng.randrange(count) if rng.random() < 0.2 else 0,))
 
 
 def marked(rng):
@@ -255,7 +255,7 @@ def marked(rng):
     for _ in range(before + after):
         below = random_text(rng, range(2 + before + after), 2, 1) if rng.random() < 0.3 else b""
         blocks.append(Content(rng.randrange(tags), below))
-    return Schema(tags, blocks, 0)
+    return Schema(tags, blocks)
 
 
 def one_type_a_tag(rng):
@@ -263,7 +263,7 @@ def one_type_a_tag(rng):
     count = rng.randint(2, 5)
     blocks = [Content(a, random_text(rng, range(count), rng.randint(2, 9)) if a < 2 else b"")
               for a in range(count)]
-    return Schema(count, blocks, 0)
+    return Schema(count, blocks)
 
 
 def competing_ends(rng):
@@ -276,15 +276,15 @@ def competing_ends(rng):
     root = bytes([NEXT_SEQUENCE]).join(parts)
     if rng.random() < 0.3:
         root = bytes([OPEN_BRACKET]) + root + bytes([CLOSE_BRACKET, REPEAT])
-    return Schema(4, [Content(0, root), *(Content(tag, b"") for tag in (1, 1, 2, 3))], 0)
+    return Schema(4, [Content(0, root), *(Content(tag, b"") for tag in (1, 1, 2, 3))])
 
 
 SHAPES = (any_blocks, any_blocks, marked, marked, one_type_a_tag, competing_ends)
 
 
-def random_schema(rng):
+def random_schema(rng, shapes=SHAPES):
     """A random file with expressions and its answer; None where the listing would be too long."""
-    file = write(rng.choice(SHAPES)(rng))
+    file = write(rng.choice(shapes)(rng))
     try:
         return file, judge(file)
     except TooMany:

@@ -1,7 +1,7 @@
 """The cases of every kind, in the groups in which they are made."""
 
-from . import (cases_calls, cases_events, cases_expressions, cases_jobs, cases_schema,
-               cases_under_expressions, cases_values, cases_words)
+from . import (cases_calls, cases_events, cases_expressions, cases_jobs, cases_roots, cases_schema,
+               cases_under_expressions, cases_under_roots, cases_values, cases_words)
 
 GROUPS = (
     cases_schema.CASES,
@@ -14,6 +14,8 @@ GROUPS = (
     cases_words.CASES,
     cases_expressions.CASES,
     cases_under_expressions.CASES,
+    cases_roots.CASES,
+    cases_under_roots.CASES,
 )
 
 

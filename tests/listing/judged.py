@@ -4,12 +4,12 @@ from functools import lru_cache
 
 from . import schema_file
 from .meaning import Meaning, Wrong
-from .tables import (COMPETITION, LEAST_WITNESS_ROOM, MOST_STATES, MOST_TYPES, OUTSIDE_LIMITS,
-                     SHORT_WITNESS_ROOM, TAKEN)
+from .tables import (COMPETITION, LEAST_WITNESS_ROOM, MOST_STATES, MOST_TYPES, NO_PARENT,
+                     OUTSIDE_LIMITS, SHORT_WITNESS_ROOM, TAKEN)
 from .value import SchemaValue, as_set
 
 
-NO_SCHEMA = SchemaValue.of(schema_file.Schema())
+NO_SCHEMA = SchemaValue.of(schema_file.Schema(roots=()))
 
 
 class Judged:
@@ -109,23 +109,26 @@ def value_answers(meaning, room):
 
 
 def confirm_witness(meaning, numbers):
-    """Is A J K n and the word's types a witness of this schema, of a shortest word?"""
+    """Is A J K n and the word's types a witness of this schema, of roots or of a shortest word?"""
     a, j, k, n, *w = numbers
     confirm_type_and_length(meaning, a, n)
-    if n != len(w) or (j, k) not in meaning.pairs_after(a, tuple(w)):
+    pairs = meaning.competing_roots() if a == NO_PARENT else meaning.pairs_after(a, tuple(w))
+    if n != len(w) or (j, k) not in pairs:
         raise Wrong(f"they do not compete after the word: {numbers}")
 
 
 def confirm_length(meaning, a, j, k, n):
-    """Do J and K compete in A after some beginning of n types?"""
+    """Do J and K compete in A after some beginning of n types, or are they competing roots?"""
     confirm_type_and_length(meaning, a, n)
-    if not meaning.compete_after(a, j, k, n):
+    compete = ((j, k) in meaning.competing_roots() if a == NO_PARENT
+               else meaning.compete_after(a, j, k, n))
+    if not compete:
         raise Wrong(f"{j} and {k} do not compete in {a} after {n} types")
 
 
 def confirm_type_and_length(meaning, a, n):
-    """Are they those of the schema: the smallest type in which two compete, and the length of the
-    shortest beginnings after which two compete in it?"""
+    """Are they those of the schema: NO_PARENT and 0 where roots compete; else the smallest type in
+    which two compete, and the length of the shortest beginnings after which two compete in it?"""
     smallest, _, _, shortest = meaning.first_competition()
     if (a, n) != (smallest, len(shortest)):
         raise Wrong(f"wrong type or length of a witness: {a}, {n}")

@@ -1,7 +1,7 @@
 """How often each kind of case must have each answer at the least, written as documents.py counts;
 `lent` is a lent call that was taken."""
 
-TOTALS = {"S": 8700, "C": 1390, "E": 13100, "J": 28300, "V": 670, "P": 1024, "Q": 300}
+TOTALS = {"S": 8950, "C": 1480, "E": 13200, "J": 28390, "V": 1080, "P": 1024, "Q": 300}
 
 LEAST = {
     "S samples": "3 0, 1 2, 1 4, 1 8, 1 9, 6 cases",
@@ -34,6 +34,15 @@ LEAST = {
     "S expressions, cut": "1 0, 103 2, 16 3, 5 4, 3 7, 130 cases",
     "S expressions, damaged": "48 0, 279 2, 254 3, 254 4, 1 6, 45 7, 4 8, 6 9, 151 21, 1043 cases",
     "S expressions, random": "125 0, 25 8, 75 9, 225 cases",
+    "S roots, counts": "17 0, 1 2, 1 3, 3 4, 9 5, 31 cases",
+    "S roots, repeats": "17 6, 17 cases",
+    "S roots, range": "14 4, 14 cases",
+    "S roots, order": "2 0, 19 2, 36 3, 1 6, 58 cases",
+    "S roots, by hand": "20 0, 28 9, 48 cases",
+    "S roots, no tree": "2 7, 7 8, 1 9, 10 cases",
+    "S roots, buffers": "4 1, 1 8, 1 9, 6 cases",
+    "S roots, damaged": "2 0, 6 2, 4 3, 15 4, 10 6, 1 8, 3 9, 45 cases",
+    "S roots, random": "14 0, 3 8, 22 9, 39 cases",
     "C samples": "2 13, 1 14, 1 17, 68 lent, 3 lent refused, 14 ok, 46 type, 5 cases",
     "C no schema": "9 10, 2 18, 1 lent, 4 lent refused, 3 ok, 2 type, 2 cases",
     "C every refusal":
@@ -66,6 +75,12 @@ LEAST = {
     "C expressions":
         "127 11, 253 12, 210 13, 47 15, 175 16, 37 17, 91 18, 275 lent, 460 lent refused, 269 ok, "
         "314 type, 46 cases",
+    "C roots":
+        "261 11, 322 12, 561 13, 186 15, 429 16, 4 17, 78 18, 117 lent, 924 lent refused, 111 ok, "
+        "111 type, 26 cases",
+    "C roots made up":
+        "69 10, 8 12, 193 13, 81 15, 12 16, 2 17, 22 18, 94 lent, 214 lent refused, 102 ok, 99 "
+        "type, 36 cases",
     "E samples": "3 0, 1 11, 1 13, 1 14, 1 17, 2 19, 1 20, 8 cases",
     "E cut": "7 0, 123 19, 129 cases",
     "E buffers": "46 0, 46 11, 46 12, 46 19, 116 20, 298 cases",
@@ -85,6 +100,7 @@ LEAST = {
     "E expressions":
         "83 0, 4 10, 38 11, 166 12, 158 13, 2 14, 28 15, 118 16, 22 17, 47 18, 139 19, 66 20, 873 "
         "cases",
+    "E roots": "15 0, 7 11, 11 12, 22 13, 1 14, 7 15, 3 16, 2 17, 2 18, 10 19, 1 20, 85 cases",
     "J samples": "4 0, 1 2, 1 4, 1 8, 1 9, 2 13, 1 14, 2 17, 10 cases",
     "J random":
         "2819 0, 170 8, 280 9, 595 11, 844 12, 1466 13, 763 15, 733 16, 1063 17, 1117 18, 2363 "
@@ -99,6 +115,7 @@ LEAST = {
     "J expressions":
         "102 0, 8 2, 10 8, 21 9, 16 11, 31 12, 63 13, 1 14, 25 15, 30 16, 29 17, 30 18, 89 19, "
         "453 cases",
+    "J roots": "16 0, 4 8, 21 9, 1 11, 5 12, 10 13, 1 15, 1 16, 1 18, 3 19, 68 cases",
     "V samples":
         "7 judge 0, 13 judge 1, 4 judge 10, 1 judge 8, 2 judge 9, 8 search 0, 13 search 1, 4 "
         "search 10, 2 search 9, 27 cases",
@@ -115,6 +132,12 @@ LEAST = {
     "V words": "80 judge 9, 80 search 9, 80 cases",
     "V expressions":
         "50 judge 0, 5 judge 8, 30 judge 9, 55 search 0, 30 search 9, 85 cases",
+    "V roots":
+        "8 judge 0, 4 judge 1, 4 judge 8, 21 judge 9, 13 search 0, 4 search 1, 21 search 9, 36 "
+        "cases",
+    "V roots made up":
+        "31 judge 0, 13 judge 10, 1 judge 8, 7 judge 9, 31 search 0, 13 search 10, 7 search 9, 52 "
+        "cases",
     "P pairs": "512 inside, 16 outside, 528 cases",
     "Q sets":
         "71 below no, 85 below yes, 123 has no, 33 has yes, 68 meets no, 87 meets yes, 156 cases",

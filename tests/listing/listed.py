@@ -1,13 +1,40 @@
 """The beside-check: an accepted schema's documents, listed up to some size, against the answers.
 
-One way for every schema: no two listed documents agree through an opening and differ in its type,
-and no event that leads on in one is refused. For schemas of finitely many trees, if not too many,
-the list is whole and answers are held to it both ways.
+One way for every schema: no two listed documents agree through an opening, the first among them,
+and differ in its type, and no event that leads on in one is refused. For schemas of finitely many
+trees, if not too many, the list is whole and answers are held to it both ways; so are those to
+schema files in `check_both_ways`.
 """
 
 from .event_file import event_at, event_bytes, events_of
 from .meaning import Wrong, listed_trees, typed_stream
-from .tables import CLOSE, FINISH, NO_ROOM, OPEN
+from .tables import CLOSE, COMPETITION, FINISH, NO_ROOM, OPEN
+
+
+def check_both_ways(judged):
+    """Compare a schema file's answer with the documents: some is listed with each root that bears a
+    tree, and none with another; no two differ under an accepted schema, two do under a competing
+    one; as far as they are listed."""
+    meaning = judged.meaning
+    trees, complete = listed_trees(meaning)
+    found, bearing = {tree[0] for tree in trees}, set(meaning.bearing_roots())
+    if not found <= bearing or (complete and found != bearing):
+        raise Wrong("other roots bear a tree than documents have")
+    if two_differ(meaning, trees) != (judged.number == COMPETITION) and (
+            complete or judged.accepted):
+        raise Wrong("listed documents differ under an accepted schema, or do not under another")
+
+
+def two_differ(meaning, trees):
+    """Do two of these documents agree through an opening and differ in its type?"""
+    types = {}
+    for tree in trees:
+        taken = b""
+        for opening, tag, a in typed_stream(meaning, tree):
+            taken += event_bytes(OPEN if opening else CLOSE, tag)
+            if types.setdefault(taken, a) != a:
+                return True
+    return False
 
 
 class Listed:

@@ -22,7 +22,7 @@ from functools import lru_cache
 from itertools import islice, product
 
 from .tables import (MOST_BEGINNINGS, MOST_ELEMENTS, MOST_FORESTS, MOST_LAYER, MOST_LISTED_TREES,
-                     MOST_OF_A_LENGTH, MOST_TREES, MOST_WORD, SCHEMA_QUESTIONS, TAKEN)
+                     MOST_OF_A_LENGTH, MOST_TREES, MOST_WORD, NO_PARENT, SCHEMA_QUESTIONS, TAKEN)
 
 
 class TooMany(Exception):
@@ -44,7 +44,7 @@ class Meaning:
         self.accepting = [frozenset(block.accepting) for block in schema.blocks]
         self.borne = self.trees_by_levels()
         for name in ("ending", "live", "is_word", "completion", "next_types", "types_in_words",
-                     "first_competition", "trees", "forests"):
+                     "bearing_roots", "first_competition", "trees", "forests"):
             setattr(self, name, lru_cache(None)(getattr(self, name)))
 
     def tag(self, a):
@@ -100,14 +100,14 @@ class Meaning:
             built.update(new)
 
     def is_typing(self, tree):
-        """Is the typed tree's root the root type, and do the children's types of each element
+        """Is the typed tree's root of a root type, and do the children's types of each element
         form a word of its automaton?"""
         elements = [tree]
         for a, children in elements:
             if not self.is_word(a, tuple(child[0] for child in children)):
                 return False
             elements.extend(children)
-        return tree[0] == self.schema.root
+        return tree[0] in self.schema.roots
 
     def trees(self, a, size):
         """All trees of so many elements typed with a at their root."""
@@ -194,10 +194,15 @@ class Meaning:
 
     # Reached types and competition.
 
+    def bearing_roots(self):
+        """The root types that bear a tree, the smallest first."""
+        return sorted(self.borne.keys() & set(self.schema.roots))
+
     def reached(self):
-        """The reached types; each but the root with the type and the beginning after which it
+        """The reached types; each but the roots with the type and the beginning after which it
         stands in a word."""
-        found, todo = {self.schema.root: None}, [self.schema.root]
+        found = dict.fromkeys(self.schema.roots)
+        todo = list(found)
         for a in todo:
             for j, w in self.types_in_words(a).items():
                 if j not in found:
@@ -207,7 +212,13 @@ class Meaning:
 
     def pairs_after(self, a, w):
         """The pairs J < K of one tag that compete in a after w."""
-        types = self.next_types(a, w)
+        return self.pairs_of_one_tag(self.next_types(a, w))
+
+    def competing_roots(self):
+        """The pairs J < K of root types that compete."""
+        return self.pairs_of_one_tag(self.bearing_roots())
+
+    def pairs_of_one_tag(self, types):
         return [(j, k) for j in types for k in types if j < k and self.tag(j) == self.tag(k)]
 
     def competition(self, a):
@@ -222,14 +233,22 @@ class Meaning:
         return None
 
     def first_competition(self):
-        """The smallest reached type in which two compete, two that do and a shortest beginning
-        after which two do; None if there is none."""
+        """NO_PARENT, two roots that compete and no beginning; where no roots do, the smallest
+        reached type in which two compete, two that do and a shortest beginning after which two
+        do; None if there is none."""
+        of_roots = self.competing_roots()
+        for j, k in of_roots:
+            self.show_two_documents(self.borne[j], self.borne[k])
+        if of_roots:
+            return (NO_PARENT, *of_roots[0], ())
         reached = self.reached()
         for a in sorted(reached):
             found = self.competition(a)
             if found:
-                self.show_two_documents(reached, a, *found)
-                self.show_shortest(a, found[-1])
+                j, k, w = found
+                self.show_two_documents(*(self.document_tree(reached, a, w + (i,))
+                                          for i in (j, k)))
+                self.show_shortest(a, w)
                 return (a, *found)
         return None
 
@@ -243,10 +262,9 @@ class Meaning:
                 raise Wrong("too many beginnings to confirm a witness")
         return any((j, k) in self.pairs_after(a, w) for w in layer)
 
-    def show_two_documents(self, reached, a, j, k, w):
-        """Demand 3's two documents for a competition, built and looked at; where the root bears
-        no tree there is none, and nothing competes."""
-        one, other = (self.document_tree(reached, a, w + (i,)) for i in (j, k))
+    def show_two_documents(self, one, other):
+        """Demand 3's two documents for a competition, given as trees, are looked at. Where no root
+        bears a tree there is no document, and nothing competes."""
         if not (self.is_typing(one) and self.is_typing(other)
                 and agree_and_differ(self, one, other)):
             raise Wrong("a competition without two such documents")
@@ -272,8 +290,8 @@ class Meaning:
 
     # The schema's questions: the place where it is answered no, or None.
 
-    def root_without_tree(self):
-        return None if self.schema.root in self.borne else 0
+    def roots_without_tree(self):
+        return None if self.bearing_roots() else 0
 
     def competition_place(self):
         return 0 if self.first_competition() else None
@@ -330,7 +348,8 @@ def listed_trees(meaning):
     """Valid typed trees, and whether they are all."""
     if finitely_many(meaning.schema):
         try:
-            return sorted(all_trees(meaning, meaning.schema.root)), True
+            return sorted(tree for root in meaning.schema.roots
+                          for tree in all_trees(meaning, root)), True
         except TooMany:
             pass
     return small_trees(meaning), False
@@ -342,7 +361,7 @@ def small_trees(meaning):
     found = []
     for size in range(1, MOST_ELEMENTS + 1):
         try:
-            found += meaning.trees(meaning.schema.root, size)
+            found += [tree for root in meaning.schema.roots for tree in meaning.trees(root, size)]
         except TooMany:
             break
         if len(found) > MOST_TREES:

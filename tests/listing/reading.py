@@ -6,7 +6,8 @@ elements opened so far have types; a closed element's children form a word; an o
 children so far, with its open child, must begin a word over tree-bearing types. Each such
 condition speaks of one element alone, and a beginning that meets them all is completed by ending
 each open element's word and giving every missing element a tree that its type bears. So a new
-opening needs the last condition only of the innermost element; the others are as they were.
+opening needs the last condition only of the innermost element; the others are as they were. The
+first opening needs a root type that bears a tree.
 
 More than one type of the tag may not be possible there: the schema has no competition, so two
 would contradict question 9, and the model stops. Hence one typing of the events taken is kept,
@@ -37,7 +38,7 @@ class Taken(Asked):
         if self.open:
             types = meaning.next_types(*self.children())
         else:
-            types = [] if self.root else [meaning.schema.root]
+            types = [] if self.root else meaning.bearing_roots()
         types = [j for j in types if meaning.tag(j) == tag]
         if len(types) > 1:
             raise Wrong("two types possible under an accepted schema")

@@ -8,7 +8,7 @@ from .expression import automaton
 from .tables import (CLOSE_BRACKET, COMMAND_QUESTIONS, COMMANDS, DONE, END_EXPRESSION, EXPRESSION,
                      EXPRESSION_COMMANDS, FILE_QUESTIONS, FINAL, MOST_BRACKETS, MOST_COMMANDS,
                      MOST_STATES, MOST_STEPS, MOST_TAGS, MOST_TYPES, MOST_USES, NO_COMMAND,
-                     ONCE_IN_BLOCK, OPEN_BRACKET, REPEAT, ROOT, STEP, TAGS, TYPE, USE)
+                     NOT_TWICE, OPEN_BRACKET, REPEAT, ROOT, STEP, TAGS, TYPE, USE)
 
 
 class Refused(Exception):
@@ -39,11 +39,12 @@ class Content:
 
 @dataclass
 class Schema:
-    """What a schema file states; a type's number is its place in `blocks`."""
+    """What a schema file states; a type's number is its place in `blocks`; the root types are in
+    the order of the file."""
 
     tags: int = 0
     blocks: list = field(default_factory=list)
-    root: int = 0
+    roots: tuple = (0,)
 
 
 RANGES = {
@@ -61,7 +62,7 @@ class Reader:
 
     def __init__(self, data):
         self.data, self.at, self.last = data, 0, None
-        self.schema, self.counts, self.given = Schema(), Counter(), set()
+        self.schema, self.counts, self.given = Schema(roots=()), Counter(), set()
         self.text, self.in_text = [], Counter()     # of the expression, as far as it is read
         self.named = []         # the types that STEPs and uses name, each with the place
 
@@ -128,7 +129,7 @@ class Reader:
         return len(self.schema.blocks), self.command, self.operands
 
     def is_new(self):
-        return self.command not in ONCE_IN_BLOCK or self.key() not in self.given
+        return self.command not in NOT_TWICE or self.key() not in self.given
 
     def named_but_not_given(self):
         """The place of the first STEP or use that names a type not given, or None."""
@@ -150,7 +151,7 @@ class Reader:
             schema.blocks[-1].steps.append(operands)
             self.named.append((operands[1], self.at))
         elif self.command == ROOT:
-            [schema.root] = operands
+            schema.roots += operands
         elif self.command == END_EXPRESSION:
             self.enter_content(*automaton(tuple(self.text)))
         elif self.command in EXPRESSION_COMMANDS:
@@ -199,16 +200,16 @@ def write(schema, shuffle=lambda commands: None):
         shuffle(commands)
         for command in commands:
             out += bytes(command)
-    return bytes(out) + end_of_file(schema.root)
+    return bytes(out) + end_of_file(*schema.roots)
 
 
-def end_of_file(root):
-    """The last two commands."""
-    return bytes([ROOT, root, DONE])
+def end_of_file(*roots):
+    """The ROOTs of these types and DONE."""
+    return b"".join(bytes([ROOT, root]) for root in roots) + bytes([DONE])
 
 
 def without_end(file):
-    """A whole file without its last two commands."""
+    """A whole file of one root without its last two commands."""
     return file[:-len(end_of_file(0))]
 
 

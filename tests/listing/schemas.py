@@ -4,7 +4,7 @@ from .judged import judge
 from .meaning import Meaning, TooMany
 from .schema_file import Block, Schema, leaf, once, write
 from .tables import (COMPETITION, LONGEST_FILE, MOST_STATES, MOST_STEPS, MOST_TAGS, MOST_TYPES,
-                     TAKEN)
+                     NO_PARENT, TAKEN)
 from .words import long_way
 
 # By hand.
@@ -31,7 +31,7 @@ LAST_STATE = write(Schema(2, [
 # The last of 64 types, of the last of 32 tags, nests and stands in rows.
 LAST_TYPE = write(Schema(MOST_TAGS, [Block(0, 1) for _ in range(MOST_TYPES - 1)]
                          + [Block(MOST_TAGS - 1, 1, [0], [(0, MOST_TYPES - 1, 0)])],
-                         MOST_TYPES - 1))
+                         (MOST_TYPES - 1,)))
 # Types 1 and 2 end a word in two ways; they compete once they have one tag.
 TWO_ENDS = write(Schema(3, [
     Block(0, 3, [1, 2], [(0, 1, 1), (0, 2, 2), (1, 1, 1), (2, 2, 2)]), leaf(1), leaf(2)]))
@@ -69,7 +69,7 @@ def chain(depth, falling, tail):
     for i in range(depth):
         blocks[number[i]] = once(0, number[i + 1])
     blocks[number[depth]] = once(0, depth + 1, depth + 2)
-    return write(Schema(2, blocks, number[0]))
+    return write(Schema(2, blocks, (number[0],)))
 
 
 def line_of_types(depth, falling, accepting):
@@ -77,7 +77,7 @@ def line_of_types(depth, falling, accepting):
     blocks = [once(0, i + 1) for i in range(depth)] + [Block(0, 1, accepting)]
     if falling:
         blocks = [Block(0, 1, accepting)] + [once(0, i) for i in range(depth)]
-    return write(Schema(1, blocks, depth if falling else 0))
+    return write(Schema(1, blocks, (depth if falling else 0,)))
 
 
 def structures():
@@ -104,7 +104,7 @@ def useless_competitions():
     K after each other, in one word, and only at the end of two words."""
     two = once(0, 1, 2)
     for root in (leaf(0), Block(0, 1, [0], [(0, 0, 0)]), Block(0, 2, [0], [(0, 0, 1)])):
-        yield write(Schema(2, [two, leaf(1), leaf(1), root], 3))
+        yield write(Schema(2, [two, leaf(1), leaf(1), root], (3,)))
     for accepting, steps in (
             ([1], [(0, 1, 1), (0, 2, 2)]),
             ([0, 1], [(0, 1, 1), (0, 2, 2), (2, 2, 2)]),
@@ -114,20 +114,20 @@ def useless_competitions():
         yield write(Schema(2, [Block(0, 3, accepting, steps), leaf(1), leaf(1)]))
     own = Block(0, 2, [0, 1], [(0, 0, 0), (0, 1, 1)])
     yield write(Schema(1, [own, leaf(0)]))
-    yield write(Schema(1, [own, leaf(0)], 1))
-    yield write(Schema(1, [own, Block(0, 1, [0], [(0, 0, 0)])], 1))
+    yield write(Schema(1, [own, leaf(0)], (1,)))
+    yield write(Schema(1, [own, Block(0, 1, [0], [(0, 0, 0)])], (1,)))
 
 
 # At the limits.
 
-def leaves_only(count, root=0, tags=MOST_TAGS):
-    """So many types, all leaves."""
-    return write(Schema(tags, [leaf(a % MOST_TAGS) for a in range(count)], root))
+def leaves_only(count, *roots, tags=MOST_TAGS):
+    """So many types, all leaves; the root is type 0, or the roots are these."""
+    return write(Schema(tags, [leaf(a % MOST_TAGS) for a in range(count)], roots or (0,)))
 
 
 def full_steps(count=MOST_STEPS, blocks=1):
     """One type for each tag, so accepted; so many steps fill the last blocks."""
-    schema = Schema(MOST_TAGS, [], MOST_TAGS - 1)
+    schema = Schema(MOST_TAGS, [], (MOST_TAGS - 1,))
     for tag in range(MOST_TAGS):
         filled = tag >= MOST_TAGS - blocks
         accepting = [MOST_STATES - 1] if filled else [0, MOST_STATES - 1]
@@ -169,7 +169,7 @@ def many_types(rng, count):
     for _ in range(1, count):
         states = rng.choice([1, 1, 2, MOST_STATES])
         blocks.append(Block(rng.randrange(3), states, some_states(rng, states, 0.5)[:1]))
-    return write(Schema(3, blocks, rng.randrange(2)))
+    return write(Schema(3, blocks, (rng.randrange(2),)))
 
 
 def many_steps(rng, count):
@@ -213,7 +213,7 @@ def plain(rng):
         states = rng.randint(1, 4)
         steps = random_steps(rng, states, range(count), rng.randint(0, 6))
         blocks.append(Block(rng.randrange(tags), states, some_states(rng, states, 0.4), steps))
-    return Schema(tags, blocks, rng.randrange(count))
+    return Schema(tags, blocks, (rng.randrange(count),))
 
 
 def layered(rng):
@@ -226,7 +226,7 @@ def layered(rng):
         steps = random_steps(rng, states, later, rng.randint(3, 8), True) if later else []
         accepting = sorted({*some_states(rng, states, 0.3), states - 1})
         blocks.append(Block(rng.randrange(tags), states, accepting, steps))
-    return Schema(tags, blocks, 0)
+    return Schema(tags, blocks)
 
 
 def marked(rng):
@@ -243,7 +243,7 @@ def marked(rng):
         states = rng.randint(1, 3)
         steps = random_steps(rng, states, range(4), rng.randint(0, 3))
         blocks.append(Block(tag, states, some_states(rng, states, 0.5) or [0], steps))
-    return Schema(tags, blocks, 0)
+    return Schema(tags, blocks)
 
 
 def chains(rng):
@@ -263,7 +263,7 @@ def chains(rng):
             if p not in block.accepting:
                 block.accepting.append(p)
         blocks.append(block)
-    return Schema(tags, blocks, 0)
+    return Schema(tags, blocks)
 
 
 def two_rounds(rng):
@@ -285,7 +285,7 @@ def two_rounds(rng):
             block.steps.append((0, rng.choice([0, 1]), 0))
     if rng.random() < 0.2:
         blocks[rng.choice([2, 3])].accepting = []
-    return Schema(3, blocks, 0)
+    return Schema(3, blocks)
 
 
 def larger(rng):
@@ -306,7 +306,7 @@ def larger(rng):
         if rng.random() < 0.7 and states - 1 not in block.accepting:
             block.accepting.append(states - 1)
         blocks.append(block)
-    return Schema(tags, blocks, 0)
+    return Schema(tags, blocks)
 
 
 def renumbered(rng, schema):
@@ -316,7 +316,7 @@ def renumbered(rng, schema):
     for a, block in enumerate(schema.blocks):
         steps = [(p, number[j], q) for p, j, q in block.steps]
         blocks[number[a]] = Block(block.tag, block.states, block.accepting, steps)
-    return Schema(schema.tags, blocks, number[schema.root])
+    return Schema(schema.tags, blocks, tuple(number[root] for root in schema.roots))
 
 
 def tidy(blocks, steps):
@@ -340,14 +340,14 @@ def by_levels(rng, types, tags, most_states, leaf_chance, forward):
         count = rng.randint(0, 1 if small else 2 * block.states)
         steps = random_steps(rng, block.states, range(low, types), count)
         block.steps = tidy(blocks, steps) if once_a_tag else steps
-    return renumbered(rng, Schema(tags, blocks, 0))
+    return renumbered(rng, Schema(tags, blocks))
 
 
 def over_leaves(rng):
     """One type over leaves."""
     schema = by_levels(rng, rng.randint(3, 6), rng.randint(1, 3), 4, 1, 1)
     for a, block in enumerate(schema.blocks):
-        if a != schema.root:
+        if a not in schema.roots:
             block.steps = []
     return schema
 
@@ -378,7 +378,7 @@ def dense(rng):
         states = rng.randint(2, 6)
         steps = random_steps(rng, states, children, rng.randint(0, 3) * states)
         blocks.append(Block(tag, states, some_states(rng, states, 0.35), steps))
-    return Schema(tags, blocks, rng.randrange(len(blocks)))
+    return Schema(tags, blocks, (rng.randrange(len(blocks)),))
 
 
 SMALL = [plain, layered, layered, layered, marked, marked, chains, chains, two_rounds, larger,
@@ -404,15 +404,19 @@ def with_useless_parts(rng, schema):
 
 
 def without_competition(rng, schema):
-    """Some steps by competing types left out, if the schema competes; it may still compete
-    afterwards, or bear no tree."""
+    """Some of the competing roots and steps by competing types left out, if the schema competes;
+    it may still compete afterwards, or bear no tree."""
     for _ in range(6):
         meaning = Meaning(schema)
         if meaning.answer()[0] != COMPETITION:
             return
         a, j, k, _ = meaning.first_competition()
-        block = schema.blocks[a]
-        block.steps.remove(rng.choice([step for step in block.steps if step[1] in (j, k)]))
+        if a == NO_PARENT:
+            one = rng.choice((j, k))
+            schema.roots = tuple(root for root in schema.roots if root != one)
+        else:
+            block = schema.blocks[a]
+            block.steps.remove(rng.choice([step for step in block.steps if step[1] in (j, k)]))
 
 
 def random_parts(rng, shapes, mend):
@@ -446,8 +450,8 @@ def is_contested(meaning):
 
 
 def random_accepted(rng, shapes, contested=None):
-    """An accepted random schema file, of a root that may have children, and its answer; contested
-    or not, if that is asked for."""
+    """An accepted random schema file, with a root that may have children, and its answer;
+    contested or not, if that is asked for."""
     while True:
         try:
             schema = random_parts(rng, shapes, 1 if contested else 0.5)
@@ -459,7 +463,7 @@ def random_accepted(rng, shapes, contested=None):
 
 
 def is_wanted(meaning, contested):
-    return (meaning.types_in_words(meaning.schema.root)
+    return (any(map(meaning.types_in_words, meaning.schema.roots))
             and contested in (None, is_contested(meaning)) and meaning.answer()[0] == TAKEN)
 
 

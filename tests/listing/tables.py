@@ -10,10 +10,12 @@ from typing import NamedTuple
 
 # Limits.
 MOST_TAGS, MOST_TYPES, MOST_STATES, MOST_STEPS, MOST_LEVELS = 32, 64, 32, 1024, 64
+MOST_ROOTS = 8
 MOST_USES, MOST_BRACKETS = 31, 16       # of one expression
-LONGEST_FILE = 8389         # of the accepted schema files with no expression
+LONGEST_FILE = 8389         # of the accepted schema files with one ROOT and no expression
 ORDERED_PAIRS, MOST_PAIRS = 1024, 528   # of states
 MOST_WORD, LEAST_WITNESS_ROOM = 527, 532
+NO_PARENT = 255         # A of a witness where roots compete
 SCHEMA_BYTES, EVENT_BYTES, PROGRAM_TYPES = 16384, 32768, 16384
 
 # How far is listed, and the rooms and lengths that a case has.
@@ -71,7 +73,7 @@ STATE_COMMANDS = {
     TYPE: Command(("tag", "state count"), (TAGS, *IN_BLOCK, END_EXPRESSION)),
     FINAL: Command(("state",), IN_BLOCK),
     STEP: Command(("state", "step's type", "state"), IN_BLOCK),
-    ROOT: Command(("given type",), (*IN_BLOCK, END_EXPRESSION)),
+    ROOT: Command(("given type",), (*IN_BLOCK, END_EXPRESSION, ROOT)),
     DONE: Command((), (ROOT,)),
 }
 EXPRESSION_COMMANDS = {
@@ -83,8 +85,8 @@ EXPRESSION_COMMANDS = {
     END_EXPRESSION: Command((), IN_EXPRESSION),
 }
 COMMANDS = {**STATE_COMMANDS, **EXPRESSION_COMMANDS}
-MOST_COMMANDS = {TYPE: MOST_TYPES, STEP: MOST_STEPS}
-ONCE_IN_BLOCK = (FINAL, STEP)
+MOST_COMMANDS = {TYPE: MOST_TYPES, STEP: MOST_STEPS, ROOT: MOST_ROOTS}
+NOT_TWICE = (FINAL, STEP, ROOT)     # in a block; ROOTs, which stand together, in the file
 
 # Of each command; the place is the command's.
 COMMAND_QUESTIONS = (
@@ -100,7 +102,7 @@ COMMAND_QUESTIONS = (
 )
 # After DONE, of the file and then of its schema; the method gives the place, or None for yes.
 FILE_QUESTIONS = ((TYPE_NOT_GIVEN, "named_but_not_given"),)
-SCHEMA_QUESTIONS = ((NO_TREE, "root_without_tree"), (COMPETITION, "competition_place"))
+SCHEMA_QUESTIONS = ((NO_TREE, "roots_without_tree"), (COMPETITION, "competition_place"))
 
 
 # Events and calls.
@@ -138,7 +140,7 @@ BYTE, WORD, SET = (1 << 8) - 1, (1 << 16) - 1, (1 << MOST_STATES) - 1
 SCHEMA_FIELDS = {
     "tags": Field(0x10, 0, BYTE),
     "types": Field(0x11, 0, BYTE),
-    "root": Field(0x12, 0, BYTE),
+    "root": Field(0x12, MOST_ROOTS, BYTE),
     "tag": Field(0x13, MOST_TYPES, BYTE),
     "states": Field(0x14, MOST_TYPES, BYTE),
     "accepting": Field(0x15, MOST_TYPES, SET),
@@ -146,6 +148,7 @@ SCHEMA_FIELDS = {
     "from": Field(0x17, MOST_STEPS, BYTE),
     "by": Field(0x18, MOST_STEPS, BYTE),
     "to": Field(0x19, MOST_STEPS, BYTE),
+    "roots": Field(0x1A, 0, BYTE),       # how many entries of "root" are used
 }
 READING_FIELDS = {
     "depth": Field(0x20, 0, BYTE, "d"),

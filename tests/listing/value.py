@@ -4,16 +4,17 @@ What a reading holds, where document 01 leaves it open: a fresh one has no level
 0 and every set empty. An opening at depth d sets the type at index d, the set at index d to {0},
 the set at d - 1 to the states kept, the depth and `rooted`; a closing lowers the depth; a finish
 sets `finished`; all else stays, entries of levels that are not open included. 18 is answered yes
-where `rooted` is set and no level is open. Beside a refused file stands the schema of no tag and
-no type, and every entry that no file stated is 0.
+where `rooted` is set and no level is open. Beside a refused file stands the schema of no tag, no
+type and no root, and every entry that no file stated is 0. An entry put past the end of a table
+changes nothing.
 """
 
 from functools import cached_property
 
 from .meaning import Meaning
 from .schema_file import Block, Schema
-from .tables import (CALL_QUESTIONS, CLOSE, MOST_LEVELS, MOST_STATES, MOST_STEPS, MOST_TAGS,
-                     MOST_TYPES, OPEN, READING_FIELDS, SCHEMA_FIELDS)
+from .tables import (CALL_QUESTIONS, CLOSE, MOST_LEVELS, MOST_ROOTS, MOST_STATES, MOST_STEPS,
+                     MOST_TAGS, MOST_TYPES, OPEN, READING_FIELDS, SCHEMA_FIELDS)
 
 START = 1       # the set of only state 0
 
@@ -49,10 +50,15 @@ class SchemaValue:
         return value
 
     def set(self, field, index, number):
-        if SCHEMA_FIELDS[field].entries:
-            self.held[field][index] = number
-        else:
+        """Sets an entry; one past the end of its table changes nothing. A first root set in a
+        value of no root is its one root, as in the program `cases`."""
+        entries = SCHEMA_FIELDS[field].entries
+        if not entries:
             self.held[field] = number
+        elif index < entries:
+            self.held[field][index] = number
+            if (field, index) == ("root", 0):
+                self.held["roots"] = self.held["roots"] or 1
 
     def get(self, field, index=0):
         held = self.held[field]
@@ -77,9 +83,10 @@ class SchemaValue:
         """The schema held, or None where it is outside the limits."""
         held, at = self.held, 0
         if not (1 <= held["tags"] <= MOST_TAGS and 1 <= held["types"] <= MOST_TYPES
-                and held["root"] < held["types"]):
+                and 1 <= held["roots"] <= MOST_ROOTS
+                and all(root < held["types"] for root in self.used_roots())):
             return None
-        schema = Schema(held["tags"], [], held["root"])
+        schema = Schema(held["tags"], [], tuple(self.used_roots()))
         for a in range(held["types"]):
             steps = self.steps_between(at, at + held["steps"][a])
             if steps is None or not self.is_inside(a, steps):
@@ -88,6 +95,9 @@ class SchemaValue:
                                        states_of(held["accepting"][a]), steps))
             at += len(steps)
         return schema
+
+    def used_roots(self):
+        return self.held["root"][:self.held["roots"]]
 
     def steps_between(self, start, end):
         """These steps, or None if there are not so many."""
@@ -109,7 +119,8 @@ class SchemaValue:
         fields = ("tag", "states", "accepting", "steps")
         rows = [[held[field][a] for field in fields] for a in types]
         rows += self.steps_between(0, sum(held["steps"][a] for a in types))
-        parts = [f"tags {held['tags']} types {held['types']} root {held['root']}"]
+        roots = self.used_roots() or held["root"][:1]
+        parts = [f"tags {held['tags']} types {held['types']} root {' '.join(map(str, roots))}"]
         parts += [" ".join(map(str, row)) for row in rows]
         return "; ".join(parts) + "; rest 0"
 
@@ -118,7 +129,8 @@ def entries_of(schema):
     """The entries that state the schema: (field, index, number)."""
     yield "tags", 0, schema.tags
     yield "types", 0, len(schema.blocks)
-    yield "root", 0, schema.root
+    for n, root in enumerate(schema.roots):
+        yield "root", n, root
     for a, block in enumerate(schema.blocks):
         yield "tag", a, block.tag
         yield "states", a, block.states
@@ -126,6 +138,7 @@ def entries_of(schema):
         yield "steps", a, len(block.steps)
     for n, step in enumerate(step for block in schema.blocks for step in block.steps):
         yield from zip(("from", "by", "to"), (n, n, n), step)
+    yield "roots", 0, len(schema.roots)
 
 
 class Asked:
@@ -204,9 +217,8 @@ class ReadingValue(Asked):
         or None."""
         meaning = self.meaning
         if not self.depth():
-            root = meaning.schema.root
-            may = not self.held["rooted"] and root in meaning.borne and meaning.tag(root) == tag
-            return (root, ()) if may else None
+            roots = [] if self.held["rooted"] else meaning.bearing_roots()
+            return next(((root, ()) for root in roots if meaning.tag(root) == tag), None)
         a, states = self.innermost()
         ends = {}
         for p, j, q in meaning.schema.blocks[a].steps:
@@ -254,7 +266,8 @@ class ReadingValue(Asked):
     def put(self, field, index, number):
         """Puts an entry of the schema or of the reading."""
         if field in READING_FIELDS:
-            self.set([(field, index, number)])
+            past = index >= (READING_FIELDS[field].entries or 1)
+            self.set([] if past else [(field, index, number)])
         else:
             self.schema_value = self.schema_value.with_entry(field, index, number)
             self.changed = ""

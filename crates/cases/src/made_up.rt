@@ -1,16 +1,17 @@
 // Values made up: one field or entry of a schema or a reading is put.
 //
 // An item that puts a value has seven bytes: the field, an index of two and the value of four, low byte first. A field that is no table passes
-// over the index; an index past the end of its table changes nothing. An item cut short ends with zeros.
+// over the index; an index past the end of its table changes nothing. A first root put into a value of no root is its one root. An item cut
+// short ends with zeros.
 use crate::buffer::byte_at;
 use crate::buffer::two;
 use crate::items::past;
 use reading::LEVELS;
 use reading::Reading;
+use schema::ROOTS;
 use schema::STEPS;
 use schema::Schema;
 use schema::TYPES;
-use sdtd::TypeNo;
 ghost use Prim.Native.Nat.{_<_};
 
 const TAGS_COUNT: u8 = 0x10;
@@ -32,6 +33,8 @@ const FROM: u8 = 0x17;
 const BY: u8 = 0x18;
 
 const TO: u8 = 0x19;
+
+const ROOTS_COUNT: u8 = 0x1a;
 
 const DEPTH: u8 = 0x20;
 
@@ -74,9 +77,19 @@ fn with_count(schema: Schema, field: u8, value: u32) -> Schema {
     if field == TYPES_COUNT {
         s.types = byte(value);
     }
-    if field == ROOT {
-        let root = TypeNo(byte(value));
-        s.root = root;
+    if field == ROOTS_COUNT {
+        s.roots = byte(value);
+    }
+    s
+}
+
+fn with_root(schema: Schema, field: u8, i: usize, value: u32) -> Schema {
+    let mut s = schema;
+    if field == ROOT && i < ROOTS {
+        s.root[i] = byte(value);
+    }
+    if field == ROOT && i == 0 && s.roots == 0 {
+        s.roots = 1;
     }
     s
 }
@@ -153,7 +166,8 @@ pub(crate) fn make_up(held: Held, item: &[u8]) -> Held {
     let value = four(item, 3);
     let old = held.schema;
     let counted = with_count(old, field, value);
-    let typed = with_type(counted, field, index, value);
+    let rooted = with_root(counted, field, index, value);
+    let typed = with_type(rooted, field, index, value);
     let schema = with_step(typed, field, index, value);
     let before = held.reading;
     let marked = with_marks(before, field, value);

@@ -1,6 +1,6 @@
 // Kind S: the first string is a schema file, and the buffer takes the witness. The line has the answer; the schema value beside it, with its
-// counts, for each type its tag, states, accepting states and number of steps, and each step, and `rest 0` where every other entry is 0; and the
-// buffer.
+// counts, its roots, for each type its tag, states, accepting states and number of steps, and each step, and `rest 0` where every other entry
+// is 0; and the buffer.
 use crate::buffer::show_witness;
 use crate::show::next_number;
 use crate::show::number_of;
@@ -8,6 +8,7 @@ use crate::show::show_verdict;
 use crate::show::text;
 use crate::show::wide;
 use competition::LEAST_WITNESS;
+use schema::ROOTS;
 use schema::STEPS;
 use schema::Schema;
 use schema::TYPES;
@@ -19,6 +20,28 @@ ghost use Prim.Native.Nat.{_^_, _<_};
 pub(crate) fn read_schema(file: &[u8]) -> SchemaFile {
     let mut witness = [0u8; LEAST_WITNESS];
     read(file, &mut witness)
+}
+
+// A root, or the first entry where there is none; false where it is no root of the schema and not 0.
+fn show_root(used: bool, first: bool, a: u8) -> bool {
+    if used || first {
+        next_number(wide(a));
+    }
+    used || a == 0
+}
+
+// The roots; false where an entry past them is not 0, or there are types and no root or roots and no type.
+fn show_roots(schema: Schema) -> bool {
+    let root = schema.root;
+    let roots = schema.roots as usize;
+    let mut rest = (roots == 0) == (schema.types == 0);
+    let mut i = 0;
+    while i < ROOTS {
+        let fine = show_root(i < roots, i == 0, root[i]);
+        rest = rest && fine;
+        i += 1;
+    }
+    rest
 }
 
 // The entries of one type; false where it is no type of the schema and one is not 0.
@@ -102,10 +125,10 @@ fn show_schema(schema: Schema) {
     text(b" types");
     next_number(wide(schema.types));
     text(b" root");
-    next_number(wide(schema.root.0));
+    let roots = show_roots(schema);
     let types = show_types(schema);
     let steps = show_steps(schema, steps_in_all(schema));
-    if types && steps {
+    if roots && types && steps {
         text(b"; rest 0");
     } else {
         text(b"; rest not 0");

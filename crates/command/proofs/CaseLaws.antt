@@ -4,7 +4,7 @@ use mathlib.Core.List.{[], _∷_}
 use Prim.Native.Nat.{ℕ}
 use types.Run.{OneOf, miss}
 use denote.Enum.Declared.{tagOf}
-use Rattle.command.specs.Cases.{onType, onFinal, onStep}
+use Rattle.command.specs.Cases.{onType, onFinal, onStep, onRoot}
 use Rattle.command.specs.declared.Command.{Command}
 use Rattle.command.specs.declared.Command.the-variants.{Tags, TypeBlock, Final, Step, Root, Done, Expression, NoCommand}
 use Rattle.command.proofs.Command.{the-type}
@@ -42,6 +42,17 @@ no-step f x Done k = refl
 no-step f x (Expression y) k = refl
 no-step f x NoCommand k = refl
 
+pub no-root : {A : Type 0} (f : ℕ → A) (x : A) (c : Command) → OneOf (0 ∷ 1 ∷ 2 ∷ 3 ∷ 5 ∷ 6 ∷ 7 ∷ []) (tagOf the-type c)
+    → x ≡ onRoot f x c
+no-root f x (Tags n) k = refl
+no-root f x (TypeBlock g s) k = refl
+no-root f x (Final q) k = refl
+no-root f x (Step p j q) k = refl
+no-root f x (Root a) k = absurd (miss (0 ∷ 1 ∷ 2 ∷ 3 ∷ 5 ∷ 6 ∷ 7 ∷ []) 4 tt k)
+no-root f x Done k = refl
+no-root f x (Expression y) k = refl
+no-root f x NoCommand k = refl
+
 -- by two rules that agree
 pub step-same : {A : Type 0} {f g : ℕ → ℕ → ℕ → A} (x : A) → ((p j q : ℕ) → f p j q ≡ g p j q) → (c : Command) → onStep f x c ≡ onStep g x c
 step-same x e (Tags n) = refl
@@ -52,3 +63,13 @@ step-same x e (Root a) = refl
 step-same x e Done = refl
 step-same x e (Expression y) = refl
 step-same x e NoCommand = refl
+
+pub root-same : {A : Type 0} {f g : ℕ → A} (x : A) → ((a : ℕ) → f a ≡ g a) → (c : Command) → onRoot f x c ≡ onRoot g x c
+root-same x e (Tags n) = refl
+root-same x e (TypeBlock g s) = refl
+root-same x e (Final q) = refl
+root-same x e (Step p j q) = refl
+root-same x e (Root a) = e (a .0)
+root-same x e Done = refl
+root-same x e (Expression y) = refl
+root-same x e NoCommand = refl

@@ -34,6 +34,16 @@ onStep f x Done = x
 onStep f x (Expression y) = x
 onStep f x NoCommand = x
 
+abbrev pub onRoot : {A : Type 0} → (ℕ → A) → A → Command → A
+onRoot f x (Tags n) = x
+onRoot f x (TypeBlock g s) = x
+onRoot f x (Final q) = x
+onRoot f x (Step p j q) = x
+onRoot f x (Root a) = f (a .0)
+onRoot f x Done = x
+onRoot f x (Expression y) = x
+onRoot f x NoCommand = x
+
 abbrev pub onExpression : {A : Type 0} → (Part → A) → A → Command → A
 onExpression f x (Tags n) = x
 onExpression f x (TypeBlock g s) = x

@@ -1,40 +1,41 @@
 -- The progress and the tables hold what the commands so far state.
 use mathlib.Core.Path.{_≡_, refl, sym, ap, _∙_}
 use mathlib.Core.Logic.{_≢_}
-use mathlib.Core.Bool.{Bool, true, false, cond}
-use mathlib.Core.List.{List, map}
+use mathlib.Core.Bool.{Bool, true, false, cond, _||_}
+use mathlib.Core.List.{List, _∷_, map}
 use Prim.Native.Nat.{ℕ, zero, suc, _+_, _-_, _%_, _≤_, _<_}
 use native.Mathlib.Decide.{decLt}
 use native.Mathlib.Omega.{arith}
 use borrow.Author.Tests.{le-leb}
 use lib.Dec.{T, eqb, leb, eqb→eq}
-use lib.ListN.{length, getD, replicate, length-replicate, getD-replicate, List·getD-eq-default}
-use Rattle.sdtd.specs.Limits.{mostTypes, mostSteps}
+use lib.ListN.{length, getD, set, replicate, length-replicate, getD-replicate, List·getD-eq-default}
+use Rattle.sdtd.specs.Limits.{mostTypes, mostRoots, mostSteps}
 use Rattle.sdtd.specs.Schema.{step}
 use Rattle.sdtd.specs.declared.Tag.{Tag}
 use Rattle.sdtd.specs.declared.TypeNo.{TypeNo}
-use Rattle.schema.specs.Value.{upFrom, offset, blockAt, meaning}
+use Rattle.schema.specs.Value.{upFrom, offset, blockAt, rootsOf, meaning}
 use Rattle.command.specs.Command.{commandAt, size}
 use Rattle.command.specs.declared.Command.{Command}
 use Rattle.command.specs.declared.Command.the-variants.{Tags, TypeBlock, Final, Step, Root, Done, Expression, NoCommand}
 use Rattle.command.proofs.CommandLaws.{command-in-file, size-some}
-use Rattle.command.proofs.CaseLaws.{step-same}
+use Rattle.command.proofs.CaseLaws.{step-same, root-same}
 use Rattle.expression.specs.Expression.{Expression as Exp}
 use Rattle.expression.specs.Tests.{allSteps}
 use Rattle.expression.specs.Content.{Name, Content, broken, whole, contentAt}
 use Rattle.expression.proofs.WholeContents.{rise-most, whole-content}
 use Rattle.commands.specs.Questions.{rank, samePhase, failed}
-use Rattle.commands.specs.File.{Stated, nothingStated, current, stepCount, hasStep, seenOf, after, afterExpression, Commands, stopped, states}
+use Rattle.commands.specs.File.{Stated, nothingStated, current, stepCount, hasStep, hasRoot, seenOf, after, afterExpression, Commands, stopped, states}
 use Rattle.commands.specs.File.{byContent, commandsFrom}
 use Rattle.commands.specs.File.{schemaBy}
 use Rattle.commands.specs.Value.{EmptyFrom, StatedValue}
-use Rattle.commands.specs.Progress.{nothingRead, givenLast, lastType, progressAfter, progressWith}
+use Rattle.commands.specs.Progress.{nothingRead, givenLast, rootAmong, lastType, progressAfter, progressWith}
 use Rattle.commands.proofs.SchemaTables.{SchemaTables}
 use Rattle.commands.specs.declared.progress.Phase.{Phase}
 use Rattle.commands.specs.declared.progress.Phase.the-variants.{BeforeTags, BeforeTypes, InBlock, InExpression, AfterExpression, AfterRoot, AfterDone}
 use Rattle.commands.specs.declared.progress.Progress.{Progress}
 use Rattle.commands.proofs.Passing.{passed, passed-command}
 use Rattle.commands.proofs.Holding.{seenIn, tablesAfter, DraftHolds, Sized, EmptyPast, Holds}
+use Rattle.commands.proofs.RootTables.{RootTable, roots-back, given-back, root-more, no-roots}
 use Rattle.commands.proofs.TableLaws.{current-holds, current-count, given-holds, type-sized, type-blocks, type-empty}
 use Rattle.commands.proofs.TableLaws.{accepting-sized, final-blocks, final-count, final-steps, accepting-empty}
 use Rattle.commands.proofs.TableLaws.{step-sized, step-blocks, step-count, step-steps, step-empty}
@@ -48,7 +49,8 @@ first-holds k e =
       sized = k;
       phase = refl;
       tags = refl;
-      root = refl;
+      roots = refl;
+      root = no-roots;
       types = refl;
       steps = refl;
       types-most = omega arith;
@@ -81,6 +83,10 @@ module _ {g : Stated} {s : Progress} {t : SchemaTables} (h : Holds g s t) where
       rw (own-holds .count, le-leb n (s .steps) l, le-leb (s .steps) mostSteps (h .steps-most))
       (given-holds t p j q (current (g .blocks) .steps) (s .steps - n) (own-holds .steps))
 
+  -- whether the ROOT is given already is whether it is one of the roots
+  given-root : (a : ℕ) → rootAmong (s .root) (s .roots) a ≡ hasRoot a (g .roots)
+  given-root a = rw (h .roots) (given-back (h .root) a)
+
   -- what is seen by the progress and the tables is what is seen of what is stated
   pub seen-holds : (c : Command) → seenIn s t c ≡ seenOf g c
   seen-holds c i =
@@ -88,24 +94,27 @@ module _ {g : Stated} {s : Progress} {t : SchemaTables} (h : Holds g s t) where
         phase = h .phase i;
         tags = h .tags i;
         types = h .types i;
+        roots = h .roots i;
         steps = h .steps i;
         states = own-holds .states i;
         accepting = record { 0 = own-holds .accepting i };
-        given = step-same false given-step c i;
+        given = step-same false given-step c i || root-same false given-root c i;
       }
 
   -- a command that changes neither the blocks nor the tables, and after which the file is in no block
-  stays : (phase : Phase) (tags : ℕ) (root : TypeNo) → (rank InBlock ≤ rank phase → 0 < s .types) → rank phase ≢ rank InExpression
+  stays : (phase : Phase) (tags n : ℕ) (table roots : List ℕ) → n ≡ length roots → RootTable table roots
+      → (rank InBlock ≤ rank phase → 0 < s .types) → rank phase ≢ rank InExpression
       → Holds
-      (record { phase = phase; tags = tags; blocks = g .blocks; names = g .names; root = root .0 })
-      (record { phase = phase; tags = tags; types = s .types; root = root; steps = s .steps })
+      (record { phase = phase; tags = tags; blocks = g .blocks; names = g .names; roots = roots })
+      (record { phase = phase; tags = tags; types = s .types; roots = n; root = table; steps = s .steps })
       t
-  stays phase tags root some o =
+  stays phase tags n table roots e k some o =
       record {
         sized = h .sized;
         phase = refl;
         tags = refl;
-        root = refl;
+        roots = e;
+        root = k;
         types = h .types;
         steps = h .steps;
         types-most = h .types-most;
@@ -127,6 +136,7 @@ module _ {g : Stated} {s : Progress} {t : SchemaTables} (h : Holds g s t) where
         sized = type-sized t (h .sized) (s .types % mostTypes) (a .0) k;
         phase = refl;
         tags = h .tags;
+        roots = h .roots;
         root = h .root;
         types = omega (arith, h .types);
         steps = omega (arith, h .steps);
@@ -166,6 +176,7 @@ module _ {g : Stated} {s : Progress} {t : SchemaTables} (h : Holds g s t) where
           sized = accepting-sized t (h .sized) a q;
           phase = phase-block;
           tags = h .tags;
+          roots = h .roots;
           root = h .root;
           types = h .types ∙ final-count q (g .blocks);
           steps = h .steps ∙ final-steps q (g .blocks);
@@ -189,6 +200,7 @@ module _ {g : Stated} {s : Progress} {t : SchemaTables} (h : Holds g s t) where
           sized = step-sized t (h .sized) a m p (j .0) q;
           phase = phase-block;
           tags = h .tags;
+          roots = h .roots;
           root = h .root;
           types = h .types ∙ step-count y (g .blocks);
           steps = omega (arith, h .steps, step-steps y (g .blocks) some-blocks);
@@ -203,16 +215,21 @@ module _ {g : Stated} {s : Progress} {t : SchemaTables} (h : Holds g s t) where
   -- after a command that passed its questions, they hold what is stated then
   pub after-holds : (i : ℕ) (c : Command) → failed (seenOf g c) c ≡ 0 → Holds (after g i c) (progressAfter s c) (tablesAfter s t c)
   unfolding after progressAfter
-  after-holds i (Tags n) e = rw (← h .root) (stays BeforeTypes n (s .root) (omega arith) (omega arith))
+  after-holds i (Tags n) e = stays BeforeTypes n (s .roots) (s .root) (g .roots) (h .roots) (h .root) (omega arith) (omega arith)
   after-holds i (TypeBlock a k) e = after-type i a k (passed g (TypeBlock a k) e .5)
   after-holds i (Final q) e = after-final (passed g (Final q) e .0) i q
   after-holds i (Step p j q) e = let r = passed g (Step p j q) e in after-step (r .0) i p j q (r .3)
   after-holds i (Root a) e =
       let r = passed g (Root a) e in
-      rw (← h .tags) (stays AfterRoot (s .tags) a (λ l. h .some (r .0)) (omega arith))
+      let n : s .roots % mostRoots ≡ length (g .roots) = omega (arith, h .roots, r .4) in
+      let more = root-more (h .root) (a .0) (r .4) (omega (arith, r .3, h .types, h .types-most)) in
+      rw (n, ← h .tags)
+      (stays AfterRoot (s .tags) (length (g .roots) + 1) (set (s .root) (length (g .roots)) (a .0)) (a .0 ∷ g .roots) (omega arith) more
+      (λ l. h .some (r .0)) (omega arith))
   after-holds i Done e =
       let r = passed g Done e in
-      rw (← h .tags, ← h .root) (stays AfterDone (s .tags) (s .root) (λ l. h .some (omega arith)) (omega arith))
+      rw (← h .tags)
+      (stays AfterDone (s .tags) (s .roots) (s .root) (g .roots) (h .roots) (h .root) (λ l. h .some (omega arith)) (omega arith))
   after-holds i (Expression x) e = absurd (passed g (Expression x) e)
   after-holds i NoCommand e = h
 
@@ -227,6 +244,7 @@ module _ {g : Stated} {s : Progress} {t : SchemaTables} (h : Holds g s t) where
         sized = automaton-sized t (h .sized) a (s .steps) e;
         phase = refl;
         tags = h .tags;
+        roots = h .roots;
         root = h .root;
         types = h .types ∙ automaton-count e (g .blocks);
         steps = automaton-total e (g .blocks) (h .fresh inside) (omega arith) (h .steps);
@@ -250,10 +268,11 @@ module _ {g : Stated} {s : Progress} {t : SchemaTables} (h : Holds g s t) where
               tags = h .tags i;
               blocks =
                   (ap (λ (n : ℕ). map (blockAt (valueIn s t)) (upFrom 0 n)) (h .types) ∙ blocks-back s t (g .blocks) (h .blocks)) i;
-              root = h .root i;
+              roots = (ap (rootsOf (s .root)) (h .roots) ∙ roots-back (h .root)) i;
             };
         unused =
             record {
+              root = rw (h .roots) (h .root .empty);
               tag = empty .tag;
               states = empty .states;
               accepting = empty .accepting;

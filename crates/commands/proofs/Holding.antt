@@ -1,5 +1,6 @@
 -- What the progress and the tables hold of the commands so far, while they are passed one after another.
 use mathlib.Core.Path.{_≡_}
+use mathlib.Core.Bool.{_||_}
 use mathlib.Core.List.{List, [], _∷_}
 use Prim.Native.Nat.{ℕ, _+_, _≤_, _<_}
 use lib.ListN.{length, getD}
@@ -10,8 +11,9 @@ use Rattle.commands.specs.Questions.{rank}
 use Rattle.sdtd.specs.Schema.{Step}
 use Rattle.commands.specs.File.{Draft, Stated, current, stepCount}
 use Rattle.commands.specs.Value.{EmptyFrom}
-use Rattle.commands.specs.Progress.{seenBy, lastType, givenAlready, tagAfter, statesAfter, acceptingAfter}
+use Rattle.commands.specs.Progress.{seenBy, lastType, givenAlready, rootGiven, tagAfter, statesAfter, acceptingAfter}
 use Rattle.commands.proofs.SchemaTables.{SchemaTables}
+use Rattle.commands.proofs.RootTables.{RootTable}
 use Rattle.commands.specs.Progress.{countsAfter, fromAfter, byAfter, toAfter}
 use Rattle.commands.specs.declared.progress.Phase.the-variants.{InBlock, InExpression}
 use Rattle.commands.specs.declared.progress.Progress.{Progress}
@@ -22,7 +24,7 @@ abbrev pub seenIn : Progress → SchemaTables → Command → Seen
 seenIn s t c =
     let a = lastType (s .types) in
     seenBy s (getD (t .states) a 0) (record { 0 = getD (t .accepting) a 0 })
-    (givenAlready (t .from) (t .by) (t .to) (s .steps) (getD (t .counts) a 0) c)
+    (givenAlready (t .from) (t .by) (t .to) (s .steps) (getD (t .counts) a 0) c || rootGiven s c)
 
 -- the tables after a command that passed its questions
 abbrev pub tablesAfter : Progress → SchemaTables → Command → SchemaTables
@@ -81,7 +83,8 @@ pub record Holds (g : Stated) (s : Progress) (t : SchemaTables) : Type 0 where
   pub sized : Sized t
   pub phase : s .phase ≡ g .phase
   pub tags : s .tags ≡ g .tags
-  pub root : s .root .0 ≡ g .root
+  pub roots : s .roots ≡ length (g .roots)
+  pub root : RootTable (s .root) (g .roots)
   pub types : s .types ≡ length (g .blocks)
   pub steps : s .steps ≡ stepCount (g .blocks)
   pub types-most : s .types ≤ mostTypes

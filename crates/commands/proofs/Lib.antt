@@ -2,6 +2,7 @@
 pub mod LayingLaws
 pub mod GroupLaws
 pub mod SchemaTables
+pub mod RootTables
 pub mod Passing
 pub mod Holding
 pub mod TableLaws

@@ -2,7 +2,7 @@
 use mathlib.Core.Path.{_≡_, refl, sym, ap, subst}
 use mathlib.Core.Logic.{⊎-elim}
 use mathlib.Core.Bool.{true, false, _&&_}
-use mathlib.Core.List.{List, [], _∷_, _++_, map, reverseAux, List·Memᴰ, List·Memᴰ·not-nil, List·Memᴰ·cases-cons}
+use mathlib.Core.List.{List, [], _∷_, _++_, map, reverseAux, List·Memᴰ, List·Memᴰ·head, List·Memᴰ·not-nil, List·Memᴰ·cases-cons}
 use mathlib.Core.List.{List·Memᴰ·append-cases, List·Memᴰ·eq-of-singleton}
 use Prim.Native.Nat.{ℕ, zero, suc, _+_, _*_, _/_, _%_, _-_, _≤_, _<_}
 use native.Mathlib.Decide.{ℕ-discrete}
@@ -12,8 +12,8 @@ use lib.ListN.{length, getD}
 use borrow.Author.Tests.{lt-ltb, eq-eqb, ne-eqb}
 use Rattle.sdtd.specs.Schema.{Schema, Block, step, noBlock, blockOf, stay}
 use Rattle.sdtd.specs.Schema.{Step as StepOf}
-use Rattle.sdtd.specs.Trim.{RootBears, none}
-use Rattle.sdtd.specs.Competition.{Competition}
+use Rattle.sdtd.specs.Trim.{SomeRootBears, none}
+use Rattle.sdtd.specs.Competition.{Competition, of-roots, in-type}
 use Rattle.sdtd.proofs.Basics.{is-false}
 use Rattle.sdtd.proofs.Bearing.{word-bears}
 use Rattle.sdtd.proofs.Rivals.{compete-rivals}
@@ -25,14 +25,16 @@ use Rattle.commands.specs.Questions.{failed}
 use Rattle.commands.specs.declared.progress.Phase.{Phase}
 use Rattle.commands.specs.declared.progress.Phase.the-variants.{BeforeTypes, InBlock, AfterDone}
 use Rattle.commands.specs.File.{Draft, Stated, hasStep, seenOf, after, states, commands}
-use Rattle.commands.specs.File.{blockBy, schemaBy, unknownIn, unknown, OnlyOld, mostBytes}
+use Rattle.commands.specs.File.{blockBy, schemaBy, unknownIn, unknown, rootCount, OldWithOneRoot, mostBytes}
 use Rattle.expression.specs.Content.{Name}
 use Rattle.expression.specs.Answer.{setOf}
 use Rattle.expression.proofs.TestSets.{set-below, member-set}
+use Rattle.command.specs.Cases.{onRoot}
 use Rattle.command.specs.Command.{isOld, fileOf}
 use Rattle.command.specs.declared.Command.{Command}
 use Rattle.command.specs.declared.Command.the-variants.{Tags, TypeBlock, Final, Step, Root, Done}
 use Rattle.command.proofs.CommandLaws.{length-more}
+use Rattle.commands.proofs.Lengths.{roots-append}
 use Rattle.commands.proofs.Runs.{CommandsPass, pass-none, pass-more, pass-all}
 
 -- the TYPE of each block, the STEP of the pair of states number n, and the ROOT
@@ -132,7 +134,39 @@ unfolding thenBlocks
 old-blocks cs zero h = h
 old-blocks cs (suc n) h = old-block (thenBlocks cs n) (old-blocks cs n h)
 
-pub longest-old : OnlyOld longestFile
+-- one of them is a ROOT
+roots-more : (cs : List Command) (c : Command) → rootCount (cs ++ (c ∷ [])) ≡ rootCount cs + onRoot (λ a. 1) 0 c
+roots-more cs c = omega (arith, roots-append cs (c ∷ []))
+
+roots-finals : (cs : List Command) (n : ℕ) → rootCount (thenFinals cs n) ≡ rootCount cs
+unfolding thenFinals
+roots-finals cs zero = refl
+roots-finals cs (suc n) = omega (arith, roots-more (thenFinals cs n) (Final n), roots-finals cs n)
+
+roots-steps : (cs : List Command) (n : ℕ) → rootCount (thenSteps cs n) ≡ rootCount cs
+unfolding thenSteps
+roots-steps cs zero = refl
+roots-steps cs (suc n) = omega (arith, roots-more (thenSteps cs n) (stepCommand n), roots-steps cs n)
+
+roots-block : (cs : List Command) → rootCount (thenBlock cs) ≡ rootCount cs
+unfolding thenBlock
+roots-block cs = omega (arith, roots-finals (cs ++ (typeCommand ∷ [])) mostStates, roots-more cs typeCommand)
+
+roots-blocks : (cs : List Command) (n : ℕ) → rootCount (thenBlocks cs n) ≡ rootCount cs
+unfolding thenBlocks
+roots-blocks cs zero = refl
+roots-blocks cs (suc n) = omega (arith, roots-block (thenBlocks cs n), roots-blocks cs n)
+
+one-root : rootCount longestCommands ≡ 1
+unfolding longestCommands firstCommands
+one-root =
+    let tags = Tags mostTags ∷ [] in
+    let cs = thenBlocks firstCommands (mostTypes - 1) in
+    let none : rootCount cs ≡ 0 =
+    omega (arith, roots-blocks firstCommands (mostTypes - 1), roots-steps (thenBlock tags) mostSteps, roots-block tags) in
+    omega (arith, roots-more (cs ++ (rootCommand ∷ [])) Done, roots-more cs rootCommand)
+
+pub longest-old : OldWithOneRoot longestFile
 unfolding longestFile longestCommands firstCommands
 longest-old =
     let tags : AllOld (Tags mostTags ∷ []) = λ c m. subst (λ (x : Command). T (isOld x)) (sym (List·Memᴰ·eq-of-singleton m)) tt in
@@ -143,6 +177,7 @@ longest-old =
       given = longestCommands;
       bytes = refl;
       old = old-more (cs ++ (rootCommand ∷ [])) Done tt (old-more cs rootCommand tt blocks);
+      one-root = one-root;
     }
 
 -- the states below n as a set
@@ -157,7 +192,7 @@ abbrev plain : ℕ → ℕ → Draft
 plain i n = record { place = i; tag = 0; states = mostStates; accepting = firstStates n; steps = [] }
 
 abbrev stated : Phase → List Draft → List Name → Stated
-stated phase ds ns = record { phase = phase; tags = mostTags; blocks = ds; names = ns; root = 0 }
+stated phase ds ns = record { phase = phase; tags = mostTags; blocks = ds; names = ns; roots = [] }
 
 -- a run of FINALs
 finals-pass : {cs : List Command} (i : ℕ) (ds : List Draft) (ns : List Name) (n : ℕ) → n ≤ mostStates
@@ -249,7 +284,10 @@ first-pass =
     steps-pass (length (fileOf (Tags mostTags ∷ []))) mostSteps (omega arith)
     (block-pass BeforeTypes [] [] refl (pass-more (Tags mostTags) pass-none refl))
 
-longest-pass : CommandsPass longestCommands (stated AfterDone allBlocks allNames)
+abbrev allStated : Stated
+allStated = record { phase = AfterDone; tags = mostTags; blocks = allBlocks; names = allNames; roots = 0 ∷ [] }
+
+longest-pass : CommandsPass longestCommands allStated
 unfolding longestCommands after allBlocks
 longest-pass =
     let r = blocks-pass (firstBlock ∷ []) allNames (mostTypes - 1) (omega arith) first-pass in
@@ -262,7 +300,7 @@ unfolding namesGiven
 known-names cs zero = refl
 known-names cs (suc n) = rw (known-names cs n)
 
-known : unknown (stated AfterDone allBlocks allNames) ≡ []
+known : unknown allStated ≡ []
 unfolding allBlocks firstBlock allNames
 known =
     rw (plains-count firstCommands (firstBlock ∷ []) (mostTypes - 1))
@@ -280,11 +318,11 @@ unfolding firstBlock setOf insert
 start-accepts = mem-members 0 (firstStates mostStates) (set-below (λ q. true) mostStates) .1 tt
 
 -- the root type bears the tree of one element
-root-bears : RootBears (schemaBy (stated AfterDone allBlocks allNames))
+root-bears : SomeRootBears (schemaBy allStated)
 unfolding allBlocks schemaBy
 root-bears =
     let m = subst (λ (b : Block). List·Memᴰ 0 (b .accepting)) (sym (first-block firstCommands firstBlock (mostTypes - 1) [])) start-accepts in
-    word-bears 0 (record { last = 0; leads = stay; accepting = m }) none
+    record { type = 0; is-root = List·Memᴰ·head refl; bears = word-bears 0 (record { last = 0; leads = stay; accepting = m }) none }
 
 -- all the steps carry the type 1
 abbrev OneType : List StepOf → Type 0
@@ -316,33 +354,36 @@ first-one-type : OneType (blockBy firstBlock .steps)
 unfolding firstBlock
 first-one-type = one-type-steps mostSteps [] (λ s m. absurd (List·Memᴰ·not-nil m))
 
--- types that compete in a block are types of two of its steps, and these are never different
-one-type-free : {S : Schema} → ((a : ℕ) → OneType (blockOf S a .steps)) → ¬ Competition S
-one-type-free h c =
-    let k = c .compete-in .compete in
+-- one root competes with none; types that compete in a block are types of two of its steps, and these are never different
+one-type-free : {S : Schema} {root : ℕ} → S .roots ≡ root ∷ [] → ((a : ℕ) → OneType (blockOf S a .steps)) → ¬ Competition S
+one-type-free one h (of-roots o) =
+    let c = o .compete in
+    omega (arith, c .order, List·Memᴰ·eq-of-singleton (rw one at (c .is-root-j)), List·Memᴰ·eq-of-singleton (rw one at (c .is-root-k)))
+one-type-free one h (in-type {a = a} c) =
+    let k = c .compete in
     let r = compete-rivals k .rivals in
-    let x = h (c .type) _ (r .step-j) in
-    let y = h (c .type) _ (r .step-k) in
+    let x = h a _ (r .step-j) in
+    let y = h a _ (r .step-k) in
     let l = k .order in
     omega arith
 
-no-competition : ¬ Competition (schemaBy (stated AfterDone allBlocks allNames))
+no-competition : ¬ Competition (schemaBy allStated)
 unfolding allBlocks schemaBy
-no-competition = one-type-free (one-type-blocks firstCommands firstBlock first-one-type (mostTypes - 1) [] (λ a s m. absurd (List·Memᴰ·not-nil m)))
+no-competition = one-type-free refl (one-type-blocks firstCommands firstBlock first-one-type (mostTypes - 1) [] (λ a s m. absurd (List·Memᴰ·not-nil m)))
 
 -- What is asked of the file after questions 2 to 6.
 pub record LongestStates : Type 0 where
   pub longest-states : Stated
   pub commands-pass : commands longestFile ≡ states longest-states
   pub steps-known : unknown longest-states ≡ []
-  pub bears-tree : RootBears (schemaBy longest-states)
+  pub bears-tree : SomeRootBears (schemaBy longest-states)
   pub restrained : ¬ Competition (schemaBy longest-states)
 
 pub longest-stated : LongestStates
 unfolding longestFile
 longest-stated =
     record {
-      longest-states = stated AfterDone allBlocks allNames;
+      longest-states = allStated;
       commands-pass = pass-all longest-pass refl;
       steps-known = known;
       bears-tree = root-bears;

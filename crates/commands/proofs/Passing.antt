@@ -10,7 +10,7 @@ use lib.Dec.{T, eqb, leb, ltb, leb→le, ltb→lt, eqb→eq, T-not}
 use lib.ListN.{length}
 use borrow.Author.Tests.{eqb-true, eq-eqb, leb-true}
 use Rattle.sdtd.proofs.Basics.{and-parts, cond-both, cond-either}
-use Rattle.sdtd.specs.Limits.{mostTags, mostTypes, mostStates, mostSteps}
+use Rattle.sdtd.specs.Limits.{mostTags, mostTypes, mostRoots, mostStates, mostSteps}
 use Rattle.schema.specs.States.{member}
 use Rattle.command.specs.Command.{commandAt, isCommand, size}
 use Rattle.command.specs.declared.Command.{Command}
@@ -38,8 +38,8 @@ Passed g (Step p j q) =
     (rank (g .phase) ≡ rank InBlock) × (p < current (g .blocks) .states) × (q < current (g .blocks) .states)
     × (stepCount (g .blocks) < mostSteps) × (j .0 < mostTypes)
 Passed g (Root a) =
-    (rank InBlock ≤ rank (g .phase)) × (rank (g .phase) ≤ rank AfterExpression) × (rank (g .phase) ≢ rank InExpression)
-    × (a .0 < length (g .blocks))
+    (rank InBlock ≤ rank (g .phase)) × (rank (g .phase) ≤ rank AfterRoot) × (rank (g .phase) ≢ rank InExpression)
+    × (a .0 < length (g .blocks)) × (length (g .roots) < mostRoots)
 Passed g Done = rank (g .phase) ≡ rank AfterRoot
 Passed g (Expression x) = ⊥
 Passed g NoCommand = ⊥
@@ -53,15 +53,21 @@ or-parts false b t = inr t
 either-is : (n a b : ℕ) → T (eqb n a || eqb n b) → (n ≡ a) ⊎ (n ≡ b)
 either-is n a b t = ⊎-elim (λ h. inl (eqb→eq n a h)) (λ h. inr (eqb→eq n b h)) (or-parts (eqb n a) (eqb n b) t)
 
--- where a ROOT can stand, and where a TYPE
-before-root : (n : ℕ) → T (eqb n (rank InBlock) || eqb n (rank AfterExpression))
+-- where a block has ended or can end; where a ROOT can stand, and where a TYPE
+block-ends : (n : ℕ) → T (eqb n (rank InBlock) || eqb n (rank AfterExpression))
     → (rank InBlock ≤ n) × (n ≤ rank AfterExpression) × (n ≢ rank InExpression)
-before-root n t = ⊎-elim (λ e. omega arith) (λ e. omega arith) (either-is n (rank InBlock) (rank AfterExpression) t)
+block-ends n t = ⊎-elim (λ e. omega arith) (λ e. omega arith) (either-is n (rank InBlock) (rank AfterExpression) t)
+
+before-root : (n : ℕ) → T (eqb n (rank AfterRoot) || (eqb n (rank InBlock) || eqb n (rank AfterExpression)))
+    → (rank InBlock ≤ n) × (n ≤ rank AfterRoot) × (n ≢ rank InExpression)
+before-root n t =
+    ⊎-elim (λ h. omega (arith, eqb→eq n (rank AfterRoot) h)) (λ h. omega (arith, block-ends n h))
+    (or-parts (eqb n (rank AfterRoot)) (eqb n (rank InBlock) || eqb n (rank AfterExpression)) t)
 
 before-type : (n : ℕ) → T (eqb n (rank BeforeTypes) || (eqb n (rank InBlock) || eqb n (rank AfterExpression)))
     → (rank BeforeTypes ≤ n) × (n ≤ rank AfterExpression) × (n ≢ rank InExpression)
 before-type n t =
-    ⊎-elim (λ h. omega (arith, eqb→eq n (rank BeforeTypes) h)) (λ h. omega (arith, before-root n h))
+    ⊎-elim (λ h. omega (arith, eqb→eq n (rank BeforeTypes) h)) (λ h. omega (arith, block-ends n h))
     (or-parts (eqb n (rank BeforeTypes)) (eqb n (rank InBlock) || eqb n (rank AfterExpression)) t)
 
 answered : (g : Stated) (c : Command) → let s = seenOf g c in failed s c ≡ 0
@@ -94,7 +100,7 @@ passed g (Step p j q) z =
 passed g (Root a) z =
     let h = answered g (Root a) z in
     let o = before-root (rank (g .phase)) (h .1) in
-    (o .0, o .1, o .2, ltb→lt (a .0) (length (g .blocks)) (h .2))
+    (o .0, o .1, o .2, ltb→lt (a .0) (length (g .blocks)) (h .2), ltb→lt (length (g .roots)) mostRoots (h .3))
 passed g Done z = let h = answered g Done z in omega (arith, eqb→eq)
 passed g (Expression x) z = absurd (omega arith)
 passed g NoCommand z = absurd (omega arith)

@@ -1,27 +1,19 @@
 -- What is read back from the tables: the blocks.
 use mathlib.Core.Path.{_≡_, refl, sym, ap, _∙_}
 use mathlib.Core.List.{List, [], _∷_, _++_, map, reverse, reverse-cons}
-use Prim.Native.Nat.{ℕ, zero, suc, _+_}
+use Prim.Native.Nat.{ℕ, _+_}
 use native.Mathlib.Omega.{arith}
 use lib.ListN.{length}
 use Rattle.sdtd.specs.Schema.{Step}
 use Rattle.schema.specs.States.{members}
 use Rattle.schema.specs.Value.{upFrom, stepAt, stepsOf, offset, blockAt}
 use Rattle.schema.specs.declared.value.Schema.{Schema}
-use Rattle.schema.proofs.Values.{offset-step}
+use Rattle.schema.proofs.Values.{offset-step, up-last}
 use Rattle.commands.specs.File.{Draft, stepCount, blockBy}
 use Rattle.commands.specs.Progress.{valueOf}
 use Rattle.commands.proofs.SchemaTables.{SchemaTables}
 use Rattle.commands.specs.declared.progress.Progress.{Progress}
 use Rattle.commands.proofs.Holding.{StepsHold, DraftHolds, BlocksHold}
-
--- the last of the numbers
-up-last : {A : Type 0} (f : ℕ → A) (s n : ℕ) → map f (upFrom s (suc n)) ≡ map f (upFrom s n) ++ (f (s + n) ∷ [])
-unfolding upFrom
-up-last f s zero = rw (let e : s + 0 ≡ s = omega arith in e)
-up-last f s (suc n) =
-    let e : s + suc n ≡ suc s + n = omega arith in
-    rw e (ap (λ (l : List _). f s ∷ l) (up-last f (suc s) n))
 
 map-last : {A B : Type 0} (f : A → B) (xs : List A) (x : A) → map f (xs ++ (x ∷ [])) ≡ map f xs ++ (f x ∷ [])
 map-last f [] x = refl

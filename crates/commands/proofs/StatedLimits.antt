@@ -10,7 +10,7 @@ use native.Mathlib.Omega.{arith}
 use lib.Dec.{T, eqb, ltb}
 use lib.ListN.{length, length-map, length-reverse}
 use borrow.Author.Tests.{ltb-true, eqb-false}
-use Rattle.sdtd.specs.Limits.{mostTags, mostTypes, mostStates, mostSteps}
+use Rattle.sdtd.specs.Limits.{mostTags, mostTypes, mostRoots, mostStates, mostSteps}
 use Rattle.sdtd.specs.Schema.{Schema, Block, Step, step, stepsIn, BlockWithin, WithinLimits}
 use Rattle.schema.specs.States.{member, noStates}
 use Rattle.schema.proofs.Bits.{member-none, insert-below, member-insert, mem-members}
@@ -67,7 +67,7 @@ pub record DraftWithin (tags : ℕ) (d : Draft) : Type 0 where
   pub accepting : (q : ℕ) → T (member q (d .accepting)) → q < d .states
   pub steps : Each (EndsWithin (d .states)) (d .steps)
 
--- the counts so far, and after ROOT the root type, are inside the limits
+-- the counts so far are inside the limits
 pub record CountsWithin (g : Stated) : Type 0 where
   pub tags-least : rank BeforeTypes ≤ rank (g .phase) → 1 ≤ g .tags
   pub tags-most : g .tags ≤ mostTags
@@ -75,7 +75,8 @@ pub record CountsWithin (g : Stated) : Type 0 where
   pub types-least : rank InBlock ≤ rank (g .phase) → 1 ≤ length (g .blocks)
   pub types-most : length (g .blocks) ≤ mostTypes
   pub steps-most : stepCount (g .blocks) ≤ mostSteps
-  pub root : rank AfterRoot ≤ rank (g .phase) → g .root < length (g .blocks)
+  pub roots-least : rank AfterRoot ≤ rank (g .phase) → 1 ≤ length (g .roots)
+  pub roots-most : length (g .roots) ≤ mostRoots
 
 -- a block has states
 abbrev HasStates : Draft → Type 0
@@ -97,6 +98,7 @@ pub record StatedWithin (g : Stated) : Type 0 where
   pub whole : rank (g .phase) ≢ rank InExpression → Each HasStates (g .blocks)
   pub older : Each HasStates (others (g .blocks))
   pub named : Each (NamedIn (g .names)) (g .blocks)
+  pub roots : Each (λ a. a < length (g .blocks)) (g .roots)
 
 pub nothing-within : StatedWithin nothingStated
 nothing-within =
@@ -106,6 +108,7 @@ nothing-within =
       whole = λ d. each-none HasStates [] refl;
       older = each-none HasStates [] refl;
       named = each-none (NamedIn []) [] refl;
+      roots = each-none (λ a. a < 0) [] refl;
     }
 
 -- an accepting state more, and a step more, in the block that the file is in
@@ -195,6 +198,7 @@ within-kept i g (Tags n) p h =
       whole = λ d. each-none HasStates (g .blocks) none;
       older = h .older;
       named = h .named;
+      roots = h .roots;
     }
 within-kept i g (TypeBlock t s) p h =
     let o = type-phase s in
@@ -209,12 +213,14 @@ within-kept i g (TypeBlock t s) p h =
             types-least = λ l. omega arith;
             types-most = p .5;
             steps-most = omega (arith, h .counts .steps-most);
-            root = λ l. absurd (omega arith);
+            roots-least = λ l. absurd (omega arith);
+            roots-most = h .counts .roots-most;
           };
       blocks = each-more (DraftWithin (g .tags)) (draft-within i (p .3) (p .4)) (h .blocks);
       whole = λ d. each-more HasStates (o .2 d) (h .whole (p .2));
       older = h .whole (p .2);
       named = each-more (NamedIn (g .names)) (each-none (λ s. List·Memᴰ (s .by) (typesOf (g .names))) [] refl) (h .named);
+      roots = λ a m. omega (arith, h .roots a m);
     }
 within-kept i g (Final q) p h =
     let n = final-count q (g .blocks) in
@@ -227,6 +233,7 @@ within-kept i g (Final q) p h =
       whole = λ d. final-each HasStates q (g .blocks) (λ d k. k) (h .whole (omega arith));
       older = rw (final-others q (g .blocks)) (h .older);
       named = final-each (NamedIn (g .names)) q (g .blocks) (λ d k. k) (h .named);
+      roots = λ a m. omega (arith, h .roots a m);
     }
 within-kept i g (StepCommand x j y) p h =
     let s = step x (j .0) y in
@@ -244,14 +251,23 @@ within-kept i g (StepCommand x j y) p h =
           step-each (NamedIn (name ∷ g .names)) s (g .blocks)
           (λ d k. each-more (λ s. List·Memᴰ (s .by) (typesOf (name ∷ g .names))) (List·Memᴰ·head refl) k)
           (λ d m. named-onto (name ∷ []) (g .names) d (h .named d m));
+      roots = λ a m. omega (arith, h .roots a m);
     }
 within-kept i g (Root a) p h =
     let t = h .counts .tags-least (omega arith) in
-    record { counts = omega arith; blocks = h .blocks; whole = λ d. h .whole (p .2); older = h .older; named = h .named }
+    record {
+      counts = omega arith;
+      blocks = h .blocks;
+      whole = λ d. h .whole (p .2);
+      older = h .older;
+      named = h .named;
+      roots = each-more (λ b. b < length (g .blocks)) (p .3) (h .roots);
+    }
 within-kept i g Done p h =
     let t = h .counts .tags-least (omega arith) in
-    let r = h .counts .root (omega arith) in
-    record { counts = omega arith; blocks = h .blocks; whole = λ d. h .whole (omega arith); older = h .older; named = h .named }
+    let l = h .counts .types-least (omega arith) in
+    let r = h .counts .roots-least (omega arith) in
+    record { counts = omega arith; blocks = h .blocks; whole = λ d. h .whole (omega arith); older = h .older; named = h .named; roots = h .roots }
 within-kept i g (Expression x) p h = absurd p
 within-kept i g NoCommand p h = absurd p
 
@@ -317,12 +333,14 @@ expression-kept file i g e ns p r h =
             types-least = λ l. omega (arith, c .types-least (omega arith));
             types-most = omega (arith, c .types-most);
             steps-most = omega (arith, automaton-steps e (g .blocks), r .fits);
-            root = λ l. absurd (omega arith);
+            roots-least = λ l. absurd (omega arith);
+            roots-most = c .roots-most;
           };
       blocks = automaton-within e (g .blocks) few (h .blocks);
       whole = λ d. automaton-states e (g .blocks) (h .older);
       older = rw (automaton-others e (g .blocks)) (h .older);
       named = automaton-named e (reverse ns ++ g .names) (g .blocks) own (λ d m. named-onto (reverse ns) (g .names) d (h .named d m));
+      roots = λ a m. omega (arith, n, h .roots a m);
     }
 
 -- what all the commands of a file state
@@ -385,7 +403,9 @@ stated-within file g e none =
       types-least = omega (arith, h .types-least (omega arith));
       types-most = omega arith;
       steps-most = rw (steps-counted (g .blocks)) (h .steps-most);
-      root = omega (arith, h .root (omega arith));
+      roots-least = omega (arith, h .roots-least (omega arith), length-reverse (g .roots));
+      roots-most = omega (arith, h .roots-most, length-reverse (g .roots));
+      roots = λ a m. omega (arith, r .holds .roots a (mem-reverse (g .roots) m));
       blocks = each-turned (BlockWithin (schemaBy g)) blockBy (g .blocks)
           (λ d m. block-within (schemaBy g) d (r .holds .blocks d m) (r .holds .whole (omega arith) d m)
           (λ s k. rw n (known-in (length (g .blocks)) (g .names) none (s .by) (r .holds .named d m s k))));

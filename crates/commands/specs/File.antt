@@ -11,7 +11,7 @@ use Rattle.sdtd.specs.Answer.{Question, ask}
 use Rattle.schema.specs.States.{insert, members, noStates}
 use Rattle.sdtd.specs.Limits.{mostStates, mostSteps}
 use Rattle.command.specs.Command.{isOld, fileOf, commandAt, size}
-use Rattle.command.specs.Cases.{onStep}
+use Rattle.command.specs.Cases.{onStep, onRoot}
 use Rattle.command.specs.declared.Command.{Command}
 use Rattle.command.specs.declared.Command.the-variants.{Tags, TypeBlock, Final, Step, Root, Done, Expression, NoCommand}
 use Rattle.expression.specs.Expression.{Expression as Exp}
@@ -32,16 +32,16 @@ pub record Draft : Type 0 where
   pub accepting : ℕ
   pub steps : List StepOf
 
--- what the commands so far state: the blocks, and the types that STEPs and 32s name with their places, the last first
+-- what the commands so far state: the blocks, the types that STEPs and 32s name with their places, and the roots, the last first
 pub record Stated : Type 0 where
   pub phase : Phase
   pub tags : ℕ
   pub blocks : List Draft
   pub names : List Name
-  pub root : ℕ
+  pub roots : List ℕ
 
 abbrev pub nothingStated : Stated
-nothingStated = record { phase = BeforeTags; tags = 0; blocks = []; names = []; root = 0 }
+nothingStated = record { phase = BeforeTags; tags = 0; blocks = []; names = []; roots = [] }
 
 -- the block that the file is in
 abbrev pub current : List Draft → Draft
@@ -62,6 +62,11 @@ abbrev pub hasStep : ℕ → ℕ → ℕ → List StepOf → Bool
 hasStep p j q [] = false
 hasStep p j q (s ∷ ss) = sameStep p j q s || hasStep p j q ss
 
+-- one of the types is a
+abbrev pub hasRoot : ℕ → List ℕ → Bool
+hasRoot a [] = false
+hasRoot a (x ∷ xs) = eqb x a || hasRoot a xs
+
 -- what is seen of the file where the command is asked
 abbrev pub seenOf : Stated → Command → Seen
 seenOf g c =
@@ -70,10 +75,11 @@ seenOf g c =
       phase = g .phase;
       tags = g .tags;
       types = length (g .blocks);
+      roots = length (g .roots);
       steps = stepCount (g .blocks);
       states = d .states;
       accepting = record { 0 = d .accepting };
-      given = onStep (λ p j q. hasStep p j q (d .steps)) false c;
+      given = onStep (λ p j q. hasStep p j q (d .steps)) false c || onRoot (λ a. hasRoot a (g .roots)) false c;
     }
 
 -- the blocks with one accepting state more, or one step more, in the block that the file is in
@@ -87,7 +93,7 @@ withStep s (d ∷ ds) = record { place = d .place; tag = d .tag; states = d .sta
 
 -- what is stated after the command at the place i; "A TYPE with state count 0 is followed by an expression"
 unfoldable pub after : Stated → ℕ → Command → Stated
-after g i (Tags n) = record { phase = BeforeTypes; tags = n; blocks = g .blocks; names = g .names; root = g .root }
+after g i (Tags n) = record { phase = BeforeTypes; tags = n; blocks = g .blocks; names = g .names; roots = g .roots }
 after g i (TypeBlock t s) =
     let d : Draft = record { place = i; tag = t .0; states = s; accepting = noStates; steps = [] } in
     record {
@@ -95,19 +101,19 @@ after g i (TypeBlock t s) =
       tags = g .tags;
       blocks = d ∷ g .blocks;
       names = g .names;
-      root = g .root;
+      roots = g .roots;
     }
-after g i (Final q) = record { phase = InBlock; tags = g .tags; blocks = withFinal q (g .blocks); names = g .names; root = g .root }
+after g i (Final q) = record { phase = InBlock; tags = g .tags; blocks = withFinal q (g .blocks); names = g .names; roots = g .roots }
 after g i (Step p j q) =
     record {
       phase = InBlock;
       tags = g .tags;
       blocks = withStep (step p (j .0) q) (g .blocks);
       names = record { type = j .0; place = i } ∷ g .names;
-      root = g .root;
+      roots = g .roots;
     }
-after g i (Root a) = record { phase = AfterRoot; tags = g .tags; blocks = g .blocks; names = g .names; root = a .0 }
-after g i Done = record { phase = AfterDone; tags = g .tags; blocks = g .blocks; names = g .names; root = g .root }
+after g i (Root a) = record { phase = AfterRoot; tags = g .tags; blocks = g .blocks; names = g .names; roots = a .0 ∷ g .roots }
+after g i Done = record { phase = AfterDone; tags = g .tags; blocks = g .blocks; names = g .names; roots = g .roots }
 after g i (Expression x) = g
 after g i NoCommand = g
 
@@ -132,7 +138,7 @@ afterExpression g e ns =
       tags = g .tags;
       blocks = withAutomaton e (g .blocks);
       names = reverse ns ++ g .names;
-      root = g .root;
+      roots = g .roots;
     }
 
 -- What becomes of the commands: a refusal with its number and place, or what they state.
@@ -173,9 +179,9 @@ blockBy d =
       steps = reverse (d .steps);
     }
 
--- The schema that is stated: the types in the order of their blocks.
+-- The schema that is stated: the types in the order of their blocks, the roots in that of their commands.
 unfoldable pub schemaBy : Stated → Schema
-schemaBy g = record { tags = g .tags; blocks = map blockBy (reverse (g .blocks)); root = g .root }
+schemaBy g = record { tags = g .tags; blocks = map blockBy (reverse (g .blocks)); roots = reverse (g .roots) }
 
 -- the places of the names, in file order, that are no type below the count
 abbrev pub unknownIn : ℕ → List Name → List ℕ
@@ -198,11 +204,17 @@ pub record StatesSchema (file : List ℕ) (S : Schema) : Type 0 where
   pub known : unknown stated ≡ []
   pub schema : schemaBy stated ≡ S
 
--- the file is one of old commands only
-pub record OnlyOld (file : List ℕ) : Type 0 where
+-- how many ROOTs the commands have
+abbrev pub rootCount : List Command → ℕ
+rootCount [] = 0
+rootCount (c ∷ cs) = onRoot (λ a. 1) 0 c + rootCount cs
+
+-- the file is one "with one ROOT and only the old commands"
+pub record OldWithOneRoot (file : List ℕ) : Type 0 where
   pub given : List Command
   pub bytes : file ≡ fileOf given
   pub old : (c : Command) → List·Memᴰ c given → T (isOld c)
+  pub one-root : rootCount given ≡ 1
 
 -- "The longest accepted file has 8,389 bytes." "The 8,389 bytes hold for files with one ROOT and only the old commands."
 abbrev pub mostBytes : ℕ

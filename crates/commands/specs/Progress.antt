@@ -2,58 +2,67 @@
 use mathlib.Core.Bool.{Bool, false, cond, _&&_, _||_}
 use mathlib.Core.List.{List, [], _∷_}
 use Prim.Native.Nat.{ℕ, zero, suc, _+_, _-_, _%_, min, max}
-use lib.Dec.{eqb, leb}
-use lib.ListN.{getD, set}
-use Rattle.sdtd.specs.Limits.{mostTypes, mostSteps}
-use Rattle.sdtd.specs.Numbered.{typeNo}
+use lib.Dec.{eqb, leb, ltb}
+use lib.ListN.{getD, set, replicate}
+use Rattle.sdtd.specs.Limits.{mostTypes, mostRoots, mostSteps}
 use Rattle.schema.specs.States.{insert}
-use Rattle.schema.specs.Value.{stepAt}
+use Rattle.schema.specs.Value.{stepAt, rootsOf}
 use Rattle.schema.specs.declared.state_set.StateSet.{StateSet}
 use Rattle.schema.specs.declared.value.Schema.{Schema}
-use Rattle.command.specs.Cases.{onType, onFinal, onStep}
+use Rattle.command.specs.Cases.{onType, onFinal, onStep, onRoot}
 use Rattle.command.specs.declared.Command.{Command}
 use Rattle.command.specs.declared.Command.the-variants.{Tags, TypeBlock, Final, Step, Root, Done, Expression, NoCommand}
 use Rattle.expression.specs.Content.{Name}
 use Rattle.commands.specs.Questions.{failed}
-use Rattle.commands.specs.File.{sameStep}
+use Rattle.commands.specs.File.{sameStep, hasRoot}
 use Rattle.commands.specs.declared.progress.Phase.the-variants.{BeforeTags, BeforeTypes, InBlock, InExpression, AfterExpression, AfterRoot, AfterDone}
 use Rattle.commands.specs.declared.progress.Progress.{Progress}
 use Rattle.commands.specs.declared.questions.Seen.{Seen}
 
 abbrev pub nothingRead : Progress
-nothingRead = record { phase = BeforeTags; tags = 0; types = 0; root = typeNo 0; steps = 0 }
+nothingRead = record { phase = BeforeTags; tags = 0; types = 0; roots = 0; root = replicate mostRoots 0; steps = 0 }
 
 -- the progress after a command that passed its questions
 unfoldable pub progressAfter : Progress → Command → Progress
-progressAfter s (Tags n) = record { phase = BeforeTypes; tags = n; types = s .types; root = s .root; steps = s .steps }
+progressAfter s (Tags n) = record { phase = BeforeTypes; tags = n; types = s .types; roots = s .roots; root = s .root; steps = s .steps }
 progressAfter s (TypeBlock g k) =
     record {
       phase = cond (eqb k 0) InExpression InBlock;
       tags = s .tags;
       types = s .types % mostTypes + 1;
+      roots = s .roots;
       root = s .root;
       steps = s .steps;
     }
 progressAfter s (Final q) = s
 progressAfter s (Step p j q) =
-    record { phase = s .phase; tags = s .tags; types = s .types; root = s .root; steps = s .steps % mostSteps + 1 }
-progressAfter s (Root a) = record { phase = AfterRoot; tags = s .tags; types = s .types; root = a; steps = s .steps }
-progressAfter s Done = record { phase = AfterDone; tags = s .tags; types = s .types; root = s .root; steps = s .steps }
+    record { phase = s .phase; tags = s .tags; types = s .types; roots = s .roots; root = s .root; steps = s .steps % mostSteps + 1 }
+progressAfter s (Root a) =
+    record {
+      phase = AfterRoot;
+      tags = s .tags;
+      types = s .types;
+      roots = s .roots % mostRoots + 1;
+      root = set (s .root) (s .roots % mostRoots) (a .0);
+      steps = s .steps;
+    }
+progressAfter s Done = record { phase = AfterDone; tags = s .tags; types = s .types; roots = s .roots; root = s .root; steps = s .steps }
 progressAfter s (Expression x) = s
 progressAfter s NoCommand = s
 
 -- the progress after an expression, with so many steps
 abbrev pub progressWith : Progress → ℕ → Progress
-progressWith s n = record { phase = AfterExpression; tags = s .tags; types = s .types; root = s .root; steps = n }
+progressWith s n = record { phase = AfterExpression; tags = s .tags; types = s .types; roots = s .roots; root = s .root; steps = n }
 
--- what is seen of the file: by the progress, and the state count and the accepting states of the block that the file is in, and whether that
--- block has the STEP already
+-- what is seen of the file: by the progress, and the state count and the accepting states of the block that the file is in, and whether the
+-- STEP or the ROOT is given already
 abbrev pub seenBy : Progress → ℕ → StateSet → Bool → Seen
 seenBy s states accepting given =
     record {
       phase = s .phase;
       tags = s .tags;
       types = s .types;
+      roots = s .roots;
       steps = s .steps;
       states = states;
       accepting = accepting;
@@ -77,11 +86,21 @@ givenLast from by to count n p j q = cond (leb n count && leb count mostSteps) (
 abbrev pub givenAlready : List ℕ → List ℕ → List ℕ → ℕ → ℕ → Command → Bool
 givenAlready from by to count n c = onStep (givenLast from by to count n) false c
 
+-- the type a is one of the first n roots of the table, if it is below `mostTypes`
+abbrev pub rootAmong : List ℕ → ℕ → ℕ → Bool
+rootAmong root n a = ltb a mostTypes && hasRoot a (rootsOf root n)
+
+-- the command is a ROOT, and one of them
+abbrev pub rootGiven : Progress → Command → Bool
+rootGiven s c = onRoot (rootAmong (s .root) (s .roots)) false c
+
 -- the number of the first question that the command fails, by the progress and the tables
 abbrev pub failedIn : Progress → List ℕ → List ℕ → List ℕ → List ℕ → List ℕ → List ℕ → Command → ℕ
 failedIn s states accepting counts from by to c =
     let a = lastType (s .types) in
-    failed (seenBy s (getD states a 0) (record { 0 = getD accepting a 0 }) (givenAlready from by to (s .steps) (getD counts a 0) c)) c
+    failed
+    (seenBy s (getD states a 0) (record { 0 = getD accepting a 0 }) (givenAlready from by to (s .steps) (getD counts a 0) c || rootGiven s c))
+    c
 
 -- each table after a command that passed its questions: with so many types, or steps, before it; `i` is its place
 abbrev pub tagAfter : ℕ → List ℕ → Command → List ℕ
@@ -133,6 +152,7 @@ valueOf s tag states accepting counts from by to =
     record {
       tags = s .tags;
       types = s .types;
+      roots = s .roots;
       root = s .root;
       tag = tag;
       states = states;

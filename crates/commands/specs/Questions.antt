@@ -3,7 +3,7 @@ use mathlib.Core.Bool.{Bool, true, false, not, _&&_, _||_}
 use mathlib.Core.List.{List, [], _∷_}
 use Prim.Native.Nat.{ℕ}
 use lib.Dec.{eqb, leb, ltb}
-use Rattle.sdtd.specs.Limits.{mostTags, mostTypes, mostStates, mostSteps}
+use Rattle.sdtd.specs.Limits.{mostTags, mostTypes, mostRoots, mostStates, mostSteps}
 use Rattle.schema.specs.States.{member}
 use Rattle.command.specs.Asked.{firstNo}
 use Rattle.command.specs.Command.{isCommand}
@@ -13,7 +13,7 @@ use Rattle.commands.specs.declared.progress.Phase.{Phase}
 use Rattle.commands.specs.declared.progress.Phase.the-variants.{BeforeTags, BeforeTypes, InBlock, InExpression, AfterExpression, AfterRoot, AfterDone}
 use Rattle.commands.specs.declared.questions.Seen.{Seen}
 
--- Where a file stands, in order: before TAGS, before the first TYPE, in a block by states, in an expression, after its 3F, after ROOT, after
+-- Where a file stands, in order: before TAGS, before the first TYPE, in a block by states, in an expression, after its 3F, after a ROOT, after
 -- DONE.
 abbrev pub rank : Phase → ℕ
 rank BeforeTags = 0
@@ -27,17 +27,18 @@ rank AfterDone = 6
 abbrev pub samePhase : Phase → Phase → Bool
 samePhase p q = eqb (rank p) (rank q)
 
--- What is seen (`Seen`): the phase; the numbers of tags, types and steps so far; of the block that the file is in, its state count, its
--- accepting states as a set, and whether it has the command's STEP already.
+-- What is seen (`Seen`): the phase; the numbers of tags, types, roots and steps so far; of the block that the file is in, its state count and its
+-- accepting states as a set; and whether that block has the command's STEP already, or the file the command's ROOT.
 
 -- "Does it stand in its order?" "TAGS, one or more blocks of a TYPE with FINAL and STEP in any order, ROOT, DONE." "A TYPE with state count 0 is
--- followed by an expression in place of FINAL and STEP." "[..] one of these outside, gets 3."
+-- followed by an expression in place of FINAL and STEP." "[..] one of these outside, gets 3." "ROOT may be given one to eight times": after a ROOT
+-- another may stand.
 abbrev pub inOrder : Seen → Command → Bool
 inOrder s (Tags n) = samePhase (s .phase) BeforeTags
 inOrder s (TypeBlock g k) = samePhase (s .phase) BeforeTypes || (samePhase (s .phase) InBlock || samePhase (s .phase) AfterExpression)
 inOrder s (Final q) = samePhase (s .phase) InBlock
 inOrder s (Step p j q) = samePhase (s .phase) InBlock
-inOrder s (Root a) = samePhase (s .phase) InBlock || samePhase (s .phase) AfterExpression
+inOrder s (Root a) = samePhase (s .phase) AfterRoot || (samePhase (s .phase) InBlock || samePhase (s .phase) AfterExpression)
 inOrder s Done = samePhase (s .phase) AfterRoot
 inOrder s (Expression x) = false
 inOrder s NoCommand = false
@@ -54,24 +55,24 @@ inRange s Done = true
 inRange s (Expression x) = true
 inRange s NoCommand = true
 
--- "Is it within 64 types and 1,024 steps?"
+-- "Is it within 64 types and 1,024 steps?" "a ninth [ROOT] gets 5"
 abbrev pub withinCounts : Seen → Command → Bool
 withinCounts s (Tags n) = true
 withinCounts s (TypeBlock g k) = ltb (s .types) mostTypes
 withinCounts s (Final q) = true
 withinCounts s (Step p j q) = ltb (s .steps) mostSteps
-withinCounts s (Root a) = true
+withinCounts s (Root a) = ltb (s .roots) mostRoots
 withinCounts s Done = true
 withinCounts s (Expression x) = true
 withinCounts s NoCommand = true
 
--- "Is this FINAL or STEP not yet given in its block?"
+-- "Is this FINAL or STEP not yet given in its block?" "[ROOT] each another type; [..] a repeat 6"
 abbrev pub notGiven : Seen → Command → Bool
 notGiven s (Tags n) = true
 notGiven s (TypeBlock g k) = true
 notGiven s (Final q) = not (member q (s .accepting .0))
 notGiven s (Step p j q) = not (s .given)
-notGiven s (Root a) = true
+notGiven s (Root a) = not (s .given)
 notGiven s Done = true
 notGiven s (Expression x) = true
 notGiven s NoCommand = true

@@ -3,20 +3,20 @@ use mathlib.Core.Path.{_≡_}
 use mathlib.Core.List.{List}
 use Prim.Native.Nat.{ℕ, _≤_}
 use lib.ListN.{getD, replicate}
-use Rattle.sdtd.specs.Limits.{mostTypes, mostSteps}
-use Rattle.sdtd.specs.Numbered.{typeNo}
+use Rattle.sdtd.specs.Limits.{mostTypes, mostRoots, mostSteps}
 use Rattle.schema.specs.States.{noStates}
 use Rattle.schema.specs.Value.{offset, meaning}
 use Rattle.schema.specs.declared.value.Schema.{Schema}
 use Rattle.commands.specs.File.{Stated, schemaBy}
 
--- the schema value beside a refusal: no tag, no type
+-- the schema value beside a refusal: no tag, no type, no root
 abbrev pub noSchema : Schema
 noSchema =
     record {
       tags = 0;
       types = 0;
-      root = typeNo 0;
+      roots = 0;
+      root = replicate mostRoots 0;
       tag = replicate mostTypes 0;
       states = replicate mostTypes 0;
       accepting = replicate mostTypes noStates;
@@ -30,8 +30,9 @@ noSchema =
 abbrev pub EmptyFrom : ℕ → List ℕ → Type 0
 EmptyFrom n table = (i : ℕ) → n ≤ i → getD table i 0 ≡ 0
 
--- Past the types and the steps that the value uses, its tables hold 0.
+-- Past the roots, the types and the steps that the value uses, its tables hold 0.
 pub record UnusedEmpty (v : Schema) : Type 0 where
+  pub root : EmptyFrom (v .roots) (v .root)
   pub tag : EmptyFrom (v .types) (v .tag)
   pub states : EmptyFrom (v .types) (v .states)
   pub accepting : EmptyFrom (v .types) (v .accepting)

@@ -19,15 +19,16 @@ use crate::tables::bound_after;
 use crate::tables::earlier;
 use crate::tables::given_already;
 use crate::tables::last_type;
+use crate::tables::root_given;
 use command::Command;
 use command::command_at;
 use command::size_of;
 use expression::read_content;
+use schema::ROOTS;
 use schema::STEPS;
 use schema::Schema;
 use schema::StateSet;
 use schema::TYPES;
-use sdtd::TypeNo;
 use sdtd::Verdict;
 ghost use mathlib.Core.Path.{_≡_};
 ghost use Prim.Native.Nat.{_-_, _≤_};
@@ -43,14 +44,15 @@ pub struct StatedSchema {
     pub schema: Schema,
 }
 
-// The schema value of no schema: no tag, no type.
+// The schema value of no schema: no tag, no type, no root.
 pub fn no_schema() -> Schema
     ensures { λ r. ⌜ r ≡ noSchema ⌝ }
 {
     Schema {
         tags: 0,
         types: 0,
-        root: TypeNo(0),
+        roots: 0,
+        root: [0; ROOTS],
         tag: [0; TYPES],
         states: [0; TYPES],
         accepting: [StateSet::NONE.0; TYPES],
@@ -78,6 +80,7 @@ fn schema_of(
     Schema {
         tags: progress.tags,
         types: progress.types,
+        roots: progress.roots,
         root,
         tag,
         states,
@@ -128,7 +131,8 @@ fn failed_in<'a>(
         (now (from .entry)) (now (by .entry)) (now (to .entry)) command ⌝ }
 {
     let last = last_type(progress.types);
-    let given = given_already(from, by, to, progress.steps, counts[last], command);
+    let step = given_already(from, by, to, progress.steps, counts[last], command);
+    let given = step | root_given(progress, command);
     let seen = seen_of(progress, states[last], StateSet(accepting[last]), given);
     failed_by(seen, command)
 }

@@ -1,19 +1,25 @@
 // How far the file is read: its phase, and what the commands so far count.
 use command::Command;
+use schema::ROOTS;
 use schema::STEPS;
 use schema::TYPES;
 use sdtd::TypeNo;
 ghost use mathlib.Core.Path.{_≡_};
 ghost use mathlib.Core.Bool.{cond};
+ghost use Prim.Native.Nat.{_%_};
 ghost use lib.Dec.{eqb};
+ghost use lib.ListN.{set};
+ghost use Rattle.sdtd.specs.Limits.{mostRoots};
 ghost use Rattle.commands.specs.Questions.{rank, samePhase};
 ghost use Rattle.commands.specs.Progress.{nothingRead, progressAfter, progressWith};
 ghost use Rattle.commands.specs.declared.progress.Phase.the-variants.{InBlock, InExpression, AfterDone};
 
-// the most types, as a byte
+// the most types and the most roots, as bytes
 pub(crate) const TYPE_NUMBERS: u8 = TYPES as u8;
 
-// Where the file stands: before TAGS, before the first TYPE, in a block by states, in an expression, after its 3F, after ROOT, after DONE.
+pub(crate) const MOST_ROOTS: u8 = ROOTS as u8;
+
+// Where the file stands: before TAGS, before the first TYPE, in a block by states, in an expression, after its 3F, after a ROOT, after DONE.
 pub(crate) enum Phase {
     BeforeTags,
     BeforeTypes,
@@ -46,12 +52,13 @@ pub(crate) fn same_phase(phase: Phase, other: Phase) -> bool
     rank_of(phase) == rank_of(other)
 }
 
-// The phase, the counts and the root so far.
+// The phase, the counts and the roots so far.
 pub(crate) struct Progress {
     pub phase: Phase,
     pub tags: u8,
     pub types: u8,
-    pub root: TypeNo,
+    pub roots: u8,
+    pub root: [u8; ROOTS],
     pub steps: usize,
 }
 
@@ -63,7 +70,8 @@ pub(crate) fn nothing_read() -> Progress
         phase: Phase::BeforeTags,
         tags: 0,
         types: 0,
-        root: TypeNo(0),
+        roots: 0,
+        root: [0; ROOTS],
         steps: 0,
     }
 }
@@ -94,6 +102,15 @@ fn phase_of_type(states: u8) -> Phase
     Phase::InBlock
 }
 
+// One root more, behind so many.
+fn with_root(root: [u8; ROOTS], roots: u8, a: TypeNo) -> [u8; ROOTS]
+    ensures { λ r. ⌜ r ≡ set root (roots % mostRoots) (a .0) ⌝ }
+{
+    let mut more = root;
+    more[(roots % MOST_ROOTS) as usize] = a.0;
+    more
+}
+
 // The progress after an expression, with so many steps.
 pub(crate) fn progress_with(progress: Progress, steps: usize) -> Progress
     ensures { λ r. ⌜ r ≡ progressWith progress steps ⌝ }
@@ -103,6 +120,7 @@ pub(crate) fn progress_with(progress: Progress, steps: usize) -> Progress
         phase: Phase::AfterExpression,
         tags: progress.tags,
         types: progress.types,
+        roots: progress.roots,
         root,
         steps,
     }
@@ -119,6 +137,7 @@ pub(crate) fn progress_after(progress: Progress, command: Command) -> Progress
             phase: Phase::BeforeTypes,
             tags: n,
             types: progress.types,
+            roots: progress.roots,
             root,
             steps: progress.steps,
         },
@@ -126,6 +145,7 @@ pub(crate) fn progress_after(progress: Progress, command: Command) -> Progress
             phase: phase_of_type(k),
             tags: progress.tags,
             types: progress.types % TYPE_NUMBERS + 1,
+            roots: progress.roots,
             root,
             steps: progress.steps,
         },
@@ -133,6 +153,7 @@ pub(crate) fn progress_after(progress: Progress, command: Command) -> Progress
             phase,
             tags: progress.tags,
             types: progress.types,
+            roots: progress.roots,
             root,
             steps: progress.steps % STEPS + 1,
         },
@@ -140,13 +161,15 @@ pub(crate) fn progress_after(progress: Progress, command: Command) -> Progress
             phase: Phase::AfterRoot,
             tags: progress.tags,
             types: progress.types,
-            root: a,
+            roots: progress.roots % MOST_ROOTS + 1,
+            root: with_root(root, progress.roots, a),
             steps: progress.steps,
         },
         Command::Done => Progress {
             phase: Phase::AfterDone,
             tags: progress.tags,
             types: progress.types,
+            roots: progress.roots,
             root,
             steps: progress.steps,
         },

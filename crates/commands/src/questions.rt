@@ -1,4 +1,5 @@
 // What each command outside an expression is asked, questions 2 to 6.
+use crate::progress::MOST_ROOTS;
 use crate::progress::Phase;
 use crate::progress::Progress;
 use crate::progress::TYPE_NUMBERS;
@@ -13,12 +14,13 @@ ghost use Rattle.command.specs.Command.{isCommand};
 ghost use Rattle.commands.specs.Questions.{inOrder, inRange, withinCounts, notGiven, failed};
 ghost use Rattle.commands.specs.Progress.{seenBy};
 
-// What is seen of the file where a command is asked: the phase, the numbers of tags, types and steps so far; of the block that the file is
-// in, the state count, the accepting states, and whether it has the command's STEP already.
+// What is seen of the file where a command is asked: the phase, the numbers of tags, types, roots and steps so far; of the block that the file is
+// in, the state count and the accepting states; and whether that block has the command's STEP already, or the file the command's ROOT.
 pub(crate) struct Seen {
     pub phase: Phase,
     pub tags: u8,
     pub types: u8,
+    pub roots: u8,
     pub steps: usize,
     pub states: u8,
     pub accepting: StateSet,
@@ -34,6 +36,7 @@ pub(crate) fn seen_of(progress: Progress, states: u8, accepting: StateSet, given
         phase,
         tags: progress.tags,
         types: progress.types,
+        roots: progress.roots,
         steps: progress.steps,
         states,
         accepting,
@@ -71,7 +74,8 @@ fn in_order(seen: Seen, command: Command) -> bool
         Command::Final(_) => same_phase(phase, Phase::InBlock),
         Command::Step(_, _, _) => same_phase(phase, Phase::InBlock),
         Command::Root(_) => {
-            same_phase(phase, Phase::InBlock) | same_phase(phase, Phase::AfterExpression)
+            same_phase(phase, Phase::AfterRoot)
+                | (same_phase(phase, Phase::InBlock) | same_phase(phase, Phase::AfterExpression))
         }
         Command::Done => same_phase(phase, Phase::AfterRoot),
         Command::Expression(_) => false,
@@ -95,7 +99,7 @@ fn in_range(seen: Seen, command: Command) -> bool
     }
 }
 
-// Is it within the types and steps that a schema may have?
+// Is it within the types, roots and steps that a schema may have?
 fn within_counts(seen: Seen, command: Command) -> bool
     ensures { λ r. ⌜ r ≡ withinCounts seen command ⌝ }
 {
@@ -104,14 +108,14 @@ fn within_counts(seen: Seen, command: Command) -> bool
         Command::TypeBlock(_, _) => seen.types < TYPE_NUMBERS,
         Command::Final(_) => true,
         Command::Step(_, _, _) => seen.steps < STEPS,
-        Command::Root(_) => true,
+        Command::Root(_) => seen.roots < MOST_ROOTS,
         Command::Done => true,
         Command::Expression(_) => true,
         Command::NoCommand => true,
     }
 }
 
-// Is this FINAL or STEP not yet given in its block?
+// Is this FINAL or STEP not yet given in its block, and this ROOT not yet in the file?
 fn not_given(seen: Seen, command: Command) -> bool
     ensures { λ r. ⌜ r ≡ notGiven seen command ⌝ }
 {
@@ -121,7 +125,7 @@ fn not_given(seen: Seen, command: Command) -> bool
         Command::TypeBlock(_, _) => true,
         Command::Final(q) => !accepting.has(q),
         Command::Step(_, _, _) => !seen.given,
-        Command::Root(_) => true,
+        Command::Root(_) => !seen.given,
         Command::Done => true,
         Command::Expression(_) => true,
         Command::NoCommand => true,

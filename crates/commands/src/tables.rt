@@ -1,15 +1,18 @@
 // The tables that the commands fill.
+use crate::progress::Progress;
 use crate::progress::TYPE_NUMBERS;
 use command::Command;
+use schema::ROOTS;
 use schema::STEPS;
 use schema::StateSet;
 use schema::TYPES;
+use schema::root_types;
 use sdtd::TypeNo;
 ghost use mathlib.Core.Path.{_≡_};
 ghost use Prim.Native.Nat.{_+_, _≤_, min, max};
 ghost use Rattle.sdtd.specs.Limits.{mostSteps};
 ghost use Rattle.commands.specs.File.{sameStep};
-ghost use Rattle.commands.specs.Progress.{lastType, givenIn, givenLast, givenAlready};
+ghost use Rattle.commands.specs.Progress.{lastType, givenIn, givenLast, givenAlready, rootAmong, rootGiven};
 ghost use Rattle.commands.specs.Progress.{tagAfter, statesAfter, acceptingAfter, countsAfter};
 ghost use Rattle.commands.specs.Progress.{fromAfter, byAfter, toAfter, placesAfter, boundAfter};
 
@@ -93,6 +96,29 @@ pub(crate) fn given_already<'a>(
 {
     match command {
         Command::Step(p, j, q) => has_last(from, by, to, count, n as usize, p, j, q),
+        _ => false,
+    }
+}
+
+// Is the type one of so many roots?
+fn root_among(root: [u8; ROOTS], roots: u8, a: TypeNo) -> bool
+    ensures { λ r. ⌜ r ≡ rootAmong root roots (a .0) ⌝ }
+{
+    let marked = root_types(root, roots);
+    let i = a.0 as usize;
+    if TYPES <= i {
+        return false;
+    }
+    marked[i]
+}
+
+// Has the file the command's ROOT already?
+pub(crate) fn root_given(progress: Progress, command: Command) -> bool
+    ensures { λ r. ⌜ r ≡ rootGiven progress command ⌝ }
+{
+    let root = progress.root;
+    match command {
+        Command::Root(a) => root_among(root, progress.roots, a),
         _ => false,
     }
 }

@@ -8,11 +8,12 @@ use native.Mathlib.Omega.{arith}
 use lib.ListN.{length}
 use Rattle.sdtd.specs.Limits.{leastWitness}
 use Rattle.sdtd.specs.Schema.{Schema, WithinLimits}
-use Rattle.sdtd.specs.Trim.{RootBears}
-use Rattle.sdtd.specs.Competition.{Competition, Witness}
+use Rattle.sdtd.specs.Trim.{SomeRootBears}
+use Rattle.sdtd.specs.Competition.{Competition, of-roots, in-type, Witness, by-roots, by-types}
 use Rattle.sdtd.specs.Answer.{Ordered}
 use Rattle.sdtd.specs.Numbered.{typeNo}
 use Rattle.sdtd.proofs.Verdicts.{other-number, refused-not-fine}
+use Rattle.sdtd.proofs.Witnesses.{partsOf}
 use Rattle.sdtd.specs.declared.Verdict.the-variants.{Fine, RefusedAt}
 use Rattle.competition.specs.Witness.{headOf}
 use Rattle.competition.specs.Search.{Written, SearchMeans, judgeQuestions, JudgeMeans}
@@ -21,8 +22,8 @@ use Rattle.competition.specs.declared.search.Searched.the-variants.{Shor
 
 -- a witness shows a competition
 pub witness-competes : {S : Schema} {bytes : List ℕ} → Witness S bytes → Competition S
-witness-competes w =
-    record { type = w .type; compete-in = record { word = w .word; first = w .first; second = w .second; compete = w .compete } }
+witness-competes (by-roots w) = of-roots (record { first = w .first; second = w .second; compete = w .compete })
+witness-competes (by-types none w) = in-type (record { word = w .word; first = w .first; second = w .second; compete = w .compete })
 
 pub written-competes : {S : Schema} {was is : List ℕ} → Written S was is → Competition S
 written-competes w = witness-competes (w .witness)
@@ -30,11 +31,17 @@ written-competes w = witness-competes (w .witness)
 -- the head of a witness's bytes, whatever follows them
 pub head-written : {S : Schema} {bytes : List ℕ} (w : Witness S bytes) (rest : List ℕ)
     → headOf (bytes ++ rest)
-    ≡ record { of = typeNo (w .type); first = typeNo (w .first); second = typeNo (w .second); word = length (w .word) }
+    ≡ record {
+      of = typeNo (partsOf w .parent);
+      first = typeNo (partsOf w .first);
+      second = typeNo (partsOf w .second);
+      word = length (partsOf w .word);
+    }
 head-written w rest =
-    let long : length (w .word) % 256 + 256 * (length (w .word) / 256) ≡ length (w .word) = omega arith in
-    ap (λ (l : List ℕ). headOf (l ++ rest)) (w .written)
-    ∙ (λ i. record { of = typeNo (w .type); first = typeNo (w .first); second = typeNo (w .second); word = long i })
+    let p = partsOf w in
+    let long : length (p .word) % 256 + 256 * (length (p .word) / 256) ≡ length (p .word) = omega arith in
+    ap (λ (l : List ℕ). headOf (l ++ rest)) (p .written)
+    ∙ (λ i. record { of = typeNo (p .parent); first = typeNo (p .first); second = typeNo (p .second); word = long i })
 
 module _ (S : Schema) (was : List ℕ) where
   -- a refusal by another number leaves the buffer as it was
@@ -73,10 +80,10 @@ module _ (S : Schema) (was : List ℕ) where
             unchanged = λ d. n .1;
           }
 
-      pub treeless-judged : ¬ RootBears S → JudgeMeans S was was (RefusedAt 8 0)
+      pub treeless-judged : ¬ SomeRootBears S → JudgeMeans S was was (RefusedAt 8 0)
       treeless-judged d = unwritten 8 (λ e. omega arith) (inr (long, inr (within, inl (d, refl))))
 
-      module _ (bears : RootBears S) where
+      module _ (bears : SomeRootBears S) where
         pub competing-judged : {is : List ℕ} → CompetesMeans S was is true → JudgeMeans S was is (RefusedAt 9 0)
         competing-judged w =
             record {

@@ -8,5 +8,6 @@ pub mod Words
 pub mod Compete
 pub mod Shortest
 pub mod SearchMeaning
+pub mod RootLaws
 pub mod Answers
 pub mod OneWitness

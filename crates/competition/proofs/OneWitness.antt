@@ -7,7 +7,7 @@ use lib.ListN.{length, drop}
 use lib.Seq.{drop-at}
 use Rattle.sdtd.specs.Schema.{Schema}
 use Rattle.sdtd.specs.Numbered.{typeNo}
-use Rattle.sdtd.proofs.Witnesses.{same-type, same-length}
+use Rattle.sdtd.proofs.Witnesses.{partsOf, same-parent, same-length}
 use Rattle.competition.specs.Witness.{wordPlace, headOf}
 use Rattle.competition.specs.Search.{Written}
 use Rattle.competition.specs.declared.witness.WitnessHead.{WitnessHead}
@@ -22,10 +22,10 @@ pub record SameTypeAndLength (is₁ is₂ : List ℕ) : Type 0 where
 head-filled : {S : Schema} {was is : List ℕ} (x : Written S was is)
     → headOf is
     ≡ record {
-      of = typeNo (x .witness .type);
-      first = typeNo (x .witness .first);
-      second = typeNo (x .witness .second);
-      word = length (x .witness .word);
+      of = typeNo (partsOf (x .witness) .parent);
+      first = typeNo (partsOf (x .witness) .first);
+      second = typeNo (partsOf (x .witness) .second);
+      word = length (partsOf (x .witness) .word);
     }
 head-filled {was = was} x = ap headOf (x .filled) ∙ head-written (x .witness) (drop (length (x .bytes)) was)
 
@@ -35,7 +35,7 @@ pub rest-filled :
 rest-filled {was = was} {is} x =
     let n = wordPlace + headOf is .word in
     let long : length (x .bytes) ≡ n =
-    omega (arith, ap length (x .witness .written), ap (λ (h : WitnessHead). h .word) (head-filled x)) in
+    omega (arith, ap length (partsOf (x .witness) .written), ap (λ (h : WitnessHead). h .word) (head-filled x)) in
     ap (drop n) (x .filled)
     ∙ drop-at (x .bytes) (drop (length (x .bytes)) was) n long
     ∙ ap (λ (l : ℕ). drop l was) long
@@ -46,6 +46,6 @@ same-written x y =
     let v = x .witness in
     let w = y .witness in
     record {
-      of = ap (λ (h : WitnessHead). h .of) (head-filled x) ∙ ap typeNo (same-type v w) ∙ sym (ap (λ (h : WitnessHead). h .of) (head-filled y));
+      of = ap (λ (h : WitnessHead). h .of) (head-filled x) ∙ ap typeNo (same-parent v w) ∙ sym (ap (λ (h : WitnessHead). h .of) (head-filled y));
       word = ap (λ (h : WitnessHead). h .word) (head-filled x) ∙ same-length v w ∙ sym (ap (λ (h : WitnessHead). h .word) (head-filled y));
     }

@@ -1,4 +1,4 @@
--- What the search of one type after another means for the schema.
+-- What the search of one type after another means for a schema in which no two roots compete.
 use mathlib.Core.Path.{_≡_, refl}
 use mathlib.Core.Logic.{_↔_}
 use mathlib.Core.Bool.{false}
@@ -10,7 +10,7 @@ use lib.Dec.{T}
 use lib.ListN.{length, getD, drop}
 use Rattle.sdtd.specs.Schema.{WithinLimits}
 use Rattle.sdtd.specs.Trim.{Useful}
-use Rattle.sdtd.specs.Competition.{Compete, CompeteIn, Competition, witnessBytes}
+use Rattle.sdtd.specs.Competition.{Compete, CompeteIn, CompeteOutside, Competition, of-roots, in-type, witnessBytes, by-types}
 use Rattle.sdtd.proofs.Basics.{and-parts, and-both}
 use Rattle.schema.specs.Value.{meaning}
 use Rattle.schema.specs.Rows.{RowsMean}
@@ -32,7 +32,7 @@ tablesOf v t = record { reached = t .reached; bears = t .bears; types = v .types
 
 module _
     (v : Schema) (t : Trimming) (entries begins : List ℕ) (within : WithinLimits (meaning v)) (exact : Exact (meaning v) t)
-    (rows : RowsMean (meaning v) entries begins) where
+    (rows : RowsMean (meaning v) entries begins) (apart : ¬ CompeteOutside (meaning v)) where
   -- nothing was found in the type a
   abbrev NoneFound : ℕ → Type 0
   NoneFound a = RestrainedIn entries begins (tablesOf v t) a
@@ -54,11 +54,12 @@ module _
 
   -- the search found nothing in any type
   pub none-compete : ((a : ℕ) → a < v .types → NoneFound a) → ¬ Competition (meaning v)
-  none-compete r k = by-type (decLt (k .type) (v .types))
+  none-compete r (of-roots o) = apart o
+  none-compete r (in-type {a = a} k) = by-type (decLt a (v .types))
     where
-      by-type : Dec (k .type < v .types) → ⊥
-      by-type (yes l) = restrained (k .type) (r (k .type) l) (k .compete-in)
-      by-type (no n) = outside-restrained (omega (arith, types-count v)) (k .compete-in)
+      by-type : Dec (a < v .types) → ⊥
+      by-type (yes l) = restrained a (r a l) k
+      by-type (no n) = outside-restrained (omega (arith, types-count v)) k
 
   -- the smaller and the larger of the two types compete
   smaller-first : {a j k : ℕ} {w : List ℕ} → CompeteEither (meaning v) a w j k → Compete (meaning v) a w (min j k) (max j k)
@@ -75,10 +76,10 @@ module _
           rw (e, f) (c .falling (omega (arith, c .different)))
 
   -- The search found rivals in the type a, and nothing in any smaller type.
-  module _ (a at j k : ℕ) (queue : List ℕ) (in-type : CompetingIn entries begins (tablesOf v t) a queue at j k)
+  module _ (a at j k : ℕ) (queue : List ℕ) (found : CompetingIn entries begins (tablesOf v t) a queue at j k)
       (smaller : (c : ℕ) → c < a → NoneFound c) where
     competing : CompeteEither (meaning v) a (wordTo at queue at) j k
-    competing = trail-competes within rows a (is-useful a .0 (in-type .useful)) (in-type .to-rivals)
+    competing = trail-competes within rows a (is-useful a .0 (found .useful)) (found .to-rivals)
 
     smallest : (c : ℕ) → CompeteIn (meaning v) c → a ≤ c
     smallest c x = by-order (decLt c a)
@@ -96,16 +97,16 @@ module _
         record {
           bytes = witnessBytes a (min j k) (max j k) w;
           witness =
-              record {
+              by-types apart (record {
                 type = a;
                 first = min j k;
                 second = max j k;
                 word = w;
                 compete = smaller-first competing;
                 smallest = smallest;
-                shortest = trail-shortest within rows a (in-type .to-rivals);
+                shortest = trail-shortest within rows a (found .to-rivals);
                 short = competing .short;
                 written = refl;
-              };
+              });
           filled = rw n at e;
         }

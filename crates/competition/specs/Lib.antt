@@ -1,4 +1,4 @@
--- Competition. `Rows`, `Marks`, `Rivals` and `Queue` say what the private loops compute; no public promise cites them.
+-- Competition. `Rows`, `Marks`, `Rivals`, `Queue` and `Roots` say what the private loops compute; no public promise cites them.
 pub mod Questions
 pub mod Search
 pub mod Witness
@@ -6,3 +6,4 @@ pub mod Rows
 pub mod Marks
 pub mod Rivals
 pub mod Queue
+pub mod Roots

@@ -4,7 +4,7 @@ use Prim.Native.Nat.{ℕ, _≤_}
 use lib.ListN.{length}
 use Rattle.sdtd.specs.Limits.{leastWitness}
 use Rattle.sdtd.specs.Schema.{Schema, WithinLimits}
-use Rattle.sdtd.specs.Trim.{RootBears}
+use Rattle.sdtd.specs.Trim.{SomeRootBears}
 use Rattle.sdtd.specs.Competition.{Competition}
 use Rattle.sdtd.specs.Answer.{Question, ask}
 
@@ -16,9 +16,9 @@ bufferAsked refusal buffer = ask refusal (leastWitness ≤ length buffer)
 abbrev pub limitsAsked : {A : Type 0} → A → Schema → Question A
 limitsAsked refusal S = ask refusal (WithinLimits S)
 
--- "Does the root type bear a tree?"
+-- "The root question (8) holds if any root bears a tree."
 abbrev pub rootAsked : {A : Type 0} → A → Schema → Question A
-rootAsked refusal S = ask refusal (RootBears S)
+rootAsked refusal S = ask refusal (SomeRootBears S)
 
 -- "Is there no competition?"
 abbrev pub competitionAsked : {A : Type 0} → A → Schema → Question A

@@ -1,4 +1,4 @@
--- What the two calls about competition answer: document 01, "Competition".
+-- What the two calls about competition answer: document 01, "Competition"; document 02, Req 01 and 04.
 use mathlib.Core.Path.{_≡_}
 use mathlib.Core.List.{List, [], _∷_, _++_}
 use Prim.Native.Nat.{ℕ}
@@ -34,7 +34,7 @@ pub record SearchMeans (S : Schema) (was is : List ℕ) (r : Searched) : Type 0 
   pub written : numberFor r ≡ 9 → Written S was is
   pub unchanged : ¬ (numberFor r ≡ 9) → is ≡ was
 
--- The same, with "Does the root type bear a tree? No: 8" before 9; each refusal has "place 0".
+-- The same, with 8 before 9: "The root question (8) holds if any root bears a tree." Each refusal has "place 0".
 abbrev pub judgeQuestions : Schema → List ℕ → List (Question Verdict)
 judgeQuestions S was =
     bufferAsked (verdictIn (refused-at 1 0)) was

@@ -1,7 +1,8 @@
-// Competition in a schema: the search over pairs of states with its witness, and the verdict on a schema.
+// Competition in a schema, of roots and of types: the search over pairs of states with its witness, and the verdict on a schema.
 mod entries;
 mod marks;
 mod rivals;
+mod roots;
 mod rows;
 mod search;
 mod witness;

@@ -1,11 +1,16 @@
-// The search for competition, type by type, breadth first over unordered pairs of states; and the two calls that answer by it.
+// The search for competition: two roots of one tag; then type by type, breadth first over unordered pairs of states; and the two calls that answer by it.
 use crate::entries::first_of;
 use crate::entries::second_of;
 use crate::marks::search_from;
 use crate::rivals::Rivals;
 use crate::rivals::rivals_at;
+use crate::roots::opening_types;
+use crate::roots::rival_roots;
+use crate::roots::some_marked;
 use crate::rows::row_of;
 use crate::witness::LEAST_WITNESS;
+use crate::witness::NO_PARENT;
+use crate::witness::write_head;
 use crate::witness::write_rivals;
 use pairs::ORDERED_PAIRS;
 use pairs::PAIRS;
@@ -22,11 +27,13 @@ ghost use Prim.Native.Nat.{_<_, _≤_};
 ghost use lib.ListN.{length};
 ghost use Rattle.sdtd.specs.Limits.{mostTypes, leastWitness};
 ghost use Rattle.sdtd.specs.Schema.{WithinLimits};
+ghost use Rattle.sdtd.specs.Competition.{CompeteOutside};
 ghost use Rattle.pairs.specs.Table.{PairTable};
 ghost use Rattle.schema.specs.Trimming.{Exact};
 ghost use Rattle.schema.specs.Value.{meaning};
 ghost use Rattle.schema.specs.Rows.{RowsInside, RowsMean};
 ghost use Rattle.competition.specs.Queue.{PairFoundMeans, SearchedAt, CompetingMeans, CompetesMeans};
+ghost use Rattle.competition.specs.Roots.{OpensExactly, RootsCompeteMeans};
 ghost use Rattle.competition.specs.Search.{SearchMeans, JudgeMeans};
 
 // What the search of a schema answers.
@@ -138,9 +145,22 @@ fn first_competing<'a>(
     Competing::NoneIn
 }
 
-// The search of a schema inside the limits by its trimming and its rows: do two types compete? If so, the smallest type in which two compete,
-// the two and a shortest word after which two compete there go to the witness buffer.
-fn competes<'a>(
+// Do two roots compete, by the table of the tree-bearing ones? If so, the two go to the witness buffer, with no parent and no word.
+fn roots_compete(schema: Schema, opening: &[bool; TYPES], witness: &mut [u8]) -> bool
+    requires { ⌜ WithinLimits (meaning schema) × OpensExactly (meaning schema) (now opening) × (leastWitness ≤ length (now witness)) ⌝ }
+    ensures { λ r. ⌜ RootsCompeteMeans (meaning schema) (now (witness .entry)) (now (witness .exit)) r ⌝ }
+{
+    let rivals = rival_roots(opening, &schema.tag);
+    if let Rivals::Of(j, k) = rivals {
+        write_head(witness, NO_PARENT, j, k, 0);
+        return true;
+    }
+    false
+}
+
+// The search of a schema in which no two roots compete, by its trimming and its rows: do two types compete in a type? If so, the smallest type
+// in which two compete, the two and a shortest word after which two compete there go to the witness buffer.
+fn types_compete<'a>(
     schema: Schema,
     trimming: Trimming,
     entries: &'a [u32; STEPS],
@@ -148,7 +168,7 @@ fn competes<'a>(
     witness: &mut [u8],
 ) -> bool
     requires { ⌜ WithinLimits (meaning schema) × Exact (meaning schema) trimming × RowsMean (meaning schema) (now entries) (now begins)
-        × (leastWitness ≤ length (now witness)) ⌝ }
+        × (¬ CompeteOutside (meaning schema)) × (leastWitness ≤ length (now witness)) ⌝ }
     ensures { λ r. ⌜ CompetesMeans (meaning schema) (now (witness .entry)) (now (witness .exit)) r ⌝ }
 {
     let reached = trimming.reached;
@@ -168,6 +188,25 @@ fn competes<'a>(
     false
 }
 
+// The search of a schema inside the limits by its trimming, its tree-bearing roots and its rows. Roots are looked at before all else.
+fn competes<'a>(
+    schema: Schema,
+    trimming: Trimming,
+    opening: &[bool; TYPES],
+    entries: &'a [u32; STEPS],
+    begins: &'a [u16; BEGINS],
+    witness: &mut [u8],
+) -> bool
+    requires { ⌜ WithinLimits (meaning schema) × Exact (meaning schema) trimming × OpensExactly (meaning schema) (now opening)
+        × RowsMean (meaning schema) (now entries) (now begins) × (leastWitness ≤ length (now witness)) ⌝ }
+    ensures { λ r. ⌜ CompetesMeans (meaning schema) (now (witness .entry)) (now (witness .exit)) r ⌝ }
+{
+    if roots_compete(schema, opening, witness) {
+        return true;
+    }
+    types_compete(schema, trimming, entries, begins, witness)
+}
+
 // Is there a competition?
 pub fn competition(schema: Schema, witness: &mut [u8]) -> Searched
     ensures { λ r. ⌜ SearchMeans (meaning schema) (now (witness .entry)) (now (witness .exit)) r ⌝ }
@@ -181,13 +220,14 @@ pub fn competition(schema: Schema, witness: &mut [u8]) -> Searched
     if !trimming.inside {
         return Searched::OutsideLimits;
     }
-    if competes(schema, trimming, &entries, &begins, witness) {
+    let opening = opening_types(schema, trimming);
+    if competes(schema, trimming, &opening, &entries, &begins, witness) {
         return Searched::Competes;
     }
     Searched::Restrained
 }
 
-// The verdict on a schema: does the root type bear a tree, and is there no competition?
+// The verdict on a schema: does a root type bear a tree, and is there no competition?
 pub fn judge(schema: Schema, witness: &mut [u8]) -> Verdict
     ensures { λ r. ⌜ JudgeMeans (meaning schema) (now (witness .entry)) (now (witness .exit)) r ⌝ }
 {
@@ -200,11 +240,11 @@ pub fn judge(schema: Schema, witness: &mut [u8]) -> Verdict
     if !trimming.inside {
         return Verdict::RefusedAt(10, 0);
     }
-    let root = schema.root.0 as usize;
-    if !trimming.bears[root] {
+    let opening = opening_types(schema, trimming);
+    if !some_marked(&opening) {
         return Verdict::RefusedAt(8, 0);
     }
-    if competes(schema, trimming, &entries, &begins, witness) {
+    if competes(schema, trimming, &opening, &entries, &begins, witness) {
         return Verdict::RefusedAt(9, 0);
     }
     Verdict::Fine

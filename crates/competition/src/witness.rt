@@ -15,6 +15,9 @@ ghost use Rattle.competition.specs.Witness.{wordPlace, headOf};
 // "then w, one byte a type, from byte 5 on"
 pub const WORD_PLACE: usize = 5;
 
+// "the witness has 255 for A and n = 0": what stands for A where two roots compete, which is no type's number
+pub(crate) const NO_PARENT: TypeNo = TypeNo(255);
+
 // "Has the witness buffer at least 532 bytes?": the bytes before the word, and the longest word.
 pub const LEAST_WITNESS: usize = WORD_PLACE + PAIRS - 1;
 
@@ -56,7 +59,7 @@ fn fill_word(out: &mut [u8], queue: &[u32; PAIRS], at: usize, n: usize)
 }
 
 // The bytes before the word.
-fn write_head(witness: &mut [u8], a: TypeNo, j: TypeNo, k: TypeNo, n: usize)
+pub(crate) fn write_head(witness: &mut [u8], a: TypeNo, j: TypeNo, k: TypeNo, n: usize)
     requires { ⌜ (wordPlace ≤ length (now witness)) × (n ≤ mostWord) ⌝ }
     ensures { λ _. ⌜ now (witness .exit) ≡ a .0 ∷ j .0 ∷ k .0 ∷ n % 256 ∷ n / 256 ∷ drop wordPlace (now (witness .entry)) ⌝ }
 {
@@ -107,7 +110,7 @@ pub(crate) fn write_rivals(
     }
 }
 
-// What stands before the word: the type in which two compete, the two, and how many types the word has.
+// What stands before the word: the type in which two compete, or `NO_PARENT`, the two, and how many types the word has.
 pub struct WitnessHead {
     pub of: TypeNo,
     pub first: TypeNo,

@@ -166,6 +166,7 @@ fn own(schema: Schema) -> Schema
     Schema {
         tags: schema.tags,
         types: schema.types,
+        roots: schema.roots,
         root,
         tag,
         states,

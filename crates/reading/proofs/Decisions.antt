@@ -1,7 +1,7 @@
 -- Each question of a call is decided by a test, for any schema and any reading.
 use mathlib.Core.Path.{_≡_, refl, sym, subst}
 use mathlib.Core.Logic.{_↔_}
-use mathlib.Core.List.{List, _∷_, map, List·Memᴰ·head, List·Memᴰ·tail, Memᴰ·cast, Memᴰ·map}
+use mathlib.Core.List.{List, map, _++_, Memᴰ·cast, Memᴰ·map, Memᴰ·append-left, Memᴰ·append-right}
 use Prim.Native.Nat.{ℕ}
 use native.Mathlib.Decide.{decLt}
 use native.Mathlib.Omega.{arith}
@@ -11,7 +11,7 @@ use Rattle.sdtd.specs.Limits.{mostLevels}
 use Rattle.sdtd.specs.Schema.{Step, Schema, blockOf, tagOf}
 use Rattle.sdtd.specs.Trim.{Live}
 use Rattle.sdtd.proofs.Tests.{means-iff, Decision, decision, itself, eq-means, lt-means, le-means, true-means, false-means}
-use Rattle.sdtd.proofs.Tests.{and-means, if-means, below-decided, Found, any-means}
+use Rattle.sdtd.proofs.Tests.{and-means, if-means, below-decided, Found, any-means, memb-means}
 use Rattle.sdtd.proofs.Within.{limits-means}
 use Rattle.sdtd.proofs.LiveStates.{live-table}
 use Rattle.schema.specs.States.{member, noStates}
@@ -87,7 +87,7 @@ module _ (S : Schema) (r : Reading) where
   open-decided g j =
       let leads = means-iff (any-means (λ s. leads-decided j (s .to) .1) (blockOf S (innerType r) .steps)) (some-lead j) in
       let inside = if-means (lt-means 0 (r .depth)) leads in
-      let outside = if-means (eq-means (r .depth) 0) (and-means (eq-means j (S .root)) (false-means (r .rooted))) in
+      let outside = if-means (eq-means (r .depth) 0) (and-means (memb-means j (S .roots)) (false-means (r .rooted))) in
       let own = and-means (live-table S .1 .bears j) (eq-means (tagOf S j) g) in
       decision
       (means-iff (and-means own (and-means inside outside)) (
@@ -95,9 +95,12 @@ module _ (S : Schema) (r : Reading) where
         λ p. record { bears = p .0 .0; tag = p .0 .1; some-open = p .1 .0; none-open = p .1 .1 },
       ))
 
-  -- a type that can be opened is the root type or stands on a step of the innermost block
+  -- a type that can be opened is a root type or stands on a step of the innermost block
+  abbrev onSteps : List ℕ
+  onSteps = map (λ (s : Step). s .by) (blockOf S (innerType r) .steps)
+
   abbrev candidates : List ℕ
-  candidates = S .root ∷ map (λ (s : Step). s .by) (blockOf S (innerType r) .steps)
+  candidates = S .roots ++ onSteps
 
   candidate : (g : ℕ) → ((j : ℕ) × CanOpen S r g j) ↔ Found (CanOpen S r g) candidates
   candidate g = (
@@ -105,8 +108,8 @@ module _ (S : Schema) (r : Reading) where
         record {
           member = p .0;
           given = elim (decLt 0 (r .depth)) [
-            | yes l ↦ List·Memᴰ·tail (Memᴰ·map (λ (s : Step). s .by) (p .1 .some-open l .1 .step))
-            | no l ↦ List·Memᴰ·head (p .1 .none-open (omega arith) .0)
+            | yes l ↦ Memᴰ·append-right (S .roots) (Memᴰ·map (λ (s : Step). s .by) (p .1 .some-open l .1 .step))
+            | no l ↦ Memᴰ·append-left onSteps (p .1 .none-open (omega arith) .0)
           ];
           holds = p .1;
         },

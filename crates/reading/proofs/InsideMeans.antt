@@ -155,7 +155,7 @@ module _ {v : Schema} {r : Reading} (fits : Fits v) (within : Within (meaning v)
 
   -- a step of the innermost element's type, and its place
   step-place : (x : Step)
-      → List·Memᴰ x (blockOf (meaning v) (innerType r) .steps) ↔ AtPlace (v .from) (v .by) (v .to) (start v r) (count v r) x
+      → List·Memᴰ x (blockOf (meaning v) (innerType r) .steps) ↔ AtPlace (stepAt (v .from) (v .by) (v .to)) (start v r) (count v r) x
   step-place x =
       rw (own-steps fits (within .schema) (innerType r) (inner-below v r within inside))
       (steps-mem (v .from) (v .by) (v .to) (start v r) (count v r) x)

@@ -1,13 +1,14 @@
--- With no element open: what opens under a tag is what a call may open. And the heads, a type at a time.
-use mathlib.Core.Path.{_≡_, refl, sym, subst, ap, _∙_}
+-- With no element open: what opens under a tag is what a call may open. And the heads, a type at a time and then a root at a time.
+use mathlib.Core.Path.{_≡_, refl, sym, ap, _∙_}
 use mathlib.Core.Bool.{Bool, true, false, cond}
 use mathlib.Core.Logic.{_↔_, _≢_}
-use mathlib.Core.List.{List, List·Memᴰ·not-nil}
-use Prim.Native.Nat.{ℕ, suc, _+_, _-_, _*_, _%_, _≤_, _<_}
+use mathlib.Core.List.{List}
+use Prim.Native.Nat.{ℕ, zero, suc, _+_, _-_, _*_, _%_, _≤_, _<_}
 use native.Mathlib.Nat.{mod-eq-of-lt}
 use native.Mathlib.Decide.{decLt, ℕ-discrete}
+use native.Mathlib.Numerals.{add-one}
 use native.Mathlib.Omega.{arith}
-use borrow.Author.Tests.{ne-eqb}
+use borrow.Author.Tests.{ne-eqb, lt-ltb, le-ltb}
 use lib.Dec.{T, eqb}
 use lib.ListN.{length, getD, set, replicate, length-set}
 use lib.Seq.{getD-set-same, getD-set-other}
@@ -19,18 +20,17 @@ use Rattle.sdtd.specs.Schema.{WithinLimits}
 use Rattle.sdtd.specs.Tree.{IsRoot}
 use Rattle.sdtd.specs.Trim.{Bears}
 use Rattle.sdtd.proofs.Basics.{not-both}
-use Rattle.sdtd.proofs.Fixpoint.{bears-live}
-use Rattle.schema.specs.States.{noStates}
+use Rattle.schema.specs.States.{noStates, bearsIn}
 use Rattle.schema.specs.Value.{meaning}
+use Rattle.schema.specs.Trimming.{BearsExactly}
 use Rattle.schema.specs.declared.value.Schema.{Schema}
-use Rattle.schema.proofs.Values.{no-block-of, tag-of}
+use Rattle.schema.proofs.Values.{same-everywhere, types-count, tag-of}
+use Rattle.schema.proofs.RootLaws.{AtRoot, roots-mem, roots-count, root-in}
 use Rattle.schema.proofs.LimitLaws.{within-room}
-use Rattle.schema.proofs.FirstTables.{same-everywhere}
 use Rattle.reading.specs.declared.value.Reading.{Reading}
-use Rattle.reading.specs.declared.coming.Coming.{Coming}
 use Rattle.reading.specs.declared.coming.Coming.the-variants.{Nothing, OfType}
 use Rattle.reading.specs.Questions.{CanOpen}
-use Rattle.reading.specs.Heads.{headTag, headAccepting, headRoot, setHead, opensUnder, addRoot}
+use Rattle.reading.specs.Heads.{headTag, headAccepting, headRoot, setHead, opensUnder, withRoot, addRoot, addRoots, RootsFit}
 use Rattle.reading.specs.Steps.{comingFirst}
 use Rattle.reading.specs.Heads.{RootOf, OpensMeans, HeadsMean}
 use Rattle.reading.proofs.LevelLaws.{tag-below}
@@ -64,23 +64,18 @@ module _ (S : Meaning) (r : Reading) (outside : r .depth ≡ 0) (g : ℕ) where
       by-rooted true e = λ j o. not-both e (o .none-open outside .1)
       by-rooted false e = unrooted e (eqb (getD heads (headRoot g) 0) 0) (typeNo ((getD heads (headRoot g) 0 - 1) % mostTypes)) m
 
--- the same of the types below n alone
-abbrev RootsBelow : Meaning → ℕ → ℕ → Coming → Type 0
-RootsBelow S n g Nothing = (j : ℕ) → j < n → ¬ RootOf S g j
-RootsBelow S n g (OfType j kept) = RootOf S g (j .0) × ((k : ℕ) → RootOf S g k → j .0 ≤ k)
+-- the number under the tag g means the smallest of the first i roots of the table that have the tag and bear a tree, or that there is none
+abbrev FirstMeans : Schema → ℕ → ℕ → ℕ → Type 0
+FirstMeans v i g zero = (j : ℕ) → AtRoot (v .root) i j → ¬ RootOf (meaning v) g j
+FirstMeans v i g (suc a) =
+    (a < mostTypes) × RootOf (meaning v) g a × ((k : ℕ) → AtRoot (v .root) i k → RootOf (meaning v) g k → a ≤ k)
 
--- the heads, with the numbers of the types below n, and with what opens by the types below m
-pub record HeadsBelow (v : Schema) (n m : ℕ) (heads : List ℕ) : Type 0 where
+-- the heads, with the numbers of the types below n, and with what opens by the first i roots
+pub record HeadsBelow (v : Schema) (n i : ℕ) (heads : List ℕ) : Type 0 where
   pub long : length heads ≡ 2 * mostTypes + mostTags
   pub tag : (a : ℕ) → a < n → getD heads (headTag a) 0 ≡ getD (v .tag) a 0
   pub accepting : (a : ℕ) → a < n → getD heads (headAccepting a) 0 ≡ getD (v .accepting) a 0
-  pub opens : (g : ℕ) → g < mostTags → RootsBelow (meaning v) m g (opensUnder heads g)
-
--- one type more, which opens nothing under the tag
-one-more : (S : Meaning) (n g : ℕ) (c : Coming) → ¬ RootOf S g n → RootsBelow S n g c → RootsBelow S (suc n) g c
-one-more S n g Nothing not w =
-    λ j l. elim (ℕ-discrete j n) [ yes e ↦ λ o. not (subst (RootOf S g) e o) | no d ↦ w j (omega arith) ]
-one-more S n g (OfType j kept) not w = w
+  pub opens : (g : ℕ) → g < mostTags → FirstMeans v i g (getD heads (headRoot g) 0)
 
 pub heads-none : (v : Schema) → HeadsBelow v 0 0 (replicate (2 * mostTypes + mostTags) 0)
 heads-none v =
@@ -88,33 +83,23 @@ heads-none v =
       long = refl;
       tag = λ a l. absurd (omega arith);
       accepting = λ a l. absurd (omega arith);
-      opens = λ g l. rw (same-everywhere {A = ℕ} 0 (2 * mostTypes + mostTags) (headRoot g)) (λ j h. absurd (omega arith));
+      opens =
+          λ g l.
+          rw (same-everywhere {A = ℕ} 0 (2 * mostTypes + mostTags) (headRoot g)) (λ j p. absurd (omega (arith, p .most)));
     }
 
--- a type that bears a tree is one of the schema's
-bears-type : (v : Schema) (j : ℕ) → Bears (meaning v) j → j < v .types
-bears-type v j b =
-    elim (decLt j (v .types)) [
-      | yes l ↦ l
-      | no n ↦ absurd (List·Memᴰ·not-nil (rw (no-block-of v j (omega arith)) at (bears-live .0 b .accepts .accepting)))
-    ]
-
+-- the type a, with its numbers
 module _ (v : Schema) (within : WithinLimits (meaning v)) (a : ℕ) (type : a < v .types) (heads : List ℕ) where
   most : a < mostTypes
   most = omega (arith, type, within-room v within .types)
 
-  -- the tag of the type a, and what its numbers make of the heads
   abbrev g : ℕ
   g = getD (v .tag) a 0
-
-  g-most : g < mostTags
-  g-most = tag-below v within a type
 
   abbrev laid : List ℕ
   laid = setHead heads a g (getD (v .accepting) a 0)
 
-  -- with its numbers
-  pub heads-laid : HeadsBelow v a a heads → HeadsBelow v (suc a) a laid
+  pub heads-laid : {i : ℕ} → HeadsBelow v a i heads → HeadsBelow v (suc a) i laid
   heads-laid w =
       record {
         long = head-long heads a g (getD (v .accepting) a 0) ∙ w .long;
@@ -136,88 +121,136 @@ module _ (v : Schema) (within : WithinLimits (meaning v)) (a : ℕ) (type : a < 
             (w .opens h l);
       }
 
-  -- the heads with the type a under its tag
-  abbrev added : List ℕ
-  added = set heads (headRoot g) (a + 1)
+-- the first roots of a schema inside the limits are types
+pub root-type : (v : Schema) → WithinLimits (meaning v) → (i : ℕ) → i < v .roots → getD (v .root) i 0 < v .types
+unfolding meaning
+root-type v within i l = rw types-count at (within .roots (getD (v .root) i 0) (root-in (v .root) (v .roots) i l))
 
-  module _ (w : HeadsBelow v (suc a) a heads) where
-    there : getD added (headRoot g) 0 ≡ a + 1
-    there = getD-set-same heads (headRoot g) (a + 1) 0 (omega (arith, g-most, w .long))
+pub roots-fit : (v : Schema) → WithinLimits (meaning v) → RootsFit (v .root) (v .roots) (v .tag)
+unfolding meaning
+roots-fit v within =
+    record {
+      count = omega (arith, roots-count (v .root) (v .roots), within .roots-most);
+      type = λ i l. omega (arith, root-type v within i l, within-room v within .types);
+      tag-below = λ i l. tag-below v within (getD (v .root) i 0) (root-type v within i l);
+    }
 
-    under : opensUnder added g ≡ OfType (typeNo a) noStates
-    under =
-        let type-is : (a + 1 - 1) % mostTypes ≡ a = omega (arith, most) in
-        rw (there, ne-eqb (a + 1) 0 (λ e. omega arith), type-is)
+-- The root at the place i of the table.
+module _ (v : Schema) (within : WithinLimits (meaning v)) (i : ℕ) (root : i < v .roots) where
+  abbrev a : ℕ
+  a = getD (v .root) i 0
+
+  abbrev h : ℕ
+  h = getD (v .tag) a 0
+
+  a-type : a < v .types
+  a-type = root-type v within i root
+
+  a-most : a < mostTypes
+  a-most = roots-fit v within .type i root
+
+  a-root : IsRoot (meaning v) a
+  unfolding meaning
+  a-root = root-in (v .root) (v .roots) i root
+
+  -- what holds of each root before it, and of it, holds of each of one more
+  each-next : (P : ℕ → Type 0) → ((k : ℕ) → AtRoot (v .root) i k → P k) → P a → (k : ℕ) → AtRoot (v .root) (suc i) k → P k
+  each-next P before there k p =
+      elim (decLt (p .place) i) [
+        | yes l ↦ before k (record { place = p .place; least = omega arith; most = omega arith; is = p .is })
+        | no l ↦
+            let e : p .place ≡ i = omega (arith, p .most) in
+            let f : k ≡ a = rw e at (p .is) in
+            rw f there
+      ]
+
+  -- it does not open under the tag g
+  one-more : (g n : ℕ) → ¬ RootOf (meaning v) g a → FirstMeans v i g n → FirstMeans v (suc i) g n
+  one-more g zero not w = each-next (λ j. ¬ RootOf (meaning v) g j) w not
+  one-more g (suc b) not w = (w .0, w .1, each-next (λ k. RootOf (meaning v) g k → b ≤ k) (w .2) (λ o. absurd (not o)))
+
+  -- it may open under its own
+  module _ (o : RootOf (meaning v) h a) where
+    here : ((k : ℕ) → AtRoot (v .root) i k → RootOf (meaning v) h k → a ≤ k) → FirstMeans v (suc i) h (a + 1)
+    here before = rw add-one (a-most, o, each-next (λ k. RootOf (meaning v) h k → a ≤ k) before (λ p. omega arith))
+
+    with-root : (n : ℕ) → FirstMeans v i h n → FirstMeans v (suc i) h (withRoot n a)
+    unfolding withRoot
+    with-root zero w = here (λ k p r. absurd (w k p r))
+    with-root (suc b) w =
+        elim (decLt (a + 1) (suc b)) [
+          | yes l ↦ rw (ne-eqb (suc b) 0 (λ e. omega arith), lt-ltb (a + 1) (suc b) l) (here (λ k p r. omega (arith, w .2 k p r)))
+          | no l ↦
+              rw (ne-eqb (suc b) 0 (λ e. omega arith), le-ltb (a + 1) (suc b) (omega arith))
+              (w .0, w .1, each-next (λ k. RootOf (meaning v) h k → b ≤ k) (w .2) (λ r. omega arith))
+        ]
+
+  module _ {n : ℕ} {heads : List ℕ} (w : HeadsBelow v n i heads) (n-most : n ≤ mostTypes) where
+    abbrev put : ℕ
+    put = withRoot (getD heads (headRoot h) 0) a
+
+    abbrev added : List ℕ
+    added = set heads (headRoot h) put
 
     -- at other places it says the same
-    elsewhere : (n : ℕ) → n ≢ headRoot g → getD added n 0 ≡ getD heads n 0
-    elsewhere n d = getD-set-other heads (headRoot g) n (a + 1) 0 d
+    elsewhere : (m : ℕ) → m ≢ headRoot h → getD added m 0 ≡ getD heads m 0
+    elsewhere m d = getD-set-other heads (headRoot h) m put 0 d
 
-    not-other : (h : ℕ) → h ≢ g → ¬ RootOf (meaning v) h a
-    not-other h n o = n (sym (o .tag) ∙ tag-of v a type)
+    not-other : (g : ℕ) → g ≢ h → ¬ RootOf (meaning v) g a
+    not-other g d o = d (sym (o .tag) ∙ tag-of v a a-type)
 
-    -- a root that bears a tree, under whose tag nothing opens yet, or something does
-    first : RootOf (meaning v) g a → eqb (getD heads (headRoot g) 0) 0 ≡ true → (h : ℕ) → h < mostTags
-        → RootsBelow (meaning v) (suc a) h (opensUnder added h)
-    first o e h l =
-        elim (ℕ-discrete h g) [
-          | yes p ↦
-              let none : (j : ℕ) → j < a → ¬ RootOf (meaning v) g j = rw e at (w .opens g g-most) in
-              rw p (subst (RootsBelow (meaning v) (suc a) g) (sym under) (o, λ k r. smallest none k r))
-          | no n ↦
-              rw (elsewhere (headRoot h) (λ q. n (omega arith)))
-              (one-more (meaning v) a h (opensUnder heads h) (not-other h n) (w .opens h l))
-        ]
-      where
-        smallest : ((j : ℕ) → j < a → ¬ RootOf (meaning v) g j) → (k : ℕ) → RootOf (meaning v) g k → a ≤ k
-        smallest none k r =
-            let n : ¬ (k < a) = λ l. none k l r in
-            omega arith
-
-    later : eqb (getD heads (headRoot g) 0) 0 ≡ false → (h : ℕ) → h < mostTags
-        → RootsBelow (meaning v) (suc a) h (opensUnder heads h)
-    later e h l =
-        elim (ℕ-discrete h g) [
-          | yes p ↦ rw (p, e) (rw e at (w .opens g g-most))
-          | no n ↦ one-more (meaning v) a h (opensUnder heads h) (not-other h n) (w .opens h l)
+    opens-now : RootOf (meaning v) h a → (g : ℕ) → g < mostTags → FirstMeans v (suc i) g (getD added (headRoot g) 0)
+    opens-now o g l =
+        elim (ℕ-discrete g h) [
+          | yes e ↦
+              let there : getD added (headRoot h) 0 ≡ put = getD-set-same heads (headRoot h) put 0 (omega (arith, w .long, l)) in
+              rw (e, there) (with-root o (getD heads (headRoot h) 0) (rw e at (w .opens g l)))
+          | no d ↦
+              rw (elsewhere (headRoot g) (λ q. d (omega arith)))
+              (one-more g (getD heads (headRoot g) 0) (not-other g d) (w .opens g l))
         ]
 
-    -- what opens is told of one type more
-    same : ((h : ℕ) → h < mostTags → RootsBelow (meaning v) (suc a) h (opensUnder heads h)) → HeadsBelow v (suc a) (suc a) heads
-    same says = record { long = w .long; tag = w .tag; accepting = w .accepting; opens = says }
-
-    more : ((h : ℕ) → h < mostTags → RootsBelow (meaning v) (suc a) h (opensUnder added h)) → HeadsBelow v (suc a) (suc a) added
-    more says =
-        record {
-          long = length-set heads (headRoot g) (a + 1) ∙ w .long;
-          tag = λ b l. elsewhere (headTag b) (λ e. omega (arith, most)) ∙ w .tag b l;
-          accepting = λ b l. elsewhere (headAccepting b) (λ e. omega (arith, most)) ∙ w .accepting b l;
-          opens = says;
-        }
-
-    -- with the type a, if it is a root that bears a tree
-    pub heads-more : (b : Bool) → (T b ↔ (IsRoot (meaning v) a × Bears (meaning v) a)) → HeadsBelow v (suc a) (suc a) (addRoot heads g a b)
+    pub root-added : (bears : List ℕ) → BearsExactly (meaning v) bears → HeadsBelow v n (suc i) (addRoot heads (v .tag) bears a)
     unfolding addRoot
-    heads-more false tells =
-        same (λ h l. one-more (meaning v) a h (opensUnder heads h) (λ o. tells .1 (o .root, o .bears)) (w .opens h l))
-    heads-more true tells =
-        let o : RootOf (meaning v) g a = record { root = tells .0 tt .0; bears = tells .0 tt .1; tag = tag-of v a type } in
-        by-number o (eqb (getD heads (headRoot g) 0) 0) refl
+    root-added bears table = by (bearsIn bears a) (table a)
       where
-        by-number : RootOf (meaning v) g a → (b : Bool) → eqb (getD heads (headRoot g) 0) 0 ≡ b
-            → HeadsBelow v (suc a) (suc a) (cond b added heads)
-        by-number o true e = more (first o e)
-        by-number o false e = same (later e)
+        by : (b : Bool) → (T b ↔ Bears (meaning v) a) → HeadsBelow v n (suc i) (cond b added heads)
+        by false tells =
+            record {
+              long = w .long;
+              tag = w .tag;
+              accepting = w .accepting;
+              opens = λ g l. one-more g (getD heads (headRoot g) 0) (λ o. tells .1 (o .bears)) (w .opens g l);
+            }
+        by true tells =
+            record {
+              long = length-set heads (headRoot h) put ∙ w .long;
+              tag = λ b l. elsewhere (headTag b) (λ e. omega (arith, n-most)) ∙ w .tag b l;
+              accepting = λ b l. elsewhere (headAccepting b) (λ e. omega (arith, n-most)) ∙ w .accepting b l;
+              opens = opens-now (record { root = a-root; bears = tells .0 tt; tag = tag-of v a a-type });
+            }
 
--- by all types
-pub heads-all : (v : Schema) → WithinLimits (meaning v) → (heads : List ℕ) → HeadsBelow v (v .types) (v .types) heads → HeadsMean v heads
+-- a root after another
+module _ (v : Schema) (within : WithinLimits (meaning v)) (bears : List ℕ) (table : BearsExactly (meaning v) bears) {n : ℕ} (n-most : n ≤ mostTypes)
+    {heads : List ℕ} (w : HeadsBelow v n 0 heads) where
+  pub heads-rooted : (i : ℕ) → i ≤ v .roots → HeadsBelow v n i (addRoots heads (v .tag) bears (v .root) i)
+  unfolding addRoots
+  heads-rooted zero l = w
+  heads-rooted (suc i) l = root-added v within i (omega arith) (heads-rooted i (omega arith)) n-most bears table
+
+-- by all types and all roots
+pub heads-all : (v : Schema) → WithinLimits (meaning v) → (heads : List ℕ) → HeadsBelow v (v .types) (v .roots) heads → HeadsMean v heads
+unfolding meaning
 heads-all v within heads w =
     record {
       tag = λ a l. ap (λ (n : ℕ). n % mostTags) (w .tag a l) ∙ mod-eq-of-lt (tag-below v within a l);
       accepting = w .accepting;
-      opens = λ g l. all g (opensUnder heads g) (w .opens g l);
+      opens = λ g l. all g (getD heads (headRoot g) 0) (w .opens g l);
     }
   where
-    all : (g : ℕ) (c : Coming) → RootsBelow (meaning v) (v .types) g c → OpensMeans (meaning v) g c
-    all g Nothing m = λ j o. m j (bears-type v j (o .bears)) o
-    all g (OfType j kept) m = m
+    all : (g n : ℕ) → FirstMeans v (v .roots) g n
+        → OpensMeans (meaning v) g (cond (eqb n 0) Nothing (OfType (typeNo ((n - 1) % mostTypes)) noStates))
+    all g zero m = λ j o. m j (roots-mem (v .root) (v .roots) j .0 (o .root)) o
+    all g (suc a) m =
+        let type-is : (suc a - 1) % mostTypes ≡ a = omega (arith, m .0) in
+        rw (ne-eqb (suc a) 0 (λ e. omega arith), type-is) (m .1, λ k o. m .2 k (roots-mem (v .root) (v .roots) k .0 (o .root)) o)

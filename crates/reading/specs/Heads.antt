@@ -1,17 +1,17 @@
 -- The table of heads, which the private steps look at: where each number stands, what is read there, and what it means.
 use mathlib.Core.Path.{_≡_}
-use mathlib.Core.Bool.{Bool, cond, _&&_}
+use mathlib.Core.Bool.{cond}
 use mathlib.Core.List.{List}
-use Prim.Native.Nat.{ℕ, _+_, _-_, _*_, _%_, _≤_, _<_}
-use lib.Dec.{eqb}
+use Prim.Native.Nat.{ℕ, zero, suc, _+_, _-_, _*_, _%_, _≤_, _<_}
+use lib.Dec.{eqb, ltb}
 use lib.ListN.{getD, set}
-use Rattle.sdtd.specs.Limits.{mostTags, mostTypes}
+use Rattle.sdtd.specs.Limits.{mostTags, mostTypes, mostRoots}
 use Rattle.sdtd.specs.Numbered.{typeNo}
 use Rattle.sdtd.specs.Schema.{Schema as Meaning}
 use Rattle.sdtd.specs.Schema.{tagOf}
 use Rattle.sdtd.specs.Tree.{IsRoot}
 use Rattle.sdtd.specs.Trim.{Bears}
-use Rattle.schema.specs.States.{noStates}
+use Rattle.schema.specs.States.{noStates, bearsIn}
 use Rattle.schema.specs.Value.{meaning}
 use Rattle.schema.specs.declared.value.Schema.{Schema}
 use Rattle.reading.specs.declared.coming.Coming.{Coming}
@@ -44,9 +44,25 @@ abbrev pub opensUnder : List ℕ → ℕ → Coming
 opensUnder heads g =
     cond (eqb (getD heads (headRoot g) 0) 0) Nothing (OfType (typeNo ((getD heads (headRoot g) 0 - 1) % mostTypes)) noStates)
 
--- the type a opens under the tag g, if it may and nothing does yet
-unfoldable pub addRoot : List ℕ → ℕ → ℕ → Bool → List ℕ
-addRoot heads g a may = cond (may && eqb (getD heads (headRoot g) 0) 0) (set heads (headRoot g) (a + 1)) heads
+-- what stands under a tag once the root type a is seen: the smaller one, if there is one already
+unfoldable pub withRoot : ℕ → ℕ → ℕ
+withRoot n a = cond (eqb n 0) (a + 1) (cond (ltb (a + 1) n) (a + 1) n)
+
+-- the root type a opens under its tag, if it bears a tree and no smaller one does
+unfoldable pub addRoot : List ℕ → List ℕ → List ℕ → ℕ → List ℕ
+addRoot heads tag bears a =
+    cond (bearsIn bears a) (set heads (headRoot (getD tag a 0)) (withRoot (getD heads (headRoot (getD tag a 0)) 0) a)) heads
+
+-- so do the first n types of the table of roots
+unfoldable pub addRoots : List ℕ → List ℕ → List ℕ → List ℕ → ℕ → List ℕ
+addRoots heads tag bears root zero = heads
+addRoots heads tag bears root (suc i) = addRoot (addRoots heads tag bears root i) tag bears (getD root i 0)
+
+-- the table has n roots, which are types, and each type's tag is one
+pub record RootsFit (root : List ℕ) (n : ℕ) (tag : List ℕ) : Type 0 where
+  pub count : n ≤ mostRoots
+  pub type : (i : ℕ) → i < n → getD root i 0 < mostTypes
+  pub tag-below : (i : ℕ) → i < n → getD tag (getD root i 0) 0 < mostTags
 
 -- a tree-bearing root type of the tag g
 pub record RootOf (S : Meaning) (g j : ℕ) : Type 0 where

@@ -1,4 +1,5 @@
 // The table of heads: what the steps of a reading look up by a type or a tag.
+use schema::ROOTS;
 use schema::Schema;
 use schema::StateSet;
 use schema::TAGS;
@@ -6,15 +7,14 @@ use schema::TYPES;
 use sdtd::Tag;
 use sdtd::TypeNo;
 ghost use mathlib.Core.Path.{_≡_};
-ghost use mathlib.Core.Bool.{_&&_};
 ghost use Prim.Native.Nat.{_<_};
-ghost use lib.Dec.{eqb};
+ghost use lib.ListN.{getD};
 ghost use Rattle.sdtd.specs.Limits.{mostTags, mostTypes};
 ghost use Rattle.sdtd.specs.Schema.{WithinLimits};
 ghost use Rattle.schema.specs.States.{bearsIn};
 ghost use Rattle.schema.specs.Value.{meaning};
 ghost use Rattle.schema.specs.Trimming.{BearsExactly};
-ghost use Rattle.reading.specs.Heads.{headTag, headAccepting, headRoot, setHead, addRoot, HeadsMean};
+ghost use Rattle.reading.specs.Heads.{headTag, headAccepting, headRoot, setHead, withRoot, addRoot, addRoots, RootsFit, HeadsMean};
 
 // Two numbers for each type, its tag and its accepting states; then one for each tag, 0 where no root opens under it, else one more than the
 // type that does.
@@ -51,13 +51,6 @@ pub(crate) fn bears_in(table: &[u32; TYPES], a: usize) -> bool
     StateSet(table[a]).has(0)
 }
 
-// Is the type a a root type?
-fn is_root(root: TypeNo, a: TypeNo) -> bool
-    ensures { λ r. ⌜ r ≡ eqb (a .0) (root .0) ⌝ }
-{
-    a.same(root)
-}
-
 // The type a, with its tag and its accepting states.
 fn lay_head(heads: &mut [u32; HEADS], a: usize, tag: Tag, accepting: u32)
     requires { ⌜ a < mostTypes ⌝ }
@@ -67,28 +60,55 @@ fn lay_head(heads: &mut [u32; HEADS], a: usize, tag: Tag, accepting: u32)
     heads[head_accepting(a)] = accepting;
 }
 
-// The type a, of the tag g, opens under its tag if it is a root that bears a tree and no smaller one of the tag is.
-fn add_root(heads: &mut [u32; HEADS], g: Tag, a: TypeNo, opening: bool)
-    requires { ⌜ g .0 < mostTags ⌝ }
-    ensures { λ _. ⌜ now (heads .exit) ≡ addRoot (now (heads .entry)) (g .0) (a .0) opening ⌝ }
+// What stands under a tag once its root type a is seen, where n stood: one more than the smaller type; n is 0 where there was none.
+fn with_root(n: u32, a: TypeNo) -> u32
+    ensures { λ r. ⌜ r ≡ withRoot n (a .0) ⌝ }
 {
-    if !opening {
-        return;
+    let other = a.0 as u32 + 1;
+    if n == 0 {
+        return other;
     }
-    if heads[head_root(g)] == 0 {
-        heads[head_root(g)] = a.0 as u32 + 1;
+    if other < n {
+        return other;
     }
+    n
 }
 
-// Is the type a a root that bears a tree?
-fn bearing_root(root: TypeNo, bears: &[u32; TYPES], a: TypeNo) -> bool
-    requires { ⌜ a .0 < mostTypes ⌝ }
-    ensures { λ r. ⌜ r ≡ (eqb (a .0) (root .0) && bearsIn (now (bears .entry)) (a .0)) ⌝ }
+// The root type a opens under its tag, if it bears a tree and no smaller root of the tag does.
+fn add_root<'a>(
+    heads: &'a mut [u32; HEADS],
+    tag: &'a [u8; TYPES],
+    bears: &'a [u32; TYPES],
+    a: TypeNo,
+)
+    requires { ⌜ (a .0 < mostTypes) × (getD (now tag) (a .0) 0 < mostTags) ⌝ }
+    ensures { λ _. ⌜ now (heads .exit) ≡ addRoot (now (heads .entry)) (now (tag .entry)) (now (bears .entry)) (a .0) ⌝ }
 {
-    if !is_root(root, a) {
-        return false;
+    let i = a.0 as usize;
+    if !bears_in(bears, i) {
+        return;
     }
-    bears_in(bears, a.0 as usize)
+    let at = head_root(Tag(tag[i]));
+    heads[at] = with_root(heads[at], a);
+}
+
+// So does each of the first `roots` types of the table.
+fn lay_roots<'a>(
+    heads: &'a mut [u32; HEADS],
+    root: [u8; ROOTS],
+    roots: u8,
+    tag: &'a [u8; TYPES],
+    bears: &'a [u32; TYPES],
+)
+    requires { ⌜ RootsFit root roots (now tag) ⌝ }
+    ensures { λ _. ⌜ now (heads .exit) ≡ addRoots (now (heads .entry)) (now (tag .entry)) (now (bears .entry)) root roots ⌝ }
+{
+    let n = roots as usize;
+    let mut i = 0;
+    while i < n {
+        add_root(heads, tag, bears, TypeNo(root[i]));
+        i += 1;
+    }
 }
 
 // The heads of a schema, by a table of the types that bear a tree.
@@ -104,9 +124,8 @@ pub(crate) fn heads(schema: Schema, bears: [u32; TYPES]) -> [u32; HEADS]
     while a < schema.types {
         let i = a as usize;
         lay_head(&mut all, i, Tag(tag[i]), accepting[i]);
-        let opening = bearing_root(root, &bears, TypeNo(a));
-        add_root(&mut all, Tag(tag[i]), TypeNo(a), opening);
         a += 1;
     }
+    lay_roots(&mut all, root, schema.roots, &tag, &bears);
     all
 }

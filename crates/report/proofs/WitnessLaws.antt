@@ -8,6 +8,7 @@ use Rattle.text.specs.Line.{lineEnd}
 use Rattle.sdtd.specs.Limits.{leastWitness}
 use Rattle.sdtd.specs.Schema.{Schema as Meaning}
 use Rattle.sdtd.specs.Competition.{Witness}
+use Rattle.sdtd.proofs.Witnesses.{partsOf}
 use Rattle.competition.specs.Witness.{headOf}
 use Rattle.competition.proofs.Answers.{head-written}
 use Rattle.commands.specs.File.{StatesSchema}
@@ -23,7 +24,9 @@ use Rattle.report.specs.Report.{mostSchema, mostEvents, JobPrinted, Prin
 
 -- `type A gives J or K after n`, of a witness
 abbrev pub lineOf : {S : Meaning} {bytes : List ℕ} → Witness S bytes → List ℕ
-lineOf w = rivals (w .type) (w .first) (w .second) ++ (numbered after (length (w .word)) ++ lineEnd)
+lineOf w =
+    let p = partsOf w in
+    rivals (p .parent) (p .first) (p .second) ++ (numbered after (length (p .word)) ++ lineEnd)
 
 -- "A refused schema prints only `schema refused N at P` and, for 9, a line `type A gives J or K after n`": A, J, K and n are those of a
 -- witness of the schema that the file states.

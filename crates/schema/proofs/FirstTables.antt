@@ -1,17 +1,16 @@
 -- What a value says of its steps, and the tables that the rounds of trimming begin with.
 use mathlib.Core.Path.{_≡_, refl, sym, _∙_, ap}
 use mathlib.Core.Logic.{_↔_}
-use mathlib.Core.Bool.{true, false}
 use mathlib.Core.List.{List, [], _∷_, _++_, List·Memᴰ, List·Memᴰ·not-nil}
 use Prim.Native.Nat.{ℕ, zero, suc, _-_, _%_, _^_, _≤_, _<_}
-use native.Mathlib.Decide.{ℕ-discrete, decLt}
+use native.Mathlib.Decide.{decLt}
 use native.Mathlib.Omega.{arith}
 use native.Mathlib.Nat.{mod-eq-of-lt}
 use borrow.Author.Tests.{lt-ltb, le-ltb}
 use lib.Dec.{T, lit<}
-use lib.ListN.{length, getD, set, take, replicate, length-append, length-take, length-replicate}
+use lib.ListN.{length, getD, take, replicate, length-append, length-take, length-replicate}
 use lib.ListN.{getD-replicate, List·getD-append}
-use lib.Seq.{getD-take, getD-set-same, getD-set-other}
+use lib.Seq.{getD-take}
 use Rattle.sdtd.specs.Limits.{mostTypes, mostStates}
 use Rattle.sdtd.specs.Schema.{Step, blockOf, WithinLimits}
 use Rattle.schema.specs.States.{member}
@@ -19,7 +18,7 @@ use Rattle.schema.specs.Value.{upFrom, stepsOf, offset, blockAt, meaning
 use Rattle.schema.specs.Spread.{firstSets, spanAt, stepsIn}
 use Rattle.schema.specs.declared.value.Schema.{Schema}
 use Rattle.schema.proofs.Bits.{member-none, member-start, mem-members}
-use Rattle.schema.proofs.Values.{steps-mem, types-count, block-of, no-block-of}
+use Rattle.schema.proofs.Values.{same-everywhere, steps-mem, types-count, block-of, no-block-of}
 use Rattle.schema.proofs.LimitLaws.{own-within, within-room}
 use Rattle.schema.proofs.SpreadLaws.{own}
 
@@ -41,25 +40,11 @@ own-back from by to steps a x m =
     steps-mem to by from (offset steps a) (getD steps a 0) (back x) .1
     (record { place = p .place; least = p .least; most = p .most; is = ap back (p .is) })
 
--- a table with the same everywhere, past its end too
-pub same-everywhere : {A : Type 0} (d : A) (n a : ℕ) → getD (replicate n d) a d ≡ d
-same-everywhere d zero a = refl
-same-everywhere d (suc n) zero = refl
-same-everywhere d (suc n) (suc a) = same-everywhere d n a
-
 past-take : (n m : ℕ) (xs : List ℕ) (a : ℕ) → n ≤ length xs → n ≤ a → getD (take n xs ++ replicate m 0) a 0 ≡ 0
 past-take zero m xs a l h = same-everywhere 0 m a
 past-take (suc n) m [] a l h = absurd (omega arith)
 past-take (suc n) m (x ∷ xs) zero l h = absurd (omega arith)
 past-take (suc n) m (x ∷ xs) (suc a) l h = past-take n m xs a (omega arith) (omega arith)
-
--- the table with one entry marked
-pub one-only : (n r a : ℕ) → T (getD (set (replicate n false) r true) a false) → a ≡ r
-one-only n r a m =
-    elim (ℕ-discrete a r) [ yes e ↦ e | no d ↦ absurd (rw (getD-set-other (replicate n false) r a true false d, same-everywhere false n a) at m) ]
-
-pub one-in : (n r : ℕ) → r < n → T (getD (set (replicate n false) r true) r false)
-one-in n r l = rw (getD-set-same (replicate n false) r true false (rw length-replicate l)) tt
 
 -- the table with only state 0 everywhere
 pub start-only : (n a q : ℕ) → T (member q (getD (replicate n 1) a 0)) → q ≡ 0
@@ -80,10 +65,6 @@ turned v = stepsOf (v .to) (v .by) (v .from)
 -- the first table of the live states
 abbrev pub firstLive : Schema → List ℕ
 firstLive v = firstSets (v .types) (v .accepting)
-
-pub root-is : (v : Schema) → meaning v .root ≡ v .root .0
-unfolding meaning
-root-is v = refl
 
 -- what the limits say of a step of the type a
 pub record OwnStep (v : Schema) (a : ℕ) (s : Step) : Type 0 where

@@ -16,10 +16,11 @@ use Rattle.sdtd.specs.Schema.{Schema as Meaning}
 use Rattle.sdtd.proofs.Basics.{getD-member}
 use Rattle.schema.specs.States.{members}
 use Rattle.schema.specs.Value.{upFrom, stepAt, stepsOf, offset, blockAt, meaning}
-use Rattle.schema.specs.Limits.{StepsWithin, BlockFits, BlocksFit}
+use Rattle.schema.specs.Limits.{RootsWithin, StepsWithin, BlockFits, BlocksFit}
 use Rattle.schema.specs.declared.value.Schema.{Schema}
 use Rattle.schema.proofs.Bits.{mem-members, states-below}
 use Rattle.schema.proofs.Values.{offset-step, steps-count, types-count}
+use Rattle.schema.proofs.RootLaws.{roots-count, root-in}
 
 -- A loop asks one thing after another: what is left, L, is the next, S, and the rest, R, and decides the whole, W.
 module _ {S R L W : Type 0} (b : Bool) (tells : T b ↔ S) (next : L ↔ (S × R)) (left : L ↔ W) where
@@ -98,7 +99,7 @@ pub record Checked (v : Schema) : Type 0 where
   pub tags-least : 1 ≤ v .tags
   pub tags-most : v .tags ≤ mostTags
   pub types-most : v .types ≤ mostTypes
-  pub root : v .root .0 < v .types
+  pub roots : RootsWithin (v .root) (v .roots) (v .types)
   pub blocks :
       BlocksFit (v .tag) (v .states) (v .accepting) (v .steps) (stepsOf (v .from) (v .by) (v .to)) (v .tags) (v .types) 0 0 (v .types)
 
@@ -171,22 +172,27 @@ module _ (v : Schema) (sets : (a : ℕ) → getD (v .accepting) a 0 < 2 ^ mostSt
   unfolding meaning
   within-means =
       let count = types-count v in
+      let many = roots-count (v .root) (v .roots) in
       let all = blocks-mean 0 0 (v .types) refl (omega arith) in (
         λ w. record {
           tags-least = w .tags-least;
           tags-most = w .tags-most;
           types-most = omega arith;
-          root = omega arith;
+          roots = record { least = omega arith; most = omega arith; below = rw count at (w .roots) };
           blocks = all .1 (omega arith, w .blocks);
         },
         λ w. let blocks = all .0 (w .blocks) in
+            let r = w .roots in
+            let first = r .below _ (root-in (v .root) (v .roots) 0 (r .least)) in
             record {
               tags-least = w .tags-least;
               tags-most = w .tags-most;
               types-least = omega arith;
               types-most = omega arith;
               steps-most = omega arith;
-              root = omega arith;
+              roots-least = omega arith;
+              roots-most = omega arith;
+              roots = rw count (r .below);
               blocks = blocks .1;
             },
       )
@@ -209,7 +215,6 @@ steps-total v a (suc n) =
 pub record Room (v : Schema) : Type 0 where
   pub types : v .types ≤ mostTypes
   pub steps : offset (v .steps) (v .types) ≤ mostSteps
-  pub root : v .root .0 < mostTypes
 
 pub within-room : (v : Schema) → WithinLimits (meaning v) → Room v
 unfolding meaning
@@ -218,7 +223,6 @@ within-room v w =
     record {
       types = omega (arith, w .types-most);
       steps = omega (arith, steps-total v 0 (v .types), ap (offset (v .steps)) (zero-add (v .types)), w .steps-most);
-      root = omega (arith, w .root, w .types-most);
     }
 
 -- the negated test was not taken, so what it tells holds

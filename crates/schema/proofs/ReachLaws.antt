@@ -1,5 +1,5 @@
 -- Laws of the queue of reached types: what a type's steps keep and add, and what holds when each type of the queue is gone over.
-use mathlib.Core.Path.{_≡_, refl, sym, _∙_}
+use mathlib.Core.Path.{_≡_, refl, _∙_}
 use mathlib.Core.Bool.{Bool, true, false, cond, _&&_}
 use mathlib.Core.List.{List, [], _∷_, List·Memᴰ, List·Memᴰ·head, List·Memᴰ·tail}
 use Prim.Native.Nat.{ℕ, zero, suc, _+_, _-_, _%_, _≤_, _<_}
@@ -14,9 +14,9 @@ use Rattle.sdtd.specs.Schema.{Step}
 use Rattle.sdtd.proofs.Basics.{cond-either, and-parts, and-both}
 use Rattle.sdtd.proofs.Rounds.{count, count-set, count-le}
 use Rattle.schema.specs.States.{member}
-use Rattle.schema.specs.Spread.{reaches, Reaching, first, next, ReachedFrom, Queued, queued, joinType, reachSteps}
+use Rattle.schema.specs.Spread.{reaches, Reaching, first, next, ReachedFrom, Queued, queued, joinType, joinMarked, reachSteps}
 use Rattle.schema.proofs.SpreadLaws.{byBearing}
-use Rattle.schema.proofs.FirstTables.{same-everywhere, one-only, one-in}
+use Rattle.schema.proofs.Values.{same-everywhere}
 
 -- what the test of a step says
 pub record Reaches (bears : List ℕ) (forward live : ℕ) (s : Step) : Type 0 where
@@ -188,21 +188,51 @@ module _ {P : ℕ → Type 0} where
     steps-take rule k (List·Memᴰ·tail {x = r} {xs = ss} i) c =
         steps-take (λ x j. rule x (List·Memᴰ·tail j)) (step-grows r (rule r (List·Memᴰ·head refl)) k .kept) i c
 
+  -- the types that a table marks have P
+  module _ (marks : List Bool) (rule : (a : ℕ) → a < mostTypes → T (getD marks a false) → P a) where
+    abbrev afterMark : ℕ → Queued → Queued
+    afterMark a m = cond (getD marks a false) (joinType a m) m
+
+    mark-grows : {m : Queued} (a : ℕ) → a < mostTypes → Kept P m → Grows P m (afterMark a m)
+    mark-grows {m} a l k = cond-either (Grows P m) (getD marks a false) (λ t. join-grows k a l (rule a l t)) (λ n. stays k)
+
+    mark-takes : {m : Queued} (a : ℕ) → a < mostTypes → Kept P m → T (getD marks a false) → IsMarked (afterMark a m) a
+    mark-takes a l k t =
+        cond-either (λ (u : Queued). IsMarked u a) (getD marks a false) (λ h. join-takes k a l) (λ none. absurd (none t))
+
+    pub marked-grow : {m : Queued} (a n : ℕ) → Kept P m → a + n ≤ mostTypes → Grows P m (joinMarked marks a n m)
+    unfolding joinMarked
+    marked-grow a zero k l = stays k
+    marked-grow a (suc n) k l =
+        let g = mark-grows a (omega arith) k in
+        grows-then g (marked-grow (suc a) n (g .kept) (omega arith))
+
+    -- they are marked in the queue
+    pub marked-take : {m : Queued} (a n : ℕ) → Kept P m → a + n ≤ mostTypes
+        → (b : ℕ) → a ≤ b → b < a + n → T (getD marks b false) → IsMarked (joinMarked marks a n m) b
+    unfolding joinMarked
+    marked-take a zero k l b from to t = absurd (omega arith)
+    marked-take {m} a (suc n) k l b from to t =
+        let g = mark-grows a (omega arith) k in
+        elim (ℕ-discrete b a) [
+          | yes e ↦ rw e (marked-grow (suc a) n (g .kept) (omega arith) .marks a (mark-takes a (omega arith) k (rw e at t)))
+          | no d ↦ marked-take (suc a) n (g .kept) (omega arith) b (omega arith) (omega arith) t
+        ]
+
 none-counted : (n : ℕ) → count (replicate n false) ≡ 0
 none-counted zero = refl
 none-counted (suc n) = none-counted n
 
-module _ (own : ℕ → List Step) (bears forward live : List ℕ) (root : ℕ) where
+module _ (own : ℕ → List Step) (bears forward live : List ℕ) (roots : List Bool) where
   -- all that the steps of the type a reach is marked
   abbrev Done : Queued → ℕ → Type 0
   Done m a = (s : Step) → List·Memᴰ s (own a) → T (reaches bears (getD forward a 0) (getD live a 0) s) → IsMarked m (s .by % mostTypes)
 
   -- the types before the place `at` of the queue are done
   pub record Visited (at : ℕ) (m : Queued) : Type 0 where
-    pub kept : Kept (Reaching own bears forward live root) m
-    pub some : 0 < m .count
+    pub kept : Kept (Reaching own bears forward live roots) m
     pub before : at ≤ m .count
-    pub first-marked : IsMarked m root
+    pub roots-marked : (a : ℕ) → a < mostTypes → T (getD roots a false) → IsMarked m a
     pub done : (i : ℕ) → i < at → Done m (typeAt m i)
 
   pub visited-most : {at : ℕ} {m : Queued} → Visited at m → m .count ≤ mostTypes
@@ -218,42 +248,26 @@ module _ (own : ℕ → List Step) (bears forward live : List ℕ) (root : ℕ) 
             absurd (rw (List·getD-eq-default (m .reached) false past) at (v .kept .marked at l))
       ]
 
-  -- at the start only the root type is marked
-  module _ (queue : List ℕ) (sized : length queue ≡ mostTypes) (n : ℕ) (full : n ≡ mostTypes) (below : root < mostTypes) where
-    abbrev firstQueued : Queued
-    firstQueued = queued (set (replicate n false) root true) (set queue 0 root) 1
+  -- at the start nothing is marked; then the roots are
+  none-marked : Kept (Reaching own bears forward live roots) (queued (replicate mostTypes false) (replicate mostTypes 0) 0)
+  none-marked =
+      record {
+        long = length-replicate mostTypes false;
+        room = length-replicate {A = ℕ} mostTypes 0;
+        counted = none-counted mostTypes;
+        marked = λ i l. absurd (omega arith);
+        placed = λ a t. absurd (rw (same-everywhere false mostTypes a) at t);
+        sound = λ a t. absurd (rw (same-everywhere false mostTypes a) at t);
+      }
 
-    first-type : typeAt firstQueued 0 ≡ root
-    first-type = getD-set-same queue 0 root 0 (omega arith)
-
-    first-in : IsMarked firstQueued root
-    first-in = one-in n root (omega arith)
-
-    first-counted : count (set (replicate n false) root true) ≡ 1
-    first-counted =
-        omega (
-          arith,
-          count-set (replicate n false) root (omega (arith, length-replicate n false)) (same-everywhere false n root),
-          none-counted n,
-        )
-
-    first-kept : Kept (Reaching own bears forward live root) firstQueued
-    first-kept =
-        record {
-          long = simp (length-set, length-replicate) full;
-          room = length-set queue 0 root ∙ sized;
-          counted = first-counted;
-          marked = λ i l. let e : i ≡ 0 = omega arith in rw (e, first-type) first-in;
-          placed = λ a t. record { place = 0; below = omega arith; is = first-type ∙ sym (one-only n root a t) };
-          sound = λ a t. rw (one-only n root a t) first;
-        }
-
-    first-visited : Visited 0 firstQueued
-    first-visited = record { kept = first-kept; some = omega arith; before = omega arith; first-marked = first-in; done = λ i l. absurd (omega arith) }
-
-  pub visited-first : (queue : List ℕ) → length queue ≡ mostTypes → root < mostTypes
-      → Visited 0 (queued (set (replicate mostTypes false) root true) (set queue 0 root) 1)
-  visited-first queue e l = first-visited queue e mostTypes refl l
+  pub visited-first : Visited 0 (joinMarked roots 0 mostTypes (queued (replicate mostTypes false) (replicate mostTypes 0) 0))
+  visited-first =
+      record {
+        kept = marked-grow roots (λ a. first) 0 mostTypes none-marked (omega arith) .kept;
+        before = omega arith;
+        roots-marked = λ a l t. marked-take roots (λ b. first) 0 mostTypes none-marked (omega arith) a (omega arith) (omega arith) t;
+        done = λ i l. absurd (omega arith);
+      }
 
   -- the type at the place `at` is gone over
   pub visited-next : {at : ℕ} {m : Queued} → Visited at m → at < m .count
@@ -261,14 +275,13 @@ module _ (own : ℕ → List Step) (bears forward live : List ℕ) (root : ℕ) 
   visited-next {at} {m} v l =
       let a = typeAt m at in
       let rule : (s : Step) → List·Memᴰ s (own a) → T (reaches bears (getD forward a 0) (getD live a 0) s)
-      → Reaching own bears forward live root (s .by % mostTypes) =
+      → Reaching own bears forward live roots (s .by % mostTypes) =
       λ s i c. next s (v .kept .sound a (v .kept .marked at l)) i c in
       let g = steps-grow bears (getD forward a 0) (getD live a 0) (own a) rule (v .kept) in
       record {
         kept = g .kept;
-        some = omega (arith, g .more);
         before = omega (arith, g .more);
-        first-marked = g .marks root (v .first-marked);
+        roots-marked = λ b h t. g .marks b (v .roots-marked b h t);
         done =
             λ i h s.
             elim (decLt i at) [
@@ -280,12 +293,12 @@ module _ (own : ℕ → List Step) (bears forward live : List ℕ) (root : ℕ) 
       }
 
   -- at the end of the queue the marked types are those that are reached
-  pub visited-last : {at : ℕ} {m : Queued} → Visited at m → m .count ≤ at → ReachedFrom own bears forward live root (m .reached)
+  pub visited-last : {at : ℕ} {m : Queued} → Visited at m → m .count ≤ at → ReachedFrom own bears forward live roots (m .reached)
   visited-last {at} {m} v l a = (v .kept .sound a, has)
     where
       done : (b : ℕ) → IsMarked m b → Done m b
       done b t = let p = v .kept .placed b t in rw (p .is) at (v .done (p .place) (omega (arith, p .below)))
 
-      has : {b : ℕ} → Reaching own bears forward live root b → IsMarked m b
-      has first = v .first-marked
+      has : {b : ℕ} → Reaching own bears forward live roots b → IsMarked m b
+      has (first {a = b} h t) = v .roots-marked b h t
       has (next {a = b} s r i c) = done b (has r) s i c

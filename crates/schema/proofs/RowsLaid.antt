@@ -14,7 +14,7 @@ use Rattle.schema.specs.Rows.{mostRows, InRow}
 use Rattle.schema.specs.RowMaking.{RowTables, noRows, addRow, rowBy, addRows}
 use Rattle.schema.proofs.PuttingLaws.{put-long, put-before, put-past, put-there, fromOn, from-split}
 use Rattle.schema.proofs.RowTurns.{row-most}
-use Rattle.schema.proofs.FirstTables.{same-everywhere}
+use Rattle.schema.proofs.Values.{same-everywhere}
 
 -- The rows below n stand in the tables one after another, no further row begins, and past them are zeros.
 pub record Laid (row : ℕ → List ℕ) (n : ℕ) (t : RowTables) : Type 0 where

@@ -1,7 +1,7 @@
 -- The tables that the rounds of trimming settle at are exactly the definitions.
-use mathlib.Core.Path.{_≡_, refl, sym, _∙_}
+use mathlib.Core.Path.{_≡_, refl}
 use mathlib.Core.Logic.{_↔_}
-use mathlib.Core.Bool.{Bool, true}
+use mathlib.Core.Bool.{Bool, true, false}
 use mathlib.Core.List.{List, [], _∷_, _++_, List·Memᴰ}
 use Prim.Native.Nat.{ℕ, _<_}
 use native.Mathlib.Omega.{arith}
@@ -10,17 +10,19 @@ use lib.ListN.{length, getD}
 use Rattle.sdtd.specs.Limits.{mostTypes}
 use Rattle.sdtd.specs.Schema.{Step, blockOf, WithinLimits, Leads, stay, go}
 use Rattle.sdtd.specs.Schema.{Schema as Meaning}
+use Rattle.sdtd.specs.Tree.{IsRoot}
 use Rattle.sdtd.specs.Trim.{Bears, AllBear, none, both, Live, Reached}
+use Rattle.sdtd.proofs.Within.{root-below}
 use Rattle.sdtd.proofs.Automata.{leads-append, all-append}
 use Rattle.sdtd.proofs.Fixpoint.{LiveClosed, live-closed, live-exact, bears-live, Forward, ReachedClosed, reached-closed, reached-exact}
 use Rattle.schema.specs.States.{member, bearsIn}
-use Rattle.schema.specs.Value.{stepsOf, meaning}
-use Rattle.schema.specs.Trimming.{LiveExactly, BearsExactly, Exact}
+use Rattle.schema.specs.Value.{stepsOf, rootsOf, meaning}
+use Rattle.schema.specs.Trimming.{LiveExactly, BearsExactly, MarksExactly, Exact}
 use Rattle.schema.specs.Spread.{spreadAll, Settled, stepsIn, reaches, Reaching, first, next, ReachedFrom, firstSets, startStates, bearing}
 use Rattle.schema.specs.declared.value.Schema.{Schema}
 use Rattle.schema.proofs.Rounds.{bearing-at, start-sets}
 use Rattle.schema.proofs.SpreadLaws.{settled-keeps, byBearing, own, Table, round-keeps, settled-takes}
-use Rattle.schema.proofs.FirstTables.{Fits, OwnStep, back, forth, turned, firstLive, types-most, root-is}
+use Rattle.schema.proofs.FirstTables.{Fits, OwnStep, back, forth, turned, firstLive, types-most}
 use Rattle.schema.proofs.FirstTables.{own-steps, steps-in, own-step, own-back, accepts, first-long, first-below}
 use Rattle.schema.proofs.FirstTables.{start-only, start-in}
 use Rattle.schema.proofs.ReachLaws.{test-says, test-passes}
@@ -28,6 +30,18 @@ use Rattle.schema.proofs.ReachLaws.{test-says, test-passes}
 -- a table of exactly the live states says which types bear a tree
 pub bears-in : (S : Meaning) (table : List ℕ) → LiveExactly S table → BearsExactly S table
 bears-in S table exact j = (λ m. bears-live .1 (exact j 0 .0 m), λ b. exact j 0 .1 (bears-live .0 b))
+
+-- the table marks exactly the root types
+abbrev RootsMarked : Schema → List Bool → Type 0
+RootsMarked v table = (a : ℕ) → T (getD table a false) ↔ IsRoot (meaning v) a
+
+-- inside the limits each root type has an entry
+pub roots-marked : (v : Schema) (table : List Bool) → WithinLimits (meaning v) → MarksExactly (rootsOf (v .root) (v .roots)) table → RootsMarked v table
+unfolding meaning
+roots-marked v table within marks a = (
+  λ t. marks a .0 t .1,
+  λ r. marks a .1 (root-below within r, r),
+)
 
 -- the two rounds
 abbrev liveRound : Schema → List ℕ → List ℕ
@@ -144,14 +158,14 @@ module _
         let n = types-most fits within in
         along a (f .leads) (f .bear) (forward-table .grown a 0 (start-in mostTypes a (omega arith)))
 
-    sound : {a : ℕ} → Reaching (ownSteps v) live forward live (v .root .0) a → Reached (meaning v) a
-    sound first = reached-closed .root (v .root .0) (sym (root-is v))
-    sound (next {a = a} s r i t) =
+    sound : {roots : List Bool} → RootsMarked v roots → {a : ℕ} → Reaching (ownSteps v) live forward live roots a → Reached (meaning v) a
+    sound are (first {a = a} l t) = reached-closed .root a (are a .0 t)
+    sound are (next {a = a} s r i t) =
         let m = rw (steps-in fits within a) at i in
         let e = own-step fits within a s m .by in
         let c = test-says live (getD forward a 0) (getD live a 0) t in
         let b = bears-is (s .by) .1 (rw e at (c .by)) in
-        rw e (reached-closed .step a s (sound r) m (forward-table .sound a (s .from) (c .from)) b (exactly a (s .to) .0 (c .to)))
+        rw e (reached-closed .step a s (sound are r) m (forward-table .sound a (s .from) (c .from)) b (exactly a (s .to) .0 (c .to)))
 
     reaches-own :
         (a : ℕ) (s : Step) → OwnStep v a s → Forward (meaning v) a (s .from) → Bears (meaning v) (s .by) → Live (meaning v) a (s .to)
@@ -164,32 +178,33 @@ module _
           to = exactly a (s .to) .1 l;
         })
 
-    closed : ReachedClosed (meaning v) (Reaching (ownSteps v) live forward live (v .root .0))
-    closed =
+    closed : {roots : List Bool} → RootsMarked v roots → ReachedClosed (meaning v) (Reaching (ownSteps v) live forward live roots)
+    closed are =
         record {
-          root = λ a e. rw (e ∙ root-is v) first;
+          root = λ a e. first (root-below within e) (are a .1 e);
           step =
               λ a s r m f b l.
               let o = own-step fits within a s m in
               rw (o .by) at (next s r (rw (steps-in fits within a) m) (reaches-own a s o f b l));
         }
 
-    exact : {reached : List Bool} → ReachedFrom (ownSteps v) live forward live (v .root .0) reached
+    exact : {roots reached : List Bool} → RootsMarked v roots → ReachedFrom (ownSteps v) live forward live roots reached
         → Exact (meaning v) (record { inside = true; live = live; bears = bearing live; reached = reached })
-    exact marked =
+    exact are marked =
         record {
           live = exactly;
           bears = λ a. rw (bearing-at live long a) (bears-is a .1, bears-is a .0);
           reached =
               λ a.
-              let e = reached-exact closed (λ b. sound) a in (λ t. e .1 (marked a .0 t), λ r. marked a .1 (e .0 r));
+              let e = reached-exact (closed are) (λ b. sound are) a in (λ t. e .1 (marked a .0 t), λ r. marked a .1 (e .0 r));
         }
 
 -- the tables that the next two loops end with
 pub tables-exact :
-    {v : Schema} {forward : List ℕ} {reached : List Bool} → Fits v → WithinLimits (meaning v) → (live : List ℕ) → length live ≡ mostTypes
+    {v : Schema} {forward : List ℕ} {roots reached : List Bool} → Fits v → WithinLimits (meaning v) → (live : List ℕ) → length live ≡ mostTypes
     → LiveExactly (meaning v) live
     → Settled (λ t. spreadAll (v .steps) (stepsOf (v .to) (v .by) (v .from)) (λ u. live) 0 0 (v .types) t) startStates forward
-    → ReachedFrom (stepsIn (v .steps) (stepsOf (v .from) (v .by) (v .to)) (v .types)) live forward live (v .root .0) reached
+    → MarksExactly (rootsOf (v .root) (v .roots)) roots
+    → ReachedFrom (stepsIn (v .steps) (stepsOf (v .from) (v .by) (v .to)) (v .types)) live forward live roots reached
     → Exact (meaning v) (record { inside = true; live = live; bears = bearing live; reached = reached })
-tables-exact fits within live long exactly f r = exact fits within live long exactly f r
+tables-exact {v} {roots = roots} fits within live long exactly f m r = exact fits within live long exactly f (roots-marked v roots within m) r

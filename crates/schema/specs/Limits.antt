@@ -2,11 +2,18 @@
 use mathlib.Core.List.{List, List·Memᴰ}
 use Prim.Native.Nat.{ℕ, zero, suc, _+_, _^_, _≤_, _<_}
 use lib.ListN.{getD}
-use Rattle.sdtd.specs.Limits.{mostStates, mostSteps}
+use Rattle.sdtd.specs.Limits.{mostRoots, mostStates, mostSteps}
 use Rattle.sdtd.specs.Schema.{Step, StepWithin}
+use Rattle.schema.specs.Value.{rootsOf}
 
 abbrev pub StepsWithin : ℕ → ℕ → List Step → Type 0
 StepsWithin states types ss = (s : Step) → List·Memᴰ s ss → StepWithin states types s
+
+-- one to eight roots, each below the number of types
+pub record RootsWithin (table : List ℕ) (roots types : ℕ) : Type 0 where
+  pub least : 1 ≤ roots
+  pub most : roots ≤ mostRoots
+  pub below : (a : ℕ) → List·Memᴰ a (rootsOf table roots) → a < types
 
 -- a type's entries are inside the limits
 pub record BlockFits (tag states accepting : ℕ) (steps : List Step) (tags types : ℕ) : Type 0 where

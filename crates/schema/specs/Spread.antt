@@ -60,16 +60,16 @@ Starts steps types table = (a : ℕ) → a < types → getD table a 0 ≡ offset
 abbrev pub reaches : List ℕ → ℕ → ℕ → Step → Bool
 reaches bears forward live s = member (s .from) forward && bearsIn bears (s .by % mostTypes) && member (s .to) live
 
--- the root type is reached, and the type of each such step of a reached type
-pub data Reaching (own : ℕ → List Step) (bears forward live : List ℕ) (root : ℕ) : ℕ → Type 0 where
-  first : Reaching own bears forward live root root
+-- a marked type is reached, and the type of each such step of a reached type
+pub data Reaching (own : ℕ → List Step) (bears forward live : List ℕ) (marked : List Bool) : ℕ → Type 0 where
+  first : {a : ℕ} → a < mostTypes → T (getD marked a false) → Reaching own bears forward live marked a
   next :
-      {a : ℕ} (s : Step) → Reaching own bears forward live root a → List·Memᴰ s (own a)
-      → T (reaches bears (getD forward a 0) (getD live a 0) s) → Reaching own bears forward live root (s .by % mostTypes)
+      {a : ℕ} (s : Step) → Reaching own bears forward live marked a → List·Memᴰ s (own a)
+      → T (reaches bears (getD forward a 0) (getD live a 0) s) → Reaching own bears forward live marked (s .by % mostTypes)
 
 -- the table has exactly those types
-abbrev pub ReachedFrom : (ℕ → List Step) → List ℕ → List ℕ → List ℕ → ℕ → List Bool → Type 0
-ReachedFrom own bears forward live root table = (a : ℕ) → T (getD table a false) ↔ Reaching own bears forward live root a
+abbrev pub ReachedFrom : (ℕ → List Step) → List ℕ → List ℕ → List ℕ → List Bool → List Bool → Type 0
+ReachedFrom own bears forward live marked table = (a : ℕ) → T (getD table a false) ↔ Reaching own bears forward live marked a
 
 -- which types are reached, and the first `count` entries of the queue
 pub record Queued : Type 0 where
@@ -86,6 +86,11 @@ joinType b m =
     cond (getD (m .reached) b false) m
     (cond (ltb (m .count) mostTypes) (queued (set (m .reached) b true) (set (m .queue) (m .count) b) (m .count + 1)) m)
 
+-- of the n types from the type a on, those that are marked join, one after another
+unfoldable pub joinMarked : List Bool → ℕ → ℕ → Queued → Queued
+joinMarked marked a zero m = m
+joinMarked marked a (suc n) m = joinMarked marked (suc a) n (cond (getD marked a false) (joinType a m) m)
+
 -- the steps of a type, one after another: each that reaches its type has it join
 unfoldable pub reachSteps : List ℕ → ℕ → ℕ → List Step → Queued → Queued
 reachSteps bears forward live [] m = m
@@ -99,6 +104,10 @@ firstSets n sets = take n sets ++ replicate (mostTypes - n) noStates
 -- only state 0, for each type
 abbrev pub startStates : List ℕ
 startStates = replicate mostTypes onlyStart
+
+-- the type is marked, if it is below `mostTypes`
+unfoldable pub markType : ℕ → List Bool → List Bool
+markType a table = cond (ltb a mostTypes) (set table a true) table
 
 -- which types bear a tree, by the table
 abbrev pub bearing : List ℕ → List Bool

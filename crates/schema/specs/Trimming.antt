@@ -1,9 +1,9 @@
 -- What the tables of a trimming say: document 01, "Trimming".
 use mathlib.Core.Path.{_≡_}
-use mathlib.Core.Bool.{false}
+use mathlib.Core.Bool.{Bool, false}
 use mathlib.Core.Logic.{_↔_}
-use mathlib.Core.List.{List}
-use Prim.Native.Nat.{ℕ, suc}
+use mathlib.Core.List.{List, List·Memᴰ}
+use Prim.Native.Nat.{ℕ, suc, _<_}
 use lib.Dec.{T}
 use lib.ListN.{getD, replicate}
 use Rattle.sdtd.specs.Limits.{mostTypes, mostSteps}
@@ -21,6 +21,10 @@ LiveExactly S table = (a q : ℕ) → T (member q (getD table a 0)) ↔ Live S a
 -- the table of sets tells exactly which types bear a tree
 abbrev pub BearsExactly : Schema → List ℕ → Type 0
 BearsExactly S table = (j : ℕ) → T (bearsIn table j) ↔ Bears S j
+
+-- the table, which has an entry for each number below `mostTypes`, marks exactly the types of the list
+abbrev pub MarksExactly : List ℕ → List Bool → Type 0
+MarksExactly types table = (a : ℕ) → T (getD table a false) ↔ ((a < mostTypes) × List·Memᴰ a types)
 
 -- each table is exactly the definition
 pub record Exact (S : Schema) (t : Trimming) : Type 0 where

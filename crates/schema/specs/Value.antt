@@ -38,6 +38,10 @@ blockAt v a =
       steps = stepsOf (v .from) (v .by) (v .to) (offset (v .steps) a) (getD (v .steps) a 0);
     }
 
+-- the first n entries of the table of roots
+unfoldable pub rootsOf : List ℕ → ℕ → List ℕ
+rootsOf table n = map (λ i. getD table i 0) (upFrom 0 n)
+
 -- The schema that the value states. A count past the end of its table reads zeros there, so no count is lost.
 unfoldable pub meaning : Schema → Meaning
-meaning v = record { tags = v .tags; blocks = map (blockAt v) (upFrom 0 (v .types)); root = v .root .0 }
+meaning v = record { tags = v .tags; blocks = map (blockAt v) (upFrom 0 (v .types)); roots = rootsOf (v .root) (v .roots) }

@@ -1,4 +1,5 @@
 // Document 01's limits of a schema: question 10's part about it.
+use crate::roots::roots_within;
 use crate::span::Span;
 use crate::state_set::StateSet;
 use crate::value::STATES;
@@ -146,6 +147,7 @@ pub fn within(schema: Schema) -> bool
 {
     let tags = schema.tags;
     let types = schema.types;
+    let roots = schema.roots;
     let root = schema.root;
     if tags == 0 {
         return false;
@@ -156,7 +158,7 @@ pub fn within(schema: Schema) -> bool
     if TYPES < types as usize {
         return false;
     }
-    if types <= root.0 {
+    if !roots_within(root, roots, types) {
         return false;
     }
     blocks_within(

@@ -1,4 +1,4 @@
-// Types that the root's words reach: a queue of them, each gone over once.
+// Types that the roots' words reach: a queue of them, each gone over once.
 use crate::span::Span;
 use crate::spread::bears_in;
 use crate::state_set::StateSet;
@@ -9,7 +9,7 @@ ghost use mathlib.Core.Path.{_≡_};
 ghost use Prim.Native.Nat.{_+_, _%_, _≤_};
 ghost use Rattle.sdtd.specs.Limits.{mostTypes, mostSteps};
 ghost use Rattle.schema.specs.Value.{stepsOf, offset};
-ghost use Rattle.schema.specs.Spread.{reaches, queued, joinType, reachSteps, Starts, spanAt};
+ghost use Rattle.schema.specs.Spread.{reaches, queued, joinType, joinMarked, reachSteps, Starts, spanAt};
 
 // Tables of sets of states, an entry for each type: which types bear a tree, the states that children reach, the live states.
 pub(crate) struct StateTables {
@@ -94,6 +94,26 @@ fn join<'a>(
     reached[b] = true;
     queue[count] = b as u8;
     count + 1
+}
+
+// The marked types join the queue.
+pub(crate) fn join_marked<'a>(
+    marked: &[bool; TYPES],
+    reached: &'a mut [bool; TYPES],
+    queue: &'a mut [u8; TYPES],
+) -> usize
+    ensures { λ r. ⌜ queued (now (reached .exit)) (now (queue .exit)) r
+        ≡ joinMarked (now (marked .entry)) 0 mostTypes (queued (now (reached .entry)) (now (queue .entry)) 0) ⌝ }
+{
+    let mut count = 0;
+    let mut a = 0;
+    while a < TYPES {
+        if marked[a] {
+            count = join(reached, queue, count, TypeNo(a as u8));
+        }
+        a += 1;
+    }
+    count
 }
 
 // The types that the steps of a type reach.

@@ -2,9 +2,11 @@
 use crate::limits::within;
 use crate::reach::StateTables;
 use crate::reach::TypeSteps;
+use crate::reach::join_marked;
 use crate::reach::reach_steps;
 use crate::reach::span_at;
 use crate::reach::starts;
+use crate::roots::root_types;
 use crate::rows::BEGINS;
 use crate::rows::clear_rows;
 use crate::rows::make_rows;
@@ -16,9 +18,8 @@ use crate::state_set::StateSet;
 use crate::value::STEPS;
 use crate::value::Schema;
 use crate::value::TYPES;
-use sdtd::TypeNo;
 ghost use mathlib.Core.Path.{_≡_};
-ghost use Prim.Native.Nat.{_≤_, _<_};
+ghost use Prim.Native.Nat.{_≤_};
 ghost use lib.Dec.{T};
 ghost use Rattle.sdtd.specs.Limits.{mostTypes, mostSteps};
 ghost use Rattle.sdtd.specs.Schema.{WithinLimits};
@@ -97,7 +98,7 @@ fn forward_states<'a>(
     }
 }
 
-// The reached types: the root type, and those that the steps of each type of the queue reach.
+// The reached types: the marked ones, and those that the steps of each type of the queue reach.
 fn reached_types<'a>(
     from: &'a [u8; STEPS],
     by: &'a [u8; STEPS],
@@ -105,20 +106,17 @@ fn reached_types<'a>(
     steps: &'a [u16; TYPES],
     types: usize,
     tables: StateTables,
-    root: TypeNo,
+    roots: &'a [bool; TYPES],
 ) -> [bool; TYPES]
-    requires { ⌜ (types ≤ mostTypes) × (offset (now steps) types ≤ mostSteps) × (root .0 < mostTypes) ⌝ }
+    requires { ⌜ (types ≤ mostTypes) × (offset (now steps) types ≤ mostSteps) ⌝ }
     ensures { λ r. ⌜ ReachedFrom
         (stepsIn (now (steps .entry)) (stepsOf (now (from .entry)) (now (by .entry)) (now (to .entry))) types)
-        (tables .bears) (tables .forward) (tables .live) (root .0) r ⌝ }
+        (tables .bears) (tables .forward) (tables .live) (now (roots .entry)) r ⌝ }
 {
     let starts = starts(steps, types);
-    let first = root.0 as usize;
     let mut reached = [false; TYPES];
-    reached[first] = true;
     let mut queue = [0u8; TYPES];
-    queue[0] = root.0;
-    let mut count = 1;
+    let mut count = join_marked(roots, &mut reached, &mut queue);
     let mut at = 0;
     while at < count {
         let a = queue[at] as usize;
@@ -207,7 +205,7 @@ fn trim_inside(schema: Schema, live: [u32; TYPES]) -> Trimming
     ensures { λ r. ⌜ T (r .inside) × Exact (meaning schema) r ⌝ }
 {
     let types = schema.types as usize;
-    let root = schema.root;
+    let roots = root_types(schema.root, schema.roots);
     let forward = forward_states(
         &schema.from,
         &schema.by,
@@ -228,7 +226,7 @@ fn trim_inside(schema: Schema, live: [u32; TYPES]) -> Trimming
         &schema.steps,
         types,
         tables,
-        root,
+        &roots,
     );
     let bears = bearing_types(live);
     Trimming {

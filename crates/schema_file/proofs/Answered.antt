@@ -7,7 +7,7 @@ use native.Mathlib.Omega.{arith}
 use lib.ListN.{length, getD}
 use Rattle.sdtd.specs.Limits.{leastWitness}
 use Rattle.sdtd.specs.Schema.{Schema as Meaning, WithinLimits}
-use Rattle.sdtd.specs.Trim.{RootBears}
+use Rattle.sdtd.specs.Trim.{SomeRootBears}
 use Rattle.sdtd.specs.Competition.{Competition}
 use Rattle.sdtd.proofs.Verdicts.{same-number, same-place, other-number, refused-not-fine}
 use Rattle.schema.specs.Value.{meaning}
@@ -57,10 +57,10 @@ module _ (file was : List ℕ) where
       unknown-means d = refused-means 7 (getD (unknown g) 0 0) (omega arith) (answered (inl (d, refl)))
 
       module _ (known : unknown g ≡ []) where
-        pub treeless-means : ¬ RootBears (schemaBy g) → FileMeans file was was (refusal 8 0)
+        pub treeless-means : ¬ SomeRootBears (schemaBy g) → FileMeans file was was (refusal 8 0)
         treeless-means d = refused-means 8 0 (omega arith) (answered (inr (known, inl (d, refl))))
 
-        module _ (bears : RootBears (schemaBy g)) where
+        module _ (bears : SomeRootBears (schemaBy g)) where
           pub compete-means : (is : List ℕ) → Written (schemaBy g) was is → FileMeans file was is (refusal 9 0)
           compete-means is w =
               record {
@@ -139,14 +139,14 @@ module _ {file : List ℕ} {v : Schema} (s : Passed file v) (was : List ℕ) (lo
   unchanged-as {a} e n f =
       judged-as e (subst (λ (l : List ℕ). FileMeans file was l (judgedFile v a)) (sym (m .unchanged (λ q. n (sym e ∙ q)))) f)
 
-  treeless : ¬ RootBears (meaning v) → r ≡ RefusedAt 8 0 → FileMeans file was is (judgedFile v r)
+  treeless : ¬ SomeRootBears (meaning v) → r ≡ RefusedAt 8 0 → FileMeans file was is (judgedFile v r)
   treeless n e =
       unchanged-as e (other-number refl (λ z. omega arith))
-      (treeless-means file was long (s .commands-state) (s .known) (λ b. n (subst RootBears (sym (s .value .schema)) b)))
+      (treeless-means file was long (s .commands-state) (s .known) (λ b. n (subst SomeRootBears (sym (s .value .schema)) b)))
 
-  module _ (bears : RootBears (meaning v)) where
-    root-bears : RootBears (schemaBy (s .stated))
-    root-bears = subst RootBears (s .value .schema) bears
+  module _ (bears : SomeRootBears (meaning v)) where
+    root-bears : SomeRootBears (schemaBy (s .stated))
+    root-bears = subst SomeRootBears (s .value .schema) bears
 
     competing : r ≡ RefusedAt 9 0 → FileMeans file was is (judgedFile v r)
     competing e =

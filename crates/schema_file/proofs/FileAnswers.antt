@@ -14,7 +14,7 @@ use Rattle.sdtd.proofs.Answers.{ordered-unique}
 use Rattle.sdtd.proofs.Ambiguity.{competition-is-ambiguity}
 use Rattle.sdtd.proofs.Trimming.{root-bears}
 use Rattle.sdtd.proofs.Verdicts.{refused-not-fine}
-use Rattle.commands.specs.File.{Stated, Commands, stopped, states, commands, schemaBy, unknown, StatesSchema, OnlyOld, mostBytes}
+use Rattle.commands.specs.File.{Stated, Commands, stopped, states, commands, schemaBy, unknown, StatesSchema, OldWithOneRoot, mostBytes}
 use Rattle.schema.specs.Value.{meaning}
 use Rattle.schema.specs.declared.value.Schema.{Schema}
 use Rattle.schema_file.specs.Answer.{afterDone, AnswerBy, AnswerIs, BufferBy, SchemaBy, FileMeans, Demand3File}
@@ -76,12 +76,12 @@ file-ambiguous {file} {was} {is} {r} m x l some =
     subst (λ (R : Meaning). Demand3File R (r .answer)) (x .schema)
     (demanded-of file was is (x .passes) (x .known) l (subst SomeValid (sym (x .schema)) some) (m .answer) (m .buffer))
 
--- an accepted file: it states the schema of the value, which is inside the limits and passes questions 8 and 9, and if it has only
--- old commands it is no longer than 8,389 bytes
+-- an accepted file: it states the schema of the value, which is inside the limits and passes questions 8 and 9, and if it has
+-- one ROOT and only old commands it is no longer than 8,389 bytes
 pub record AcceptedFile (file : List ℕ) (v : Schema) : Type 0 where
   pub states : StatesSchema file (meaning v)
   pub schema : IsAccepted (meaning v)
-  pub short : OnlyOld file → length file ≤ mostBytes
+  pub short : OldWithOneRoot file → length file ≤ mostBytes
 
 accepted-by : (file : List ℕ) (k : Commands) {v : Schema} {a : Verdict} → commands file ≡ k → AnswerBy k a → SchemaBy k v a → a ≡ Fine
     → AcceptedFile file v
@@ -98,7 +98,8 @@ accepted-by file (states g) e (inr (k, inr (b, inr (n, o)))) s q =
       short = λ old. longest file old g e;
     }
 
--- The schema beside an accepting answer is inside question 10's limits and accepted; a file of old commands is no longer than 8,389 bytes.
+-- The schema beside an accepting answer is inside question 10's limits and accepted; a file with one ROOT
+-- and only old commands is no longer than 8,389 bytes.
 pub accepted-file : {file was is : List ℕ} {r : SchemaFile} → FileMeans file was is r → r .answer ≡ Fine → AcceptedFile file (r .schema)
 accepted-file {file} {was} {is} {r} m q = from (m .answer)
   where

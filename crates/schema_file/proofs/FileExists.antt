@@ -12,7 +12,7 @@ use Rattle.sdtd.specs.Competition.{Competition}
 use Rattle.sdtd.proofs.Answers.{Decided, ordered-exists}
 use Rattle.sdtd.proofs.Tests.{to-dec, le-means}
 use Rattle.sdtd.proofs.Verdicts.{other-number, refused-not-fine}
-use Rattle.sdtd.proofs.Decide.{root-bears-means}
+use Rattle.sdtd.proofs.Roots.{some-root-bears-means}
 use Rattle.sdtd.proofs.LiveStates.{live-table}
 use Rattle.sdtd.proofs.Competing.{competition-decided}
 use Rattle.sdtd.proofs.Witnesses.{witness-exists}
@@ -37,7 +37,7 @@ after-decided : (g : Stated) → Decided (afterDone g) (λ b. b ≡ Fine)
 after-decided g = (
   none-decided (unknown g),
   λ k. (
-    to-dec (root-bears-means (live-table (schemaBy g) .1)),
+    to-dec (some-root-bears-means (live-table (schemaBy g) .1)),
     λ b. (restrained-decided (schemaBy g), λ n. (Fine, refl)),
   ),
 )

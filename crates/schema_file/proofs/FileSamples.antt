@@ -7,7 +7,7 @@ use native.Mathlib.Omega.{arith}
 use lib.ListN.{length, drop}
 use Rattle.sdtd.specs.Limits.{leastWitness}
 use Rattle.sdtd.specs.Schema.{Schema}
-use Rattle.sdtd.specs.Trim.{RootBears}
+use Rattle.sdtd.specs.Trim.{SomeRootBears}
 use Rattle.sdtd.specs.Competition.{Competition, Witness}
 use Rattle.sdtd.specs.Competition.{Accepted as IsAccepted}
 use Rattle.sdtd.proofs.Basics.{_&_}
@@ -52,11 +52,11 @@ module _ {file : List ℕ} {S : Schema} (x : StatesSchema file S) (was : List �
   by-buffer : {is : List ℕ} {a : Verdict} → BufferBy (states (x .stated)) was is a → BufferBy (commands file) was is a
   by-buffer {is} {a} y = subst (λ (k : Commands). BufferBy k was is a) (sym (x .passes)) y
 
-  bears : RootBears S → RootBears (schemaBy (x .stated))
-  bears b = subst RootBears (sym (x .schema)) b
+  bears : SomeRootBears S → SomeRootBears (schemaBy (x .stated))
+  bears b = subst SomeRootBears (sym (x .schema)) b
 
-  none-bears : ¬ RootBears S → ¬ RootBears (schemaBy (x .stated))
-  none-bears n b = n (subst RootBears (x .schema) b)
+  none-bears : ¬ SomeRootBears S → ¬ SomeRootBears (schemaBy (x .stated))
+  none-bears n b = n (subst SomeRootBears (x .schema) b)
 
   accepted-file : IsAccepted S → AnswerIs file was Fine × BufferBy (commands file) was was Fine
   accepted-file a = (
@@ -65,10 +65,10 @@ module _ {file : List ℕ} {S : Schema} (x : StatesSchema file S) (was : List �
     (λ e. refused-not-fine e refl, λ n. refl),
   )
 
-  treeless-file : ¬ RootBears S → AnswerIs file was (RefusedAt 8 0) × BufferBy (commands file) was was (RefusedAt 8 0)
+  treeless-file : ¬ SomeRootBears S → AnswerIs file was (RefusedAt 8 0) × BufferBy (commands file) was was (RefusedAt 8 0)
   treeless-file n = (by-schema (inr (x .known, inl (none-bears n, refl))), buffer-same (commands file) was 8 0 (omega arith))
 
-  competing-file : {bytes : List ℕ} → RootBears S → Witness S bytes
+  competing-file : {bytes : List ℕ} → SomeRootBears S → Witness S bytes
       → AnswerIs file was (RefusedAt 9 0) × BufferBy (commands file) was (bytes ++ drop (length bytes) was) (RefusedAt 9 0)
   competing-file {bytes} b w = (
     by-schema (inr (x .known, inr (bears b, inl (λ n. n (subst Competition (sym (x .schema)) (witness-competes w)), refl)))),

@@ -1,4 +1,4 @@
--- The longest file of old commands is accepted.
+-- The longest file with one ROOT and only old commands is accepted.
 use mathlib.Core.Path.{_≡_, refl, sym, subst}
 use mathlib.Core.Logic.{inr}
 use mathlib.Core.List.{List}

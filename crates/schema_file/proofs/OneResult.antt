@@ -6,15 +6,16 @@ use native.Mathlib.Decide.{decLt}
 use native.Mathlib.Omega.{arith}
 use lib.ListN.{length, getD}
 use lib.Seq.{ext-getD}
-use Rattle.sdtd.specs.Limits.{mostTypes, mostSteps, mostStates}
+use Rattle.sdtd.specs.Limits.{mostTypes, mostRoots, mostSteps, mostStates}
 use Rattle.sdtd.specs.Schema.{Step, Block, blockOf}
 use Rattle.sdtd.specs.Schema.{Schema as Meaning}
 use Rattle.sdtd.proofs.Verdicts.{refused-not-fine}
 use Rattle.schema.specs.States.{members}
-use Rattle.schema.specs.Value.{stepAt, stepsOf, offset, blockAt, meaning}
+use Rattle.schema.specs.Value.{stepAt, stepsOf, offset, blockAt, rootsOf, meaning}
 use Rattle.schema.specs.declared.value.Schema.{Schema}
 use Rattle.schema.proofs.Bits.{same-members, mem-members}
-use Rattle.schema.proofs.Values.{steps-cons, steps-count, offset-step, types-count, block-of}
+use Rattle.schema.proofs.Values.{steps-cons, steps-count, offset-step, map-up, types-count, block-of}
+use Rattle.schema.proofs.RootLaws.{roots-count}
 use Rattle.commands.specs.File.{Commands, stopped, states, commands}
 use Rattle.commands.specs.Value.{EmptyFrom, UnusedEmpty, StatedValue}
 use Rattle.schema_file.specs.Answer.{OfStated, FileMeans}
@@ -25,6 +26,7 @@ use Rattle.schema_file.proofs.FileAnswers.{file-unique}
 
 -- what a value's type in the source says of it: the lengths of its tables, and that a set of states has 32 bits
 pub record Shaped (v : Schema) : Type 0 where
+  pub root : length (v .root) ≡ mostRoots
   pub tag : length (v .tag) ≡ mostTypes
   pub states : length (v .states) ≡ mostTypes
   pub accepting : length (v .accepting) ≡ mostTypes
@@ -104,6 +106,24 @@ module _ {v w : Schema} (same : meaning v ≡ meaning w) (k : Shaped v) (l : Sha
       same-table (offset (v .steps) (v .types)) p q (m ∙ sym n) x (rw (steps, types) y)
       (λ i b. sym (g i) ∙ ap part (step-at (v .types) (omega arith) i b) ∙ h i)
 
+  -- the roots, in order
+  roots : v .roots ≡ w .roots
+  unfolding meaning
+  roots =
+      sym (roots-count (v .root) (v .roots)) ∙ ap (λ (S : Meaning). length (S .roots)) same ∙ roots-count (w .root) (w .roots)
+
+  root-at : (i : ℕ) → i < v .roots → getD (v .root) i 0 ≡ getD (w .root) i 0
+  unfolding meaning rootsOf
+  root-at i b =
+      let e : 0 + i ≡ i = omega arith in
+      rw e at
+      (sym (map-up (λ n. getD (v .root) n 0) 0 0 (v .roots) i b)
+      ∙ ap (λ (S : Meaning). getD (S .roots) i 0) same
+      ∙ map-up (λ n. getD (w .root) n 0) 0 0 (w .roots) i (omega (arith, roots)))
+
+  root : v .root ≡ w .root
+  root = same-table (v .roots) (v .root) (w .root) (k .root ∙ sym (l .root)) (e .root) (rw roots (f .root)) root-at
+
   -- two values that state the same schema and are empty where it does not reach
   pub same-value : v ≡ w
   unfolding meaning blockAt
@@ -111,7 +131,8 @@ module _ {v w : Schema} (same : meaning v ≡ meaning w) (k : Shaped v) (l : Sha
       record {
         tags = same i .tags;
         types = types i;
-        root = record { 0 = same i .root };
+        roots = roots i;
+        root = root i;
         tag = of-types (v .tag) (w .tag) (k .tag) (l .tag) (e .tag) (f .tag) (λ a b. ap (λ (x : Block). x .tag) (block a b)) i;
         states =
             of-types (v .states) (w .states) (k .states) (l .states) (e .states) (f .states)

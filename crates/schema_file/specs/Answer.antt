@@ -15,8 +15,8 @@ use Rattle.sdtd.specs.declared.Verdict.{Verdict}
 use Rattle.sdtd.specs.declared.Verdict.the-variants.{Fine, RefusedAt}
 use Rattle.schema_file.specs.declared.file.SchemaFile.{SchemaFile}
 
--- "After DONE": "Does each STEP name a type that was given? No: 7, at the first that does not." "[Q]uestion 7 covers each 32." "Does the
--- root type bear a tree? No: 8, place 0." "Is there no competition? No: 9, place 0."
+-- "After DONE": "Does each STEP name a type that was given? No: 7, at the first that does not." "[Q]uestion 7 covers each 32." "The root
+-- question (8) holds if any root bears a tree": "No: 8, place 0." "Is there no competition? No: 9, place 0."
 abbrev pub afterDone : Stated → List (Question Verdict)
 afterDone g =
     knownAsked (λ p. verdictIn (refused-at 7 p)) (unknown g)

@@ -7,10 +7,10 @@ use native.Mathlib.Omega.{arith}
 use lib.ListN.{length, getD, List·getD-append}
 use lib.Seq.{getD-at}
 use Rattle.sdtd.specs.Schema.{Schema, blockOf, tagOf, Word}
-use Rattle.sdtd.specs.Tree.{empty}
+use Rattle.sdtd.specs.Tree.{empty, IsRoot}
 use Rattle.sdtd.specs.Document.{Event, opening, streams, openings, Valid, typeAt, BeginningOf, Ambiguous}
 use Rattle.sdtd.specs.Trim.{Bears, AllBear, Reached, root, child, Used, Useful}
-use Rattle.sdtd.specs.Competition.{GoesOn, Competition}
+use Rattle.sdtd.specs.Competition.{GoesOn, Competition, of-roots, in-type}
 use Rattle.sdtd.proofs.Automata.{all-front, all-back, all-head, all-tail, around}
 use Rattle.sdtd.proofs.Bearing.{grow}
 use Rattle.sdtd.proofs.Trees.{opened, opened-append, length-opened, openings-relabel, openings-append}
@@ -107,26 +107,35 @@ branch {S} {w = w} x {τ} r g =
     let s = inner (bears-future (c .bears)) (inner (candidate-future c) (x .suspended)) in
     record { rest = todo s; run = run-append (run-append (x .run) r) (move opens (suspended-run s)) }
 
--- Item 1, from left to right.
-pub competition-ambiguous : {S : Schema} → Competition S → Ambiguous S
-competition-ambiguous {S} k =
-    let c = k .compete-in .compete in
-    let j = k .compete-in .first in
-    let x = context (c .reached) in
-    let r = read-word (x .frames) (all-front (k .compete-in .word) (j ∷ c .goes-on-j .rest) (c .goes-on-j .bear)) in
-    let τ = x .events ++ r .0 in
-    let y = branch x (r .1) (c .goes-on-j) in
-    let z = branch x (r .1) (c .goes-on-k) in
+-- two whole typed documents that open j and k of one tag after the same events
+branches-ambiguous : {S : Schema} {τ : List Event} {j k : ℕ} → j < k → tagOf S j ≡ tagOf S k → Branch S τ j → Branch S τ k → Ambiguous S
+branches-ambiguous {S} {τ} {j} {k} order one-tag y z =
     record {
       document₁ = tagged S (τ ++ (opening j ∷ y .rest));
-      document₂ = tagged S (τ ++ (opening (k .compete-in .second) ∷ z .rest));
+      document₂ = tagged S (τ ++ (opening k ∷ z .rest));
       valid₁ = branch-valid y .valid;
       valid₂ = branch-valid z .valid;
       before = tagged S τ;
       tag = tagOf S j;
-      agree = record { first = branch-begins y; second = rw (c .one-tag) (branch-begins z) };
-      differ = λ e. let q = sym (branch-type y) ∙ e ∙ branch-type z in omega (arith, c .order);
+      agree = record { first = branch-begins y; second = rw one-tag (branch-begins z) };
+      differ = λ e. let q = sym (branch-type y) ∙ e ∙ branch-type z in omega (arith, order);
     }
+
+-- a whole typed document of a tree-bearing root type
+root-branch : {S : Schema} {j : ℕ} → IsRoot S j → Bears S j → Branch S [] j
+unfolding context
+root-branch r b = let t = whole-run (context (root r)) b in record { rest = t .0; run = t .1 }
+
+-- Item 1, from left to right.
+pub competition-ambiguous : {S : Schema} → Competition S → Ambiguous S
+competition-ambiguous (of-roots k) =
+    let c = k .compete in
+    branches-ambiguous (c .order) (c .one-tag) (root-branch (c .is-root-j) (c .bears-j)) (root-branch (c .is-root-k) (c .bears-k))
+competition-ambiguous (in-type k) =
+    let c = k .compete in
+    let x = context (c .reached) in
+    let r = read-word (x .frames) (all-front (k .word) (k .first ∷ c .goes-on-j .rest) (c .goes-on-j .bear)) in
+    branches-ambiguous (c .order) (c .one-tag) (branch x (r .1) (c .goes-on-j)) (branch x (r .1) (c .goes-on-k))
 
 -- the type at a place that the position has read
 known-type : {S : Schema} (e : List Event) (g : ℕ) {d : List Event} {fs : List Frame} {v : Valid S d} {r : List Event}

@@ -3,8 +3,8 @@ use mathlib.Core.Path.{_≡_, refl, sym, subst}
 use mathlib.Core.List.{List, _∷_}
 use Prim.Native.Nat.{ℕ}
 use Rattle.sdtd.specs.Schema.{Schema, blockOf, Word}
-use Rattle.sdtd.specs.Tree.{Tree, Forest, node, empty, more, label, labels, Derived, DerivedAll}
-use Rattle.sdtd.specs.Trim.{Bears, none, both, AllBear}
+use Rattle.sdtd.specs.Tree.{Tree, Forest, node, empty, more, label, labels, IsRoot, Derived, DerivedAll}
+use Rattle.sdtd.specs.Trim.{Bears, SomeRootBears, none, both, AllBear}
 
 -- a derived forest whose roots have the types of w
 pub record Grows (S : Schema) (w : List ℕ) : Type 0 where
@@ -24,6 +24,10 @@ grow (both b a) =
 
 pub tree-bears : {S : Schema} (t : Tree) → Derived S t → Bears S (label t)
 tree-bears t d = record { tree = t; at-root = refl; derived = d }
+
+-- the tree that a root type bears has a root type at its root
+pub root-label : {S : Schema} (r : SomeRootBears S) → IsRoot S (label (r .bears .tree))
+root-label {S} r = subst (IsRoot S) (sym (r .bears .at-root)) (r .is-root)
 
 pub forest-bears : {S : Schema} (f : Forest) → DerivedAll S f → AllBear S (labels f)
 forest-bears empty d = none

@@ -12,7 +12,7 @@ use Rattle.sdtd.proofs.Machine.{Owner, top, own}
 use Rattle.sdtd.proofs.Follow.{Candidate}
 use Rattle.sdtd.proofs.Next.{candidate-outside}
 use Rattle.sdtd.proofs.Tests.{Means, eq-means, and-means, Found, collect, collect-mem, memb, memb-means}
-use Rattle.sdtd.proofs.Decide.{rootTypes, root-types, LiveTable, inTable, bearsIn, LiveExact, statesAfter, start-after}
+use Rattle.sdtd.proofs.Decide.{LiveTable, inTable, bearsIn, LiveExact, statesAfter, start-after}
 
 -- the step of the type a leaves a state of the list, by a tree-bearing type of tag g, for a live state
 abbrev openingTest : Schema → LiveTable → ℕ → List ℕ → ℕ → Step → Bool
@@ -20,7 +20,7 @@ openingTest S L a ps g s = (memb (s .from) ps && eqb (tagOf S (s .by)) g) && (be
 
 -- the types of tag g that can come next after the children w of the owner
 abbrev pub openingTypes : Schema → LiveTable → Owner → List ℕ → ℕ → List ℕ
-openingTypes S L top [] g = collect (λ j. eqb (tagOf S j) g && bearsIn S L j) (λ j. j) (rootTypes S)
+openingTypes S L top [] g = collect (λ j. eqb (tagOf S j) g && bearsIn S L j) (λ j. j) (S .roots)
 openingTypes S L top (j ∷ w) g = []
 openingTypes S L (own a) w g = collect (openingTest S L a (statesAfter (blockOf S a) (0 ∷ []) w) g) (λ s. s .by) (blockOf S a .steps)
 
@@ -75,13 +75,13 @@ candidate-opening {S} a w {j = j} c =
 pub opening-types : {S : Schema} {L : LiveTable} → LiveExact S L → (o : Owner) (w : List ℕ) (g j : ℕ)
     → List·Memᴰ j (openingTypes S L o w g) ↔ ((tagOf S j ≡ g) × Candidate S o w j)
 opening-types {S} x top [] g j =
-    let m = collect-mem (λ i. and-means (eq-means (tagOf S i) g) (x .bears i)) (λ i. i) (rootTypes S) j in (
+    let m = collect-mem (λ i. and-means (eq-means (tagOf S i) g) (x .bears i)) (λ i. i) (S .roots) j in (
       λ h.
           let f = m .0 h in
-          rw (f .holds .1) (f .holds .0 .0, candidate-outside .1 (refl, root-types S (f .member) .0 (f .given), f .holds .0 .1)),
+          rw (f .holds .1) (f .holds .0 .0, candidate-outside .1 (refl, f .given, f .holds .0 .1)),
       λ c.
           let o = candidate-outside .0 (c .1) in
-          m .1 (record { member = j; given = root-types S j .1 (o .1); holds = ((c .0, o .2), refl) }),
+          m .1 (record { member = j; given = o .1; holds = ((c .0, o .2), refl) }),
     )
 opening-types x top (i ∷ w) g j = (λ h. absurd (List·Memᴰ·not-nil h), λ c. absurd (cons≢nil (candidate-outside .0 (c .1) .0)))
 opening-types {S} x (own a) w g j =

@@ -1,12 +1,14 @@
 -- It is decided in which types two types compete, so whether there is competition in a schema at all.
 use mathlib.Core.Path.{_≡_}
-use mathlib.Core.Logic.{_↔_, _⊎_, _≢_}
+use mathlib.Core.Logic.{_↔_, _⊎_, inl, inr, _≢_}
 use Prim.Native.Nat.{ℕ}
 use Rattle.sdtd.specs.Schema.{Step, step, Schema, blockOf, tagOf}
 use Rattle.sdtd.specs.Trim.{Bears, Live, Useful}
-use Rattle.sdtd.specs.Competition.{CompeteIn, Competition}
+use Rattle.sdtd.specs.Competition.{CompeteIn, CompeteOutside, Competition, of-roots, in-type}
 use Rattle.sdtd.proofs.Rivals.{RivalsIn, compete-in-exact}
-use Rattle.sdtd.proofs.Tests.{means-iff, Decision, decision, decided, eq-means, and-means, not-means, Found, any-means, memb-means}
+use Rattle.sdtd.proofs.Tests.{means-iff, Decision, decision, decided, eq-means, and-means, or-means, not-means, Found, any-means}
+use Rattle.sdtd.proofs.Tests.{memb-means}
+use Rattle.sdtd.proofs.Roots.{rival-roots-means}
 use Rattle.sdtd.proofs.LiveStates.{live-table}
 use Rattle.sdtd.proofs.StatePairs.{pair-table}
 use Rattle.sdtd.proofs.ReachedTypes.{reached-table, useful-decided}
@@ -87,17 +89,24 @@ competes S a = decision (means-iff (rivals-decided S a (λ p q. decision (pair-t
 pub compete-decided : (S : Schema) (a : ℕ) → CompeteIn S a ⊎ (¬ CompeteIn S a)
 compete-decided S a = decided (competes S a .1)
 
+pub outside-decided : (S : Schema) → CompeteOutside S ⊎ (¬ CompeteOutside S)
+outside-decided S = decided (rival-roots-means (live-table S .1))
+
 -- a type in which two compete is reached, so it is in the table of those
+competition-found : (S : Schema) → Competition S ↔ (CompeteOutside S ⊎ Found (CompeteIn S) (reached-table S .0))
+competition-found S = (there, back)
+  where
+    there : Competition S → CompeteOutside S ⊎ Found (CompeteIn S) (reached-table S .0)
+    there (of-roots o) = inl o
+    there (in-type {a = a} c) =
+        let t = reached-table S in
+        inr (record { member = a; given = memb-means a (t .0) .says (t .1 a .passes (c .compete .reached)); holds = c })
+
+    back : CompeteOutside S ⊎ Found (CompeteIn S) (reached-table S .0) → Competition S
+    back (inl o) = of-roots o
+    back (inr f) = in-type (f .holds)
+
 pub competition-decided : (S : Schema) → Competition S ⊎ (¬ Competition S)
 competition-decided S =
-    let t = reached-table S in
-    let found : Competition S ↔ Found (CompeteIn S) (t .0) = (
-      λ c.
-          record {
-            member = c .type;
-            given = memb-means (c .type) (t .0) .says (t .1 (c .type) .passes (c .compete-in .compete .reached));
-            holds = c .compete-in;
-          },
-      λ f. record { type = f .member; compete-in = f .holds },
-    ) in
-    decided (means-iff (any-means (λ a. competes S a .1) (t .0)) found)
+    let in-types = any-means (λ a. competes S a .1) (reached-table S .0) in
+    decided (means-iff (or-means (rival-roots-means (live-table S .1)) in-types) (competition-found S))

@@ -8,9 +8,8 @@ use Prim.Native.Nat.{ℕ, zero, suc}
 use lib.ListN.{getD}
 use lib.Dec.{T, eqb}
 use Rattle.sdtd.specs.Schema.{Step, step, Block, Schema, noBlock, blockOf, tagOf, Leads, stay, go, Word}
-use Rattle.sdtd.specs.Tree.{IsRoot}
-use Rattle.sdtd.specs.Trim.{Bears, RootBears, Live}
-use Rattle.sdtd.specs.Competition.{Competition}
+use Rattle.sdtd.specs.Trim.{Bears, Live}
+use Rattle.sdtd.specs.Competition.{CompeteIn}
 use Rattle.sdtd.proofs.Fixpoint.{Starts, starts-map, LiveClosed, live-closed, live-exact, bears-exact, PairClosed}
 use Rattle.sdtd.proofs.Rivals.{RivalSteps, no-rivals}
 use Rattle.sdtd.proofs.Tests.{Means, means-iff, itself, eq-means, and-means, or-means, _⇒_, if-means, Found, every, any}
@@ -19,13 +18,6 @@ use Rattle.sdtd.proofs.Tests.{every-means, any-means, collect, collect-
 -- a table of live states: each entry is a type and one of its states
 abbrev pub LiveTable : Type 0
 LiveTable = List (ℕ × ℕ)
-
--- the types that the root may have
-abbrev pub rootTypes : Schema → List ℕ
-rootTypes S = S .root ∷ []
-
-pub root-types : (S : Schema) (a : ℕ) → List·Memᴰ a (rootTypes S) ↔ IsRoot S a
-root-types S a = (List·Memᴰ·eq-of-singleton, List·Memᴰ·head)
 
 -- the pair is in the list: the state q of the type a in a table, or the states of a pair
 abbrev pub inTable : LiveTable → ℕ → ℕ → Bool
@@ -136,13 +128,6 @@ table-closed S L t =
 pub record LiveExact (S : Schema) (L : LiveTable) : Type 0 where
   pub live : (a q : ℕ) → Means (inTable L a q) (Live S a q)
   pub bears : (a : ℕ) → Means (bearsIn S L a) (Bears S a)
-
--- by the table, the root type bears a tree
-abbrev pub rootBears : Schema → LiveTable → Bool
-rootBears S L = bearsIn S L (S .root)
-
-pub root-bears-means : {S : Schema} {L : LiveTable} → LiveExact S L → Means (rootBears S L) (RootBears S)
-root-bears-means {S} x = x .bears (S .root)
 
 -- a sound and closed table has exactly those
 pub table-exact : {S : Schema} {L : LiveTable} → LiveClosed S (In L) → ((a q : ℕ) → In L a q → Live S a q) → LiveExact S L
@@ -266,12 +251,9 @@ restrained-means x ps a b =
     (b .steps)
 
 pub restrained-check : {S : Schema} {L : LiveTable} → LiveExact S L → (pairs : List (List (ℕ × ℕ))) → T (restrained S L pairs)
-    → ¬ Competition S
-restrained-check {S} x pairs t c = no-rivals closed free (c .compete-in)
+    → (a : ℕ) → ¬ CompeteIn S a
+restrained-check {S} x pairs t a c = no-rivals closed free c
   where
-    a : ℕ
-    a = c .type
-
     ps : List (ℕ × ℕ)
     ps = pairsOf pairs a
 

@@ -127,7 +127,7 @@ goes-on {S} {a} {j} {w} = (passes, joined)
           bear = all-append (p .bear) (both (p .by-bearing) (p .to-live .bear));
         }
 
--- P holds for the root type, and for the type of each step in a word over tree-bearing types of a type that has it.
+-- P holds for the root types, and for the type of each step in a word over tree-bearing types of a type that has it.
 pub record ReachedClosed (S : Schema) (P : ℕ → Type 0) : Type 0 where
   pub root : (a : ℕ) → IsRoot S a → P a
   pub step :

@@ -1,6 +1,6 @@
 -- Following: a typed reading of some events, and any typed document whose tags begin with them: either types compete, or the document's
 -- typed events begin with that very reading.
-use mathlib.Core.Path.{_≡_, refl, sym, subst, _∙_}
+use mathlib.Core.Path.{_≡_, refl, sym, subst}
 use mathlib.Core.Logic.{_⊎_, inl, inr, ⊎-elim}
 use mathlib.Core.List.{List, [], _∷_, _++_, append-assoc, cons≢nil, head-eq-of-cons-eq, tail-eq-of-cons-eq}
 use mathlib.Core.List.{Memᴰ·append-right}
@@ -12,7 +12,7 @@ use Rattle.sdtd.specs.Schema.{Schema, tagOf}
 use Rattle.sdtd.specs.Tree.{labels, IsRoot}
 use Rattle.sdtd.specs.Document.{Event, opening}
 use Rattle.sdtd.specs.Trim.{Bears, none, both, AllBear, Reached, root, child}
-use Rattle.sdtd.specs.Competition.{GoesOn, Competition}
+use Rattle.sdtd.specs.Competition.{GoesOn, Competition, of-roots, in-type}
 use Rattle.sdtd.proofs.Automata.{all-append, all-back, all-head, all-tail}
 use Rattle.sdtd.proofs.Bearing.{grow, forest-bears, word-bears, bears-word}
 use Rattle.sdtd.proofs.Trees.{relabelEvent}
@@ -96,42 +96,47 @@ goes-on-candidate {w = w} g =
     let b = all-back w (g .bear) in
     record { rest = g .rest; fills = g .word; bears = all-head b; bear = all-tail b }
 
-in-order : {S : Schema} {a : ℕ} {w : List ℕ} {j k : ℕ} → Reached S a → AllBear S w → Candidate S (own a) w j → Candidate S (own a) w k
+in-order : {S : Schema} (o : Owner) {w : List ℕ} {j k : ℕ} → Origin S o → AllBear S w → Candidate S o w j → Candidate S o w k
     → tagOf S j ≡ tagOf S k → j < k → Competition S
-in-order {a = a} {w = w} {j = j} {k = k} r b c d e l =
-    let x = candidate-goes-on b c in
-    record {
-      type = a;
-      compete-in =
+in-order top {j = j} {k = k} r b c d e l =
+    of-roots (record {
+      first = j;
+      second = k;
+      compete =
           record {
-            word = w;
-            first = j;
-            second = k;
-            compete =
-                record {
-                  reached = r;
-                  bears = word-bears a (x .word) (x .bear);
-                  order = l;
-                  one-tag = e;
-                  goes-on-j = x;
-                  goes-on-k = candidate-goes-on b d;
-                };
+            order = l;
+            one-tag = e;
+            is-root-j = root-candidate c .1;
+            is-root-k = root-candidate d .1;
+            bears-j = c .bears;
+            bears-k = d .bears;
           };
-    }
-
--- the root may have one type only
-one-root-type : (S : Schema) {j k : ℕ} → IsRoot S j → IsRoot S k → j ≡ k
-one-root-type S r s = r ∙ sym s
+    })
+in-order (own a) {w} {j} {k} r b c d e l =
+    let x = candidate-goes-on b c in
+    in-type (record {
+      word = w;
+      first = j;
+      second = k;
+      compete =
+          record {
+            reached = r;
+            bears = word-bears a (x .word) (x .bear);
+            order = l;
+            one-tag = e;
+            goes-on-j = x;
+            goes-on-k = candidate-goes-on b d;
+          };
+    })
 
 -- Two candidates of one tag at one place are the same, or types compete.
 pub one-candidate : {S : Schema} (o : Owner) {w : List ℕ} {j k : ℕ} → Origin S o → AllBear S w → Candidate S o w j → Candidate S o w k
     → tagOf S j ≡ tagOf S k → Competition S ⊎ (j ≡ k)
-one-candidate {S} top r b c d e = inr (one-root-type S (root-candidate c .1) (root-candidate d .1))
-one-candidate {S} (own a) {w} {j} {k} r b c d e = by-order (decLt j k) (decLt k j)
+one-candidate {S} o {w} {j} {k} r b c d e = by-order (decLt j k) (decLt k j)
   where
     by-order : Dec (j < k) → Dec (k < j) → Competition S ⊎ (j ≡ k)
-    by-order (yes l) g = inl (in-order r b c d e l)
-    by-order (no n) (yes g) = inl (in-order r b d c (sym e) g)
+    by-order (yes l) g = inl (in-order o r b c d e l)
+    by-order (no n) (yes g) = inl (in-order o r b d c (sym e) g)
     by-order (no n) (no m) = inr (omega arith)
 
 -- two moves from the same frames are the same

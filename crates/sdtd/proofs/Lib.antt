@@ -29,6 +29,7 @@ pub mod Occurring
 pub mod Trimmer
 pub mod Within
 pub mod Decide
+pub mod Roots
 pub mod LiveStates
 pub mod StatePairs
 pub mod ReachedTypes

@@ -12,11 +12,12 @@ use Rattle.sdtd.specs.Limits.{mostLevels}
 use Rattle.sdtd.specs.Schema.{Schema, blockOf, tagOf}
 use Rattle.sdtd.specs.Tree.{empty, more}
 use Rattle.sdtd.specs.Document.{Event, opening, closing, finish, Begins}
-use Rattle.sdtd.specs.Trim.{RootBears}
+use Rattle.sdtd.specs.Trim.{SomeRootBears}
 use Rattle.sdtd.specs.Competition.{Competition, Accepted}
 use Rattle.sdtd.specs.Answer.{Question, Answer, refused, typed, taken, ask, Ordered}
 use Rattle.sdtd.specs.Reading.{depth, innermost, ChildrenFormWord, RootClosed, questions, TakenAnswer, Right}
 use Rattle.sdtd.specs.Calls.{Exchange, ifTaken, eventsTaken, RightCalls}
+use Rattle.sdtd.proofs.Bearing.{root-label}
 use Rattle.sdtd.proofs.Machine.{Owner, top, own, one-root, Frame, frame, start, Suspended, outer, inner}
 use Rattle.sdtd.proofs.Follow.{Candidate}
 use Rattle.sdtd.proofs.Position.{Position, SomePosition, first-position, open-position, close-position, end-position}
@@ -149,9 +150,11 @@ module _ {S : Schema} {L : LiveTable} (free : ¬ Competition S) (exact : LiveExa
       → Position S (e ++ ifTaken (model S L e fs x) x) (framesAfter (model S L e fs x) fs)
   model-next p x = model-answered p x .next
 
--- nothing is read, and the root type bears a tree
-pub fresh-position : {S : Schema} → RootBears S → Position S [] start
-fresh-position b = first-position (outer (record { forest = more (b .tree) empty; derived = (b .derived, tt); fills = one-root (b .at-root) }))
+-- nothing is read, and a root type bears a tree
+pub fresh-position : {S : Schema} → SomeRootBears S → Position S [] start
+fresh-position r =
+    let b = r .bears in
+    first-position (outer (record { forest = more (b .tree) empty; derived = (b .derived, tt); fills = one-root (root-label r) }))
 
 -- an answer as two numbers: its kind and what it carries
 abbrev kind : Answer → ℕ

@@ -1,6 +1,6 @@
 -- Every schema has an exact table of its reached types, so its useful types are decided, and it has a trimmed schema.
 use mathlib.Core.Path.{_≡_, refl, sym, subst}
-use mathlib.Core.Logic.{_⊎_, inl, inr, Iff·symm}
+use mathlib.Core.Logic.{_⊎_, inl, inr}
 use mathlib.Core.List.{List, _++_, map, List·Memᴰ, Memᴰ·append-left, Memᴰ·append-right, Memᴰ·map}
 use Prim.Native.Nat.{ℕ}
 use Rattle.sdtd.specs.Schema.{Step, Block, Schema, blockOf}
@@ -12,7 +12,7 @@ use Rattle.sdtd.proofs.Tests.{memb, memb-means}
 use Rattle.sdtd.proofs.Trimmer.{tests-trim}
 use Rattle.sdtd.proofs.Saturate.{built-sound, Saturated, saturate}
 use Rattle.sdtd.proofs.Occurring.{gather, gathered}
-use Rattle.sdtd.proofs.Decide.{rootTypes, root-types, inTable, bearsIn}
+use Rattle.sdtd.proofs.Decide.{inTable, bearsIn}
 use Rattle.sdtd.proofs.LiveStates.{live-table}
 use Rattle.sdtd.proofs.StatePairs.{forward-decided}
 
@@ -26,21 +26,20 @@ stands-in S j a s =
     let by-bearing = and-means (eq-means j (s .by)) (x .bears (s .by)) in
     decision (and-means by-bearing (and-means (forward-decided S a (s .from) .1) (x .live a (s .to))))
 
--- the root may have the type j, or a type of the table has such a step
+-- j is a root type, or a type of the table has such a step
 abbrev Derives : Schema → List ℕ → ℕ → Type 0
 Derives S t j = IsRoot S j ⊎ Found (λ a. Found (StandsIn S j a) (blockOf S a .steps)) t
 
 derives : (S : Schema) (t : List ℕ) (j : ℕ) → Decision (Derives S t j)
 derives S t j =
-    let is-root = means-iff (memb-means j (rootTypes S)) (Iff·symm (root-types S j)) in
-    decision (or-means is-root (any-means (λ a. any-means (λ s. stands-in S j a s .1) (blockOf S a .steps)) t))
+    decision (or-means (memb-means j (S .roots)) (any-means (λ a. any-means (λ s. stands-in S j a s .1) (blockOf S a .steps)) t))
 
 abbrev stepTypes : ℕ → Block → List ℕ
 stepTypes a b = map (λ s. s .by) (b .steps)
 
--- the types that the root may have, and the types of all steps
+-- the root types, and the types of all steps
 abbrev occurringTypes : Schema → List ℕ
-occurringTypes S = rootTypes S ++ gather stepTypes (S .blocks)
+occurringTypes S = S .roots ++ gather stepTypes (S .blocks)
 
 -- what is derived from reached types is reached
 derived-reached : (S : Schema) (t : List ℕ) (j : ℕ) → ((a : ℕ) → List·Memᴰ a t → Reached S a) → Derives S t j → Reached S j
@@ -57,10 +56,10 @@ module _ (S : Schema) (r : Saturated (λ t j. derives S t j .0) (occurringTypes 
   closed =
       let m = derives S (r .table) in
       record {
-        root = λ a e. r .closed a (Memᴰ·append-left (gather stepTypes (S .blocks)) (root-types S a .1 e)) (m a .1 .passes (inl e));
+        root = λ a e. r .closed a (Memᴰ·append-left (gather stepTypes (S .blocks)) e) (m a .1 .passes (inl e));
         step = λ a s h k f b l.
             r .closed (s .by)
-            (Memᴰ·append-right (rootTypes S) (gathered stepTypes (λ n. refl) (S .blocks) a (Memᴰ·map (λ s. s .by) k)))
+            (Memᴰ·append-right (S .roots) (gathered stepTypes (λ n. refl) (S .blocks) a (Memᴰ·map (λ s. s .by) k)))
             (m (s .by) .1 .passes (inr (record {
               member = a;
               given = h;

@@ -1,31 +1,46 @@
--- The schemas of the starred samples: which are accepted, which types compete in the others, and which bears no tree.
+-- The schemas of the samples: which are accepted, which types or roots compete in the others, and which bears no tree.
 use mathlib.Core.Path.{_≡_, refl, ap}
-use mathlib.Core.Bool.{Bool, _&&_}
-use mathlib.Core.List.{List, [], _∷_, _++_}
+use mathlib.Core.Bool.{Bool, not, _&&_}
+use mathlib.Core.List.{List, [], _∷_, _++_, List·Memᴰ·head, List·Memᴰ·tail}
 use Prim.Native.Nat.{ℕ, _≤_, _<_}
 use native.Mathlib.Omega.{arith}
 use lib.ListN.{length}
 use lib.Dec.{T, lit<, lit≤}
 use Rattle.sdtd.specs.Limits.{mostWord}
-use Rattle.sdtd.specs.Schema.{Schema, blockOf, tagOf}
+use Rattle.sdtd.specs.Schema.{Schema, blockOf, tagOf, WithinLimits}
 use Rattle.sdtd.specs.Tree.{IsRoot}
-use Rattle.sdtd.specs.Trim.{AllBear, none, both, root}
-use Rattle.sdtd.specs.Competition.{GoesOn, Compete, Accepted, witnessBytes}
+use Rattle.sdtd.specs.Trim.{SomeRootBears, AllBear, none, both, root}
+use Rattle.sdtd.specs.Competition.{GoesOn, Compete, CompeteIn, CompeteOutside, Competition, of-roots, in-type, witnessBytes, by-roots, by-types}
+use Rattle.sdtd.specs.Competition.{Accepted}
 use Rattle.sdtd.specs.Samples.{schemaR, schemaChoice, schemaNoD, schemaTwoWays, schemaTwoTypes, schemaLastButOne}
-use Rattle.sdtd.specs.Samples.{schemaOptional, schemaEndless, schemaNested, witnessChoice, witnessTwoWays, refuses-8, refuses-9, Holds}
+use Rattle.sdtd.specs.Samples.{schemaOptional, schemaEndless, schemaNested, schemaLists, schemaOneTag, schemaTreeless, witnessChoice, witnessTwoWays, witnessOneTag}
+use Rattle.sdtd.specs.Samples.{refuses-8, refuses-9, Holds}
 use Rattle.sdtd.proofs.Bearing.{word-bears}
-use Rattle.sdtd.proofs.Tests.{itself, and-means, every}
+use Rattle.sdtd.proofs.Tests.{Means, itself, and-means, not-means, every}
 use Rattle.sdtd.proofs.Within.{limitsCheck, limits-means}
-use Rattle.sdtd.proofs.Decide.{LiveTable, bearsIn, LiveExact, rootBears, root-bears-means, live-check, acceptsb, accepts-means}
-use Rattle.sdtd.proofs.Decide.{restrained, restrained-check}
+use Rattle.sdtd.proofs.Decide.{LiveTable, bearsIn, LiveExact, live-check, acceptsb, accepts-means, restrained, restrained-check}
+use Rattle.sdtd.proofs.Roots.{someRootBears, some-root-bears-means, rivalRoots, rival-roots-means}
 use Rattle.sdtd.proofs.SampleRivals.{ways-only}
 
--- inside the limits, the root type bears a tree and the certificate of pairs passes
-accepted : {S : Schema} {L : LiveTable} → LiveExact S L → (pairs : List (List (ℕ × ℕ)))
-    → T (limitsCheck S && rootBears S L && restrained S L pairs) → Accepted S
+-- inside the limits, a root type bears a tree, and no two roots compete
+abbrev rootsPass : Schema → LiveTable → Bool
+rootsPass S L = limitsCheck S && someRootBears S L && not (rivalRoots S L)
+
+abbrev RootsPass : Schema → Type 0
+RootsPass S = (WithinLimits S × SomeRootBears S) × (¬ CompeteOutside S)
+
+roots-pass : {S : Schema} {L : LiveTable} → LiveExact S L → Means (rootsPass S L) (RootsPass S)
+roots-pass {S} x = and-means (and-means (limits-means S) (some-root-bears-means x)) (not-means (rival-roots-means x))
+
+-- .. and the certificate of pairs passes
+accepted : {S : Schema} {L : LiveTable} → LiveExact S L → (pairs : List (List (ℕ × ℕ))) → T (rootsPass S L && restrained S L pairs) → Accepted S
 accepted {S} {L} x pairs t =
-    let r = and-means (and-means (limits-means S) (root-bears-means x)) (itself (restrained S L pairs)) .says t in
-    record { within = r .0 .0; bears = r .0 .1; no-competition = restrained-check x pairs (r .1) }
+    let r = and-means (roots-pass x) (itself (restrained S L pairs)) .says t in
+    record { within = r .0 .0 .0; bears = r .0 .0 .1; no-competition = none (r .0 .1) (restrained-check x pairs (r .1)) }
+  where
+    none : ¬ CompeteOutside S → ((a : ℕ) → ¬ CompeteIn S a) → ¬ Competition S
+    none outside inside (of-roots o) = outside o
+    none outside inside (in-type {a = a} c) = inside a c
 
 abbrev pub liveR : LiveTable
 liveR = (0, 0) ∷ (0, 1) ∷ (1, 0) ∷ (2, 0) ∷ (3, 0) ∷ []
@@ -84,20 +99,20 @@ goes-on-by-test {S} {L} x a w j u t =
     let r = and-means (accepts-means (blockOf S a) (w ++ (j ∷ u))) (itself (every (bearsIn S L) (w ++ (j ∷ u)))) .says t in
     record { rest = u; word = r .0; bear = all-bear x (w ++ (j ∷ u)) (r .1) }
 
--- inside the limits, the root type bears a tree, j and k compete in the type 0, which the root may have, after w, before u and v, and no
--- types compete in it after a shorter word
+-- no two roots compete, j and k compete in the type 0, which is a root type, after w, before u and v, and no types compete in it after a
+-- shorter word
 root-witness : {S : Schema} {L : LiveTable} → LiveExact S L → (j k : ℕ) (w u v : List ℕ)
     → IsRoot S 0 → j < k → tagOf S j ≡ tagOf S k → length w ≤ mostWord
     → ((other : List ℕ) (m n : ℕ) → Compete S 0 other m n → length w ≤ length other)
-    → T (limitsCheck S && rootBears S L && (goesOn S L 0 w j u && goesOn S L 0 w k v))
+    → T (rootsPass S L && (goesOn S L 0 w j u && goesOn S L 0 w k v))
     → Holds (refuses-9 S (witnessBytes 0 j k w))
 root-witness {S} {L} x j k w u v is-root order one-tag short least t =
     let goes = and-means (itself (goesOn S L 0 w j u)) (itself (goesOn S L 0 w k v)) in
-    let r = and-means (and-means (limits-means S) (root-bears-means x)) goes .says t in
+    let r = and-means (roots-pass x) goes .says t in
     let goes-j = goes-on-by-test x 0 w j u (r .1 .0) in (
-      r .0 .0,
-      r .0 .1,
-      record {
+      r .0 .0 .0,
+      r .0 .0 .1,
+      by-types (r .0 .1) (record {
         type = 0;
         first = j;
         second = k;
@@ -115,26 +130,62 @@ root-witness {S} {L} x j k w u v is-root order one-tag short least t =
         shortest = λ other. omega (arith, least (other .word) (other .first) (other .second) (other .compete));
         short = short;
         written = refl;
-      },
+      }),
     )
 
 pub refusedChoice : Holds (refuses-9 schemaChoice witnessChoice)
 refusedChoice =
     root-witness
     (live-check schemaChoice ((0, 0) ∷ (0, 1) ∷ (1, 0) ∷ (1, 1) ∷ (2, 0) ∷ (2, 1) ∷ (3, 0) ∷ (4, 0) ∷ []) tt)
-    1 2 [] [] [] refl (lit< tt) refl (lit≤ tt) (λ v m n c. omega arith) tt
+    1 2 [] [] [] (List·Memᴰ·head refl) (lit< tt) refl (lit≤ tt) (λ v m n c. omega arith) tt
 
 pub refusedTwoWays : Holds (refuses-9 schemaTwoWays witnessTwoWays)
 refusedTwoWays =
     root-witness
     (live-check schemaTwoWays ((0, 0) ∷ (0, 1) ∷ (0, 2) ∷ (0, 3) ∷ (1, 0) ∷ (2, 0) ∷ (3, 0) ∷ []) tt)
-    2 3 (1 ∷ []) [] [] refl (lit< tt) refl (lit≤ tt) (λ v m n c. omega (arith, ap length (ways-only v m n c .0))) tt
+    2 3 (1 ∷ []) [] [] (List·Memᴰ·head refl) (lit< tt) refl (lit≤ tt) (λ v m n c. omega (arith, ap length (ways-only v m n c .0))) tt
 
 pub bearsNoneEndless : Holds (refuses-8 schemaEndless)
-bearsNoneEndless = (limits-means schemaEndless .says tt, λ b. root-bears-means (live-check schemaEndless ((0, 1) ∷ []) tt) .passes b)
+bearsNoneEndless = (limits-means schemaEndless .says tt, λ b. some-root-bears-means (live-check schemaEndless ((0, 1) ∷ []) tt) .passes b)
 
 pub exactNested : LiveExact schemaNested ((0, 0) ∷ [])
 exactNested = live-check schemaNested ((0, 0) ∷ []) tt
 
 pub acceptedNested : Accepted schemaNested
 acceptedNested = accepted exactNested [] tt
+
+abbrev pub liveLists : LiveTable
+liveLists = (0, 0) ∷ (1, 0) ∷ (2, 0) ∷ (3, 0) ∷ []
+
+pub exactLists : LiveExact schemaLists liveLists
+exactLists = live-check schemaLists liveLists tt
+
+pub acceptedLists : Accepted schemaLists
+acceptedLists = accepted exactLists [] tt
+
+pub exactTreeless : LiveExact schemaTreeless ((1, 0) ∷ (2, 0) ∷ (3, 0) ∷ [])
+exactTreeless = live-check schemaTreeless ((1, 0) ∷ (2, 0) ∷ (3, 0) ∷ []) tt
+
+pub acceptedTreeless : Accepted schemaTreeless
+acceptedTreeless = accepted exactTreeless [] tt
+
+pub refusedOneTag : Holds (refuses-9 schemaOneTag witnessOneTag)
+refusedOneTag =
+    let x = live-check schemaOneTag liveLists tt in (
+      limits-means schemaOneTag .says tt,
+      some-root-bears-means x .says tt,
+      by-roots (record {
+        first = 0;
+        second = 1;
+        compete =
+            record {
+              order = lit< tt;
+              one-tag = refl;
+              is-root-j = List·Memᴰ·head refl;
+              is-root-k = List·Memᴰ·tail (List·Memᴰ·head refl);
+              bears-j = x .bears 0 .says tt;
+              bears-k = x .bears 1 .says tt;
+            };
+        written = refl;
+      }),
+    )

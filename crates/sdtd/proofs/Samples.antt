@@ -1,17 +1,17 @@
--- The starred samples of document 01 hold.
+-- The starred samples of document 01 hold, and those of several roots.
 use mathlib.Core.List.{List, []}
 use lib.Dec.{T}
 use Rattle.sdtd.specs.Schema.{Schema}
 use Rattle.sdtd.specs.Competition.{Accepted}
 use Rattle.sdtd.specs.Calls.{Exchange}
-use Rattle.sdtd.specs.Samples.{answers, Holds, HoldAll, starred, nested}
+use Rattle.sdtd.specs.Samples.{answers, Holds, HoldAll, starred, nested, wholesaler}
 use Rattle.sdtd.proofs.Basics.{_&_}
 use Rattle.sdtd.proofs.Machine.{start}
 use Rattle.sdtd.proofs.Decide.{LiveTable, LiveExact}
 use Rattle.sdtd.proofs.Model.{agrees, calls-agree}
 use Rattle.sdtd.proofs.SampleSchemas.{exactR, acceptedR, acceptedNoD, acceptedTwoTypes, exactLastButOne, acceptedLastButOne}
 use Rattle.sdtd.proofs.SampleSchemas.{exactOptional, acceptedOptional, refusedChoice, refusedTwoWays, bearsNoneEndless}
-use Rattle.sdtd.proofs.SampleSchemas.{exactNested, acceptedNested}
+use Rattle.sdtd.proofs.SampleSchemas.{exactNested, acceptedNested, exactLists, acceptedLists, exactTreeless, acceptedTreeless, refusedOneTag}
 
 answers-hold : {S : Schema} {L : LiveTable} → Accepted S → LiveExact S L → (xs : List Exchange) → T (agrees S L [] start xs)
     → Holds (answers S xs)
@@ -34,3 +34,12 @@ starred-hold =
 -- `mostLevels` levels are opened, and no further one.
 pub nested-holds : Holds nested
 nested-holds = answers-hold acceptedNested exactNested _ tt
+
+-- Price lists and stock lists under one schema.
+pub wholesaler-holds : HoldAll wholesaler
+wholesaler-holds =
+    answers-hold acceptedLists exactLists _ tt
+    & answers-hold acceptedLists exactLists _ tt
+    & refusedOneTag
+    & answers-hold acceptedTreeless exactTreeless _ tt
+    & tt

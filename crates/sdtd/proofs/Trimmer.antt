@@ -85,7 +85,7 @@ module _ {S : Schema} {t : TypeTests} (right : RightTests S t) where
       record {
         tags = refl;
         types = trim-length t 0 (S .blocks);
-        root = refl;
+        roots = refl;
         own-tags = λ a. ap (λ (b : Block). b .tag) (trim-block t S a);
         states = λ a. ap (λ (b : Block). b .states) (trim-block t S a);
         accepting = λ a q. rw (trim-block t S a) (kept-if (keeps-type-means a));

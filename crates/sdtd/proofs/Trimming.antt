@@ -1,6 +1,6 @@
--- What trimming keeps: the root type bears a tree exactly when some document is valid, every type that a typing uses is useful, and a
+-- What trimming keeps: a root type bears a tree exactly when some document is valid, every type that a typing uses is useful, and a
 -- trimmed schema has exactly the typings that the given one has.
-use mathlib.Core.Path.{_≡_, refl, sym, _∙_, ap, fun-ext}
+use mathlib.Core.Path.{_≡_, refl, sym, _∙_, ap, subst, fun-ext}
 use mathlib.Core.Logic.{_↔_}
 use mathlib.Core.List.{List, [], _∷_, List·Memᴰ, List·Memᴰ·head, List·Memᴰ·tail}
 use Prim.Native.Nat.{ℕ}
@@ -8,30 +8,31 @@ use Rattle.sdtd.specs.Schema.{step, Schema, blockOf, tagOf, Leads, stay,
 use Rattle.sdtd.specs.Tree.{Tree, Forest, node, empty, more, label, labels, relabel, preorder, preorders, Derived, DerivedAll}
 use Rattle.sdtd.specs.Tree.{IsRoot, IsTyping}
 use Rattle.sdtd.specs.Document.{Event, document, Valid, SomeValid}
-use Rattle.sdtd.specs.Trim.{RootBears, All, none, both, AllBear, Reached, root, child, Used, Useful, KeptStep, Trimmed}
+use Rattle.sdtd.specs.Trim.{SomeRootBears, All, none, both, AllBear, Reached, root, child, Used, Useful, KeptStep, Trimmed}
 use Rattle.sdtd.proofs.Automata.{all-append, all-mem, all-head, all-tail}
-use Rattle.sdtd.proofs.Bearing.{tree-bears, forest-bears}
+use Rattle.sdtd.proofs.Bearing.{tree-bears, root-label, forest-bears}
 
--- the root type bears a tree exactly when some document is valid
-pub root-bears : {S : Schema} → RootBears S ↔ SomeValid S
+-- a root type bears a tree exactly when some document is valid
+pub root-bears : {S : Schema} → SomeRootBears S ↔ SomeValid S
 root-bears {S} = (there, back)
   where
-    there : RootBears S → SomeValid S
-    there b =
+    there : SomeRootBears S → SomeValid S
+    there r =
+        let b = r .bears in
         let tree = relabel (tagOf S) (b .tree) in
         record {
           whole = document tree;
           valid = record {
             tree = tree;
             is-document = refl;
-            typing = record { typed = b .tree; is-typing = record { own-tags = refl; root = b .at-root; derived = b .derived } };
+            typing = record { typed = b .tree; is-typing = record { own-tags = refl; root = root-label r; derived = b .derived } };
           };
         }
 
-    back : SomeValid S → RootBears S
+    back : SomeValid S → SomeRootBears S
     back s =
         let t = s .valid .typing in
-        record { tree = t .typed; at-root = t .is-typing .root; derived = t .is-typing .derived }
+        record { type = label (t .typed); is-root = t .is-typing .root; bears = tree-bears (t .typed) (t .is-typing .derived) }
 
 -- what each member of a list has, the list has
 all-of : {P : ℕ → Type 0} (w : List ℕ) → ((j : ℕ) → List·Memᴰ j w → P j) → All P w
@@ -130,7 +131,7 @@ module _ {S S′ : Schema} (trimmed : Trimmed S S′) where
   same-tags t = ap (λ (tag : ℕ → ℕ). relabel tag t) (fun-ext (trimmed .own-tags))
 
   same-roots : (a : ℕ) → IsRoot S a ↔ IsRoot S′ a
-  same-roots a = (λ r. r ∙ sym (trimmed .root), λ r. r ∙ trimmed .root)
+  same-roots a = (subst (List·Memᴰ a) (sym (trimmed .roots)), subst (List·Memᴰ a) (trimmed .roots))
 
   -- trimming leaves exactly the same typings of exactly the same trees
   pub trimmed-same : (tree typed : Tree) → IsTyping S tree typed ↔ IsTyping S′ tree typed

@@ -2,10 +2,12 @@
 use mathlib.Core.Bool.{Bool, _&&_}
 use mathlib.Core.List.{List, List·Memᴰ}
 use Prim.Native.Nat.{ℕ, _<_}
+use native.Mathlib.Omega.{arith}
 use lib.Dec.{leb, ltb}
 use lib.ListN.{length}
-use Rattle.sdtd.specs.Limits.{mostTags, mostTypes, mostStates, mostSteps}
+use Rattle.sdtd.specs.Limits.{mostTags, mostTypes, mostRoots, mostStates, mostSteps}
 use Rattle.sdtd.specs.Schema.{Step, Block, Schema, noBlock, blockOf, Leads, stay, go, stepsIn, StepWithin, BlockWithin, WithinLimits}
+use Rattle.sdtd.specs.Tree.{IsRoot}
 use Rattle.sdtd.specs.Trim.{Bears, Live}
 use Rattle.sdtd.proofs.Basics.{getD-member}
 use Rattle.sdtd.proofs.Tests.{Means, means-iff, and-means, lt-means, le-means, every, every-means}
@@ -41,20 +43,32 @@ block-within-means S b =
           },
     )
 
+-- so many root types, each of them given
+abbrev rootsCheck : Schema → Bool
+rootsCheck S = leb 1 (length (S .roots)) && leb (length (S .roots)) mostRoots && every (λ a. ltb a (length (S .blocks))) (S .roots)
+
 -- the schema is inside the limits
 abbrev pub limitsCheck : Schema → Bool
 limitsCheck S =
     leb 1 (S .tags) && leb (S .tags) mostTags && leb 1 (length (S .blocks)) && leb (length (S .blocks)) mostTypes
-    && leb (stepsIn (S .blocks)) mostSteps && ltb (S .root) (length (S .blocks)) && every (blockCheck S) (S .blocks)
+    && leb (stepsIn (S .blocks)) mostSteps && rootsCheck S && every (blockCheck S) (S .blocks)
 
 pub limits-means : (S : Schema) → Means (limitsCheck S) (WithinLimits S)
 limits-means S =
     let n = length (S .blocks) in
     let tags = and-means (le-means 1 (S .tags)) (le-means (S .tags) mostTags) in
     let types = and-means (and-means tags (le-means 1 n)) (le-means n mostTypes) in
-    let counts = and-means (and-means types (le-means (stepsIn (S .blocks)) mostSteps)) (lt-means (S .root) n) in
+    let m = length (S .roots) in
+    let roots = and-means (and-means (le-means 1 m) (le-means m mostRoots)) (every-means (λ a. lt-means a n) (S .roots)) in
+    let counts = and-means (and-means types (le-means (stepsIn (S .blocks)) mostSteps)) roots in
     means-iff (and-means counts (every-means (block-within-means S) (S .blocks))) (
-      λ w. ((((((w .tags-least, w .tags-most), w .types-least), w .types-most), w .steps-most), w .root), w .blocks),
+      λ w. (
+        (
+          ((((w .tags-least, w .tags-most), w .types-least), w .types-most), w .steps-most),
+          ((w .roots-least, w .roots-most), w .roots),
+        ),
+        w .blocks,
+      ),
       λ p.
           record {
             tags-least = p .0 .0 .0 .0 .0 .0;
@@ -62,7 +76,9 @@ limits-means S =
             types-least = p .0 .0 .0 .0 .1;
             types-most = p .0 .0 .0 .1;
             steps-most = p .0 .0 .1;
-            root = p .0 .1;
+            roots-least = p .0 .1 .0 .0;
+            roots-most = p .0 .1 .0 .1;
+            roots = p .0 .1 .1;
             blocks = p .1;
           },
     )
@@ -70,6 +86,10 @@ limits-means S =
 -- inside the limits each block's tag is below the count
 pub within-tags : {S : Schema} → WithinLimits S → TagsBelow S
 within-tags w b m = w .blocks b m .tag
+
+-- .. each root type is below the limit of types
+pub root-below : {S : Schema} {a : ℕ} → WithinLimits S → IsRoot S a → a < mostTypes
+root-below {a = a} w r = omega (arith, w .roots a r, w .types-most)
 
 -- .. and each type's block is inside the limits
 pub block-within : {S : Schema} {a : ℕ} → WithinLimits S → a < length (S .blocks) → BlockWithin S (blockOf S a)

@@ -1,11 +1,13 @@
--- Document 01, "Competition"; source document 000, definition 4, calls its absence restrained competition.
+-- Document 01, "Competition"; source document 000, definition 4, calls its absence in types restrained competition. That of roots is document 02's:
+-- in 000 a schema has one start symbol.
 use mathlib.Core.Path.{_≡_}
-use mathlib.Core.List.{List, _∷_, _++_}
+use mathlib.Core.List.{List, [], _∷_, _++_}
 use Prim.Native.Nat.{ℕ, _+_, _*_, _/_, _%_, _≤_, _<_, min, max}
 use lib.ListN.{length}
 use Rattle.sdtd.specs.Limits.{mostWord}
 use Rattle.sdtd.specs.Schema.{Schema, blockOf, tagOf, Word, WithinLimits}
-use Rattle.sdtd.specs.Trim.{Bears, RootBears, AllBear, Reached}
+use Rattle.sdtd.specs.Tree.{IsRoot}
+use Rattle.sdtd.specs.Trim.{Bears, SomeRootBears, AllBear, Reached}
 
 -- A word of a's automaton over tree-bearing types that begins with w and then j; the rest may be empty.
 pub record GoesOn (S : Schema) (a : ℕ) (w : List ℕ) (j : ℕ) : Type 0 where
@@ -30,10 +32,25 @@ pub record CompeteIn (S : Schema) (a : ℕ) : Type 0 where
   pub second : ℕ
   pub compete : Compete S a word first second
 
--- "Is there no competition?" No:
-pub record Competition (S : Schema) : Type 0 where
-  pub type : ℕ
-  pub compete-in : CompeteIn S type
+-- "Tree-bearing roots of one tag compete": J < K
+pub record RootsCompete (S : Schema) (j k : ℕ) : Type 0 where
+  pub order : j < k
+  pub one-tag : tagOf S j ≡ tagOf S k
+  pub is-root-j : IsRoot S j
+  pub is-root-k : IsRoot S k
+  pub bears-j : Bears S j
+  pub bears-k : Bears S k
+
+-- two roots compete: outside every element, before the first opening
+pub record CompeteOutside (S : Schema) : Type 0 where
+  pub first : ℕ
+  pub second : ℕ
+  pub compete : RootsCompete S first second
+
+-- "Is there no competition?" No: of two roots, or of two types in a type
+pub data Competition (S : Schema) : Type 0 where
+  of-roots : CompeteOutside S → Competition S
+  in-type : {a : ℕ} → CompeteIn S a → Competition S
 
 -- "The search goes over unordered pairs of states: for p ≥ q the pair has number p(p+1)/2 + q": the larger state is p.
 abbrev pub pairNumber : ℕ → ℕ → ℕ
@@ -43,10 +60,21 @@ pairNumber s t = max s t * (max s t + 1) / 2 + min s t
 abbrev pub witnessBytes : ℕ → ℕ → ℕ → List ℕ → List ℕ
 witnessBytes a j k w = a ∷ j ∷ k ∷ length w % 256 ∷ length w / 256 ∷ w
 
--- The bytes are a witness of S: J and K compete in A after w. "A is the smallest type in which two compete." w is shortest: "every other
--- beginning after which two types of one tag compete in that same type A has at least as many types. J and K remain free." "w has at most 527
--- types."
-pub record Witness (S : Schema) (bytes : List ℕ) : Type 0 where
+-- The byte A where two roots compete, which is no type's number: "the witness has 255 for A".
+abbrev pub noParent : ℕ
+noParent = 255
+
+-- The bytes are a witness of competing roots: "255 for A and n = 0".
+pub record RootsWitness (S : Schema) (bytes : List ℕ) : Type 0 where
+  pub first : ℕ
+  pub second : ℕ
+  pub compete : RootsCompete S first second
+  pub written : bytes ≡ witnessBytes noParent first second []
+
+-- The bytes are a witness of types that compete in a type: J and K compete in A after w. "A is the smallest type in which two compete." w is
+-- shortest: "every other beginning after which two types of one tag compete in that same type A has at least as many types. J and K remain
+-- free." "w has at most 527 types."
+pub record TypesWitness (S : Schema) (bytes : List ℕ) : Type 0 where
   pub type : ℕ
   pub first : ℕ
   pub second : ℕ
@@ -57,9 +85,14 @@ pub record Witness (S : Schema) (bytes : List ℕ) : Type 0 where
   pub short : length word ≤ mostWord
   pub written : bytes ≡ witnessBytes type first second word
 
--- An accepted schema: it is inside the limits, which questions 1 to 7 and 21 to 23 see to, and passes questions 8 and 9: "Does the root
--- type bear a tree?" "Is there no competition?"
+-- The bytes are a witness of S. "Tree-bearing roots of one tag compete, and that is looked at before all else under 9".
+pub data Witness (S : Schema) (bytes : List ℕ) : Type 0 where
+  by-roots : RootsWitness S bytes → Witness S bytes
+  by-types : ¬ CompeteOutside S → TypesWitness S bytes → Witness S bytes
+
+-- An accepted schema: it is inside the limits, which questions 1 to 7 and 21 to 23 see to, and passes questions 8 and 9: a root bears a tree,
+-- and "Is there no competition?"
 pub record Accepted (S : Schema) : Type 0 where
   pub within : WithinLimits S
-  pub bears : RootBears S
+  pub bears : SomeRootBears S
   pub no-competition : ¬ Competition S

@@ -74,7 +74,7 @@ abbrev pub DifferAt : {S : Schema} {d₁ d₂ : List Event} → List Event → V
 DifferAt e v₁ v₂ = typeAt v₁ (openings e) ≢ typeAt v₂ (openings e)
 
 -- Demand 3: "two valid documents, perhaps the same one, each with a typing, agree in every event through some opening tag and differ in
--- that element's type".
+-- that element's type". "[T]he two-document statement covers the first opening tag too": the events before it may be none.
 pub record Ambiguous (S : Schema) : Type 0 where
   pub document₁ : List Event
   pub document₂ : List Event

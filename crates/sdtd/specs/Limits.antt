@@ -1,4 +1,4 @@
--- Document 01's numbers, by name.
+-- The numbers of documents 01 and 02, by name.
 use Prim.Native.Nat.{ℕ}
 
 -- "1 to 32 tags"
@@ -8,6 +8,10 @@ mostTags = 32
 -- "1 to 64 types"
 abbrev pub mostTypes : ℕ
 mostTypes = 64
+
+-- "ROOT may be given one to eight times"
+abbrev pub mostRoots : ℕ
+mostRoots = 8
 
 -- "1 to 32 states"
 abbrev pub mostStates : ℕ

@@ -1,11 +1,12 @@
--- Document 01, "Samples from the boot wall": the starred samples, as schemas and lists of calls, and one statement over the group.
+-- Document 01, "Samples from the boot wall": the starred samples, as schemas and lists of calls, and one statement over the group. Beside them
+-- document 02's wholesaler.
 use mathlib.Core.List.{List, [], _∷_, _++_}
 use Prim.Native.Nat.{ℕ}
 use lib.ListN.{replicate}
 use Rattle.sdtd.specs.Limits.{mostLevels}
 use Rattle.sdtd.specs.Schema.{Step, step, Block, Schema, WithinLimits}
 use Rattle.sdtd.specs.Document.{Event, opening, closing, finish}
-use Rattle.sdtd.specs.Trim.{RootBears}
+use Rattle.sdtd.specs.Trim.{SomeRootBears}
 use Rattle.sdtd.specs.Competition.{Witness, Accepted}
 use Rattle.sdtd.specs.Answer.{Answer, refused, typed, taken}
 use Rattle.sdtd.specs.Calls.{Exchange, RightCalls}
@@ -20,8 +21,8 @@ pub data Sample : Type 0 where
 -- accepted; 8; 9 with the witness; accepted, and the calls of the list, from a fresh reading, get these answers
 abbrev pub Holds : Sample → Type 0
 Holds (accepts S) = Accepted S
-Holds (refuses-8 S) = WithinLimits S × (¬ RootBears S)
-Holds (refuses-9 S bytes) = WithinLimits S × RootBears S × Witness S bytes
+Holds (refuses-8 S) = WithinLimits S × (¬ SomeRootBears S)
+Holds (refuses-9 S bytes) = WithinLimits S × SomeRootBears S × Witness S bytes
 Holds (answers S xs) = Accepted S × RightCalls S xs
 
 -- every sample of the list holds
@@ -37,9 +38,9 @@ block g n accepting steps = record { tag = g; states = n; accepting = accepting;
 abbrev leaf : ℕ → Block
 leaf g = block g 1 (0 ∷ []) []
 
--- a schema: the number of its tags, and its types, the root's first
+-- a schema: the number of its tags, and its types, that of the one root first
 abbrev schema : ℕ → List Block → Schema
-schema n blocks = record { tags = n; blocks = blocks; root = 0 }
+schema n blocks = record { tags = n; blocks = blocks; roots = 0 ∷ [] }
 
 -- a call and its answer
 abbrev says : Event → Answer → Exchange
@@ -109,6 +110,48 @@ witnessChoice = 0x00 ∷ 0x01 ∷ 0x02 ∷ 0x00 ∷ 0x00 ∷ []
 -- "witness `00 02 03 01 00 01`"
 abbrev pub witnessTwoWays : List ℕ
 witnessTwoWays = 0x00 ∷ 0x02 ∷ 0x03 ∷ 0x01 ∷ 0x00 ∷ 0x01 ∷ []
+
+-- Document 02, Req 04: "A wholesaler sends price lists and stock lists under one schema." Types 0 and 1, the two lists, are the roots; an article, of
+-- tag 2, is type 2 in a price list and type 3 in a stock list.
+abbrev lists : Block → Block → Schema
+lists prices stock = record { tags = 3; blocks = prices ∷ stock ∷ leaf 2 ∷ leaf 2 ∷ []; roots = 0 ∷ 1 ∷ [] }
+
+-- a list of the tag g, of articles of the type j
+abbrev listOf : ℕ → ℕ → Block
+listOf g j = block g 1 (0 ∷ []) (step 0 j 0 ∷ [])
+
+-- a price list of tag 0 and a stock list of tag 1
+abbrev pub schemaLists : Schema
+schemaLists = lists (listOf 0 2) (listOf 1 3)
+
+-- both of tag 0, and in the price list the two articles compete too
+abbrev pub schemaOneTag : Schema
+schemaOneTag = lists (block 0 1 (0 ∷ []) (step 0 2 0 ∷ step 0 3 0 ∷ [])) (listOf 0 3)
+
+-- both of tag 0, and the price list bears no tree
+abbrev pub schemaTreeless : Schema
+schemaTreeless = lists (block 0 1 [] []) (listOf 0 3)
+
+-- "Tree-bearing roots of one tag compete, and that is looked at before all else under 9: the witness has 255 for A and n = 0."
+abbrev pub witnessOneTag : List ℕ
+witnessOneTag = 0xff ∷ 0x00 ∷ 0x01 ∷ 0x00 ∷ 0x00 ∷ []
+
+-- Each list is typed by its own root, and so are its articles; two lists of one tag compete, though articles compete as well; and where one of them
+-- bears no tree the other opens, since "The root question (8) holds if any root bears a tree."
+abbrev pub wholesaler : List Sample
+wholesaler =
+    answers schemaLists
+    (says (opening 0) (typed 0)
+    ∷ says (opening 2) (typed 2) ∷ says (closing 2) taken
+    ∷ says (closing 0) taken ∷ says (opening 1) (refused 13) ∷ says finish taken ∷ []
+    )
+    ∷ answers schemaLists
+    (says (opening 2) (refused 13) ∷ says (opening 1) (typed 1)
+    ∷ says (opening 2) (typed 3) ∷ says (closing 2) taken
+    ∷ says (closing 1) taken ∷ says finish taken ∷ []
+    )
+    ∷ refuses-9 schemaOneTag witnessOneTag
+    ∷ answers schemaTreeless (says (opening 0) (typed 1) ∷ says (closing 0) taken ∷ says finish taken ∷ []) ∷ []
 
 -- The starred samples, in document 01's order. Where a sample names elements a, b, c their tags are 1, 2, 3; the root's is 0.
 abbrev pub starred : List Sample

@@ -2,7 +2,7 @@
 use mathlib.Core.List.{List, [], _∷_, List·Memᴰ}
 use Prim.Native.Nat.{ℕ, _+_, _≤_, _<_}
 use lib.ListN.{length, getD}
-use Rattle.sdtd.specs.Limits.{mostTags, mostTypes, mostStates, mostSteps}
+use Rattle.sdtd.specs.Limits.{mostTags, mostTypes, mostRoots, mostStates, mostSteps}
 
 -- "steps (from state, type, to state)"
 pub record Step : Type 0 where
@@ -22,12 +22,13 @@ pub record Block : Type 0 where
   pub accepting : List ℕ
   pub steps : List Step
 
--- "A schema has 1 to 32 tags, 1 to 64 types and one root type. Both are numbered from 0": a type's number is its place in `blocks`,
--- and `tags` is the number of tags.
+-- "A schema has 1 to 32 tags, 1 to 64 types". "Both are numbered from 0": a type's number is its place in `blocks`, and `tags` is the number
+-- of tags. "ROOT may be given one to eight times": the root types, in the file's order. A file gives each another type (question 6); a made-up value
+-- may repeat one. Source document 000 has one start symbol.
 pub record Schema : Type 0 where
   pub tags : ℕ
   pub blocks : List Block
-  pub root : ℕ
+  pub roots : List ℕ
 
 -- what stands for the block of a number that is no type: it has no word
 abbrev pub noBlock : Block
@@ -83,5 +84,7 @@ pub record WithinLimits (S : Schema) : Type 0 where
   pub types-least : 1 ≤ length (S .blocks)
   pub types-most : length (S .blocks) ≤ mostTypes
   pub steps-most : stepsIn (S .blocks) ≤ mostSteps
-  pub root : S .root < length (S .blocks)
+  pub roots-least : 1 ≤ length (S .roots)
+  pub roots-most : length (S .roots) ≤ mostRoots
+  pub roots : (a : ℕ) → List·Memᴰ a (S .roots) → a < length (S .blocks)
   pub blocks : (b : Block) → List·Memᴰ b (S .blocks) → BlockWithin S b

@@ -1,7 +1,7 @@
 -- Trees and typings: document 01, "Schemas and valid trees"; source document 000, definition 2: a tree is valid if it is the
 -- image, tag by tag, of a tree over types that the grammar derives.
 use mathlib.Core.Path.{_≡_}
-use mathlib.Core.List.{List, [], _∷_, _++_}
+use mathlib.Core.List.{List, [], _∷_, _++_, List·Memᴰ}
 use Prim.Native.Nat.{ℕ, suc, max}
 use Rattle.sdtd.specs.Schema.{Schema, blockOf, tagOf, Word}
 
@@ -60,12 +60,12 @@ abbrev mutual
   DerivedAll S empty = Unit
   DerivedAll S (more t f) = Derived S t × DerivedAll S f
 
--- the type of a valid tree's root
+-- the type is a root type
 abbrev pub IsRoot : Schema → ℕ → Type 0
-IsRoot S a = a ≡ S .root
+IsRoot S a = List·Memᴰ a (S .roots)
 
--- "A typing gives each element of a tree a type of its own tag, the root the root type, such that the children's types form a word of the
--- element's automaton": the tree of those types is a typing of the tree of tags.
+-- "A typing gives each element of a tree a type of its own tag, the root [a] root type, such that the children's types form a word of the
+-- element's automaton": the tree of those types is a typing of the tree of tags. "A valid tree's root may have any root type".
 pub record IsTyping (S : Schema) (tree typed : Tree) : Type 0 where
   pub own-tags : relabel (tagOf S) typed ≡ tree
   pub root : IsRoot S (label typed)

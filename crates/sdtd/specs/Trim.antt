@@ -15,9 +15,11 @@ pub record Bears (S : Schema) (a : ℕ) : Type 0 where
   pub at-root : label tree ≡ a
   pub derived : Derived S tree
 
--- "Does the root type bear a tree?"
-abbrev pub RootBears : Schema → Type 0
-RootBears S = Bears S (S .root)
+-- "The root question (8) holds if any root bears a tree."
+pub record SomeRootBears (S : Schema) : Type 0 where
+  pub type : ℕ
+  pub is-root : IsRoot S type
+  pub bears : Bears S type
 
 -- every number of the list has the property
 pub data All (P : ℕ → Type 0) : List ℕ → Type 0 where
@@ -34,7 +36,8 @@ pub record Live (S : Schema) (a q : ℕ) : Type 0 where
   pub accepts : Accepts (blockOf S a) q word
   pub bear : AllBear S word
 
--- "A type is reached if it is the root type, or stands in a word of a reached type." The field calls such a type reachable.
+-- "A type is reached if it is [a] root type, or stands in a word of a reached type"; "each root type is reached". The field calls such a
+-- type reachable.
 pub data Reached (S : Schema) : ℕ → Type 0 where
   root : {a : ℕ} → IsRoot S a → Reached S a
   child : {a j : ℕ} {w : List ℕ} → Reached S a → Word (blockOf S a) w → AllBear S w → List·Memᴰ j w → Reached S j
@@ -57,13 +60,13 @@ pub record KeptStep (S : Schema) (a : ℕ) (s : Step) : Type 0 where
   pub from-live : Live S a (s .from)
   pub to-live : Live S a (s .to)
 
--- S′ is S trimmed: the same tags, types, numbers and root; a block that is unreached or bears no tree is emptied, and of the others just the
+-- S′ is S trimmed: the same tags, types, numbers and roots; a block that is unreached or bears no tree is emptied, and of the others just the
 -- steps by tree-bearing types between live states are kept. Source document 000 removes the useless types themselves; document 01 keeps
 -- their numbers.
 pub record Trimmed (S S′ : Schema) : Type 0 where
   pub tags : S′ .tags ≡ S .tags
   pub types : length (S′ .blocks) ≡ length (S .blocks)
-  pub root : S′ .root ≡ S .root
+  pub roots : S′ .roots ≡ S .roots
   pub own-tags : (a : ℕ) → tagOf S′ a ≡ tagOf S a
   pub states : (a : ℕ) → blockOf S′ a .states ≡ blockOf S a .states
   pub accepting : (a q : ℕ) → List·Memᴰ q (blockOf S′ a .accepting) ↔ (List·Memᴰ q (blockOf S a .accepting) × Useful S a)
@@ -105,4 +108,4 @@ trimFrom t a (b ∷ bs) = trimAt t a b ∷ trimFrom t (suc a) bs
 
 -- The schema trimmed by tests.
 unfoldable pub trimmedByTests : TypeTests → Schema → Schema
-trimmedByTests t S = record { tags = S .tags; blocks = trimFrom t 0 (S .blocks); root = S .root }
+trimmedByTests t S = record { tags = S .tags; blocks = trimFrom t 0 (S .blocks); roots = S .roots }

@@ -15,7 +15,6 @@ impl Tag {
 }
 
 // A type's number: its place among the schema's blocks.
-#[repr(C)]
 pub struct TypeNo(pub u8);
 
 impl TypeNo {

@@ -1,12 +1,13 @@
 -- The fourth and the sixth sample's witnesses are the only ones of their schemas, so every call that answers 9 writes these bytes.
-use mathlib.Core.Path.{_≡_, ap, subst, _∙_}
-use mathlib.Core.List.{List, [], _∷_, _++_}
+use mathlib.Core.Path.{_≡_, sym, ap, subst, _∙_}
+use mathlib.Core.List.{List, [], _∷_, _++_, head-eq-of-cons-eq}
 use Prim.Native.Nat.{ℕ}
+use native.Mathlib.Omega.{arith}
 use lib.ListN.{length, drop}
 use Rattle.sdtd.specs.Schema.{Schema}
-use Rattle.sdtd.specs.Competition.{Compete, Witness, witnessBytes}
+use Rattle.sdtd.specs.Competition.{Compete, Witness, by-roots, by-types, witnessBytes}
 use Rattle.sdtd.specs.Samples.{schemaChoice, schemaTwoWays, witnessChoice, witnessTwoWays}
-use Rattle.sdtd.proofs.Witnesses.{same-type}
+use Rattle.sdtd.proofs.Witnesses.{partsOf, same-parent}
 use Rattle.sdtd.proofs.SampleRivals.{choice-only, ways-only}
 use Rattle.sdtd.proofs.SampleSchemas.{refusedChoice, refusedTwoWays}
 use Rattle.competition.specs.Search.{Written}
@@ -20,9 +21,9 @@ use Rattle.typing.specs.Samples.{SchemaGets}
 -- the bytes are these, where the sample's witness is of type 0 and what competes in type 0 is the sample's
 only-bytes : {S : Schema} {j k : ℕ} {w bytes : List ℕ} (x : Witness S bytes) → Witness S (witnessBytes 0 j k w)
     → ((v : List ℕ) (m n : ℕ) → Compete S 0 v m n → (v ≡ w) × (m ≡ j) × (n ≡ k)) → bytes ≡ witnessBytes 0 j k w
-only-bytes {S} x y only =
-    let at : y .type ≡ 0 = cc (y .written) in
-    let zero : x .type ≡ 0 = same-type x y ∙ at in
+only-bytes (by-roots x) y only = absurd (omega (arith, same-parent (by-roots x) y, head-eq-of-cons-eq (partsOf y .written)))
+only-bytes {S} (by-types none x) y only =
+    let zero : x .type ≡ 0 = same-parent (by-types none x) y ∙ sym (head-eq-of-cons-eq (partsOf y .written)) in
     let c = only (x .word) (x .first) (x .second) (subst (λ (a : ℕ). Compete S a (x .word) (x .first) (x .second)) zero (x .compete)) in
     x .written ∙ (λ i. witnessBytes (zero i) (c .1 i) (c .2 i) (c .0 i))
 

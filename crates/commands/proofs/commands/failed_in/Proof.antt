@@ -16,14 +16,17 @@ element-copy-out-given-already c = search needs
 given-already-requires : tie.Need-given-already-requires
 given-already-requires c κs = search needs
 
+root-given-requires : tie.Need-root-given-requires
+root-given-requires c κs = search needs
+
 element-copy-out-seen-of : tie.Need-element-copy-out-seen-of
 element-copy-out-seen-of c = search needs
 
-mul-t12 : tie.Need-mul-t12
-mul-t12 c = search needs
+mul-t13 : tie.Need-mul-t13
+mul-t13 c = search needs
 
-element-copy-out-t21 : tie.Need-element-copy-out-t21
-element-copy-out-t21 c = search needs
+element-copy-out-t23 : tie.Need-element-copy-out-t23
+element-copy-out-t23 c = search needs
 
 seen-of-requires : tie.Need-seen-of-requires
 seen-of-requires c κs = search needs
@@ -33,8 +36,10 @@ failed-by-requires c κs = search needs
 
 returns : tie.Need-returns
 returns c =
-    let g = c .before .before .before .before in
-    c .failed-by .ensures ∙ rw (c .before .seen-of .ensures, g .given-already .ensures, g .before .before .last-type .ensures)
+    let r = c .before .before .before .before in
+    let g = r .before in
+    c .failed-by .ensures
+    ∙ rw (c .before .seen-of .ensures, r .root-given .ensures, g .given-already .ensures, g .before .before .last-type .ensures)
 
 pub failed-in-spec : {M : Type 1} → statement M
 failed-in-spec =
@@ -44,9 +49,10 @@ failed-in-spec =
     mul-given-already
     element-copy-out-given-already
     given-already-requires
+    root-given-requires
     element-copy-out-seen-of
-    mul-t12
-    element-copy-out-t21
+    mul-t13
+    element-copy-out-t23
     seen-of-requires
     failed-by-requires
     returns)

@@ -46,6 +46,12 @@ add-t14 c = search needs
 enum-known-command-3 : tie.Need-enum-known-command-3
 enum-known-command-3 c = search needs
 
+add-t17 : tie.Need-add-t17
+add-t17 c = search needs
+
+with-root-requires : tie.Need-with-root-requires
+with-root-requires c κs = search needs
+
 enum-told-2 : tie.Need-enum-told-2
 enum-told-2 c = search needs
 
@@ -63,7 +69,7 @@ returns-3 c = rw (c .before .enum-told .given .1)
 
 returns-4 : tie.Need-returns-4
 unfolding progressAfter
-returns-4 c = rw (c .before .command3 .given .1)
+returns-4 c = rw (c .before .before .before .command3 .given .1, c .with-root .ensures)
 
 returns-5 : tie.Need-returns-5
 unfolding progressAfter
@@ -83,6 +89,8 @@ progress-after-spec =
     enum-told
     add-t14
     enum-known-command-3
+    add-t17
+    with-root-requires
     enum-told-2
     returns
     returns-2

@@ -49,6 +49,9 @@ enum-told-6 c = search needs
 same-phase-requires-9 : tie.Need-same-phase-requires-9
 same-phase-requires-9 c κs = search needs
 
+same-phase-requires-10 : tie.Need-same-phase-requires-10
+same-phase-requires-10 c κs = search needs
+
 enum-told-7 : tie.Need-enum-told-7
 enum-told-7 c = search needs
 
@@ -74,10 +77,16 @@ returns-4 : tie.Need-returns-4
 returns-4 c = rw (c .before .enum-told4 .given .1) (c .same-phase6 .ensures)
 
 returns-5 : tie.Need-returns-5
-returns-5 c = rw (c .before .before .enum-told5 .given .1, c .before .same-phase7 .ensures, c .same-phase8 .ensures)
+returns-5 c =
+    rw (
+      c .before .before .before .enum-told5 .given .1,
+      c .before .before .same-phase7 .ensures,
+      c .before .same-phase8 .ensures,
+      c .same-phase9 .ensures,
+    )
 
 returns-6 : tie.Need-returns-6
-returns-6 c = rw (c .before .enum-told6 .given .1) (c .same-phase9 .ensures)
+returns-6 c = rw (c .before .enum-told6 .given .1) (c .same-phase10 .ensures)
 
 returns-7 : tie.Need-returns-7
 returns-7 c = search needs
@@ -102,8 +111,9 @@ in-order-spec =
     enum-told-5
     same-phase-requires-7
     same-phase-requires-8
-    enum-told-6
     same-phase-requires-9
+    enum-told-6
+    same-phase-requires-10
     enum-told-7
     enum-told-8
     returns

@@ -1,66 +1,52 @@
--- `competition::search::competes` meets its contract: by the tables of the trimming and the rows, what the search finds is the smallest type in which two
--- compete, with a shortest word after which two compete in it; or there is none.
-use mathlib.Core.Path.{refl}
+-- `competition::search::competes` meets its contract: the types are searched only where no two roots compete.
+use mathlib.Core.Path.{_≡_, sym, subst}
+use mathlib.Core.Bool.{Bool, false}
+use mathlib.Core.List.{List}
+use Prim.Native.Nat.{ℕ}
 use borrow.Author.Needs.{needs}
-use Rattle.schema.proofs.LimitLaws.{within-room}
-use Rattle.competition.proofs.SearchMeaning.{none-compete, competing-written}
+use lib.Dec.{T}
+use Rattle.sdtd.specs.Schema.{Schema}
+use Rattle.sdtd.specs.Competition.{CompeteOutside}
+use Rattle.competition.specs.Roots.{RootsCompeteMeans}
 use Rattle.competition.proofs.search.competes.Statement.{statement}
 use Rattle.competition.proofs.search.competes.Tie as tie
 
--- the start of the function, from where it calls the search
-abbrev start : tie.After-queue → tie.Start
-start c = c .before .before .before .before .before .before .before
+-- no two roots were found to compete
+module _ {S : Schema} {was is : List ℕ} {r : Bool} (m : RootsCompeteMeans S was is r) (e : r ≡ false) where
+  apart : ¬ CompeteOutside S
+  apart o = subst T e (m .compete .1 o)
 
-cast-t16 : tie.Need-cast-t16
-cast-t16 c = search needs
+  untouched : is ≡ was
+  untouched = m .unchanged (λ t. subst T e t)
 
-pair-numbers-requires : tie.Need-pair-numbers-requires
-pair-numbers-requires c κs = search needs
+roots-compete-requires : tie.Need-roots-compete-requires
+roots-compete-requires c κs = search needs
 
-first-competing-requires : tie.Need-first-competing-requires
-first-competing-requires c κs =
-    let given = start c .pre in
-    (within-room _ (given .0) .types, given .2 .inside, c .before .before .pair-numbers .ensures)
-
-enum-known-competing : tie.Need-enum-known-competing
-enum-known-competing c = search needs
-
-write-rivals-requires : tie.Need-write-rivals-requires
-write-rivals-requires c κs =
-    let s = c .before .before .before .before .before in
-    let f = rw (c .before .before .before .competing .given .1) at (s .first-competing .ensures) in
-    let t = f .1 .to-rivals .trail in
-    (t .place-below, t .linked, start (s .before) .pre .3)
+types-compete-requires : tie.Need-types-compete-requires
+types-compete-requires c κs = search (needs, apart)
 
 same-length : tie.Need-same-length
 same-length c = search needs
 
 returns : tie.Need-returns
-returns c =
-    let s = c .before .before .before .before .before .before .before .before in
-    let given = start (s .before) .pre in
-    let f = rw (c .before .before .before .before .before .before .competing .given .1) at (s .first-competing .ensures) in
-    competing-written _ _ _ _ (given .0) (given .1) (given .2) _ _ _ _ _ (f .1) (f .2) _ _ (c .before .before .write-rivals .ensures)
+returns c = c .before .before .before .roots-compete .ensures .written (subst T (sym (c .if1 .taken)) tt)
 
-enum-told : tie.Need-enum-told
-enum-told c = search needs
+same-length-2 : tie.Need-same-length-2
+same-length-2 c = search needs
 
 returns-2 : tie.Need-returns-2
 returns-2 c =
-    let s = c .before .before in
-    let given = start (s .before) .pre in
-    (none-compete _ _ _ _ (given .0) (given .1) (given .2) (rw (c .enum-told .given .1) at (s .first-competing .ensures)), refl)
+    let t = c .before .before in
+    let e = t .before .before in
+    rw (untouched (e .before .before .before .roots-compete .ensures) (e .if1 .left)) at (t .types-compete .ensures)
 
 pub competes-spec : {M : Type 1} → statement M
 competes-spec =
     tie.close
     (tie.spec
-    cast-t16
-    pair-numbers-requires
-    first-competing-requires
-    enum-known-competing
-    write-rivals-requires
+    roots-compete-requires
     same-length
     returns
-    enum-told
+    types-compete-requires
+    same-length-2
     returns-2)

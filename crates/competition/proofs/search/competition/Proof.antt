@@ -25,11 +25,15 @@ within c =
     let t = c .before .before .trim in
     passed (t .result .inside) (c .if2 .left) (t .ensures .0 .inside)
 
+opening-types-requires : tie.Need-opening-types-requires
+opening-types-requires c κs = (within c, c .before .before .trim .ensures .0 .exact (within c))
+
 competes-requires : tie.Need-competes-requires
 competes-requires c κs =
-    let w = within (c .before .before .before) in
-    let t = c .before .before .before .before .before .trim .ensures in
-    (w, t .0 .exact w, t .1 .rows w, omega arith)
+    let o = c .before .before .before .before in
+    let w = within (o .before) in
+    let t = o .before .before .before .trim .ensures in
+    (w, t .0 .exact w, o .opening-types .ensures, t .1 .rows w, omega arith)
 
 same-length : tie.Need-same-length
 same-length c = search needs
@@ -37,7 +41,7 @@ same-length c = search needs
 returns-3 : tie.Need-returns-3
 returns-3 c =
     let s = c .before .before .before in
-    competing-searched _ _ (omega arith) (within (s .before .before .before .before)) (rw (c .if3 .taken) at (s .competes .ensures))
+    competing-searched _ _ (omega arith) (within (s .before .before .before .before .before .before)) (rw (c .if3 .taken) at (s .competes .ensures))
 
 same-length-2 : tie.Need-same-length-2
 same-length-2 c = search needs
@@ -45,7 +49,7 @@ same-length-2 c = search needs
 returns-4 : tie.Need-returns-4
 returns-4 c =
     let s = c .before .before .before in
-    restrained-searched _ _ (omega arith) (within (s .before .before .before .before)) (rw (c .if3 .left) at (s .competes .ensures))
+    restrained-searched _ _ (omega arith) (within (s .before .before .before .before .before .before)) (rw (c .if3 .left) at (s .competes .ensures))
 
 pub competition-spec : {M : Type 1} → statement M
 competition-spec =
@@ -54,6 +58,7 @@ competition-spec =
     returns
     trim-requires
     returns-2
+    opening-types-requires
     competes-requires
     same-length
     returns-3

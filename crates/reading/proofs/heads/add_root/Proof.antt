@@ -1,51 +1,49 @@
 -- `reading::heads::add_root` meets its contract.
 use mathlib.Core.Path.{_≡_}
 use mathlib.Core.Bool.{Bool, true, false}
-use mathlib.Core.Logic.{_≢_}
 use mathlib.Core.List.{List}
-use Prim.Native.Nat.{ℕ, _+_}
-use borrow.Author.Tests.{not-true, not-false, eq-eqb, ne-eqb}
+use Prim.Native.Nat.{ℕ}
+use borrow.Author.Tests.{not-true, not-false}
 use borrow.Author.Needs.{needs}
 use lib.ListN.{getD, set}
-use Rattle.reading.specs.Heads.{headRoot, addRoot}
+use Rattle.schema.specs.States.{bearsIn}
+use Rattle.reading.specs.Heads.{headRoot, withRoot, addRoot}
 use Rattle.reading.proofs.heads.add_root.Statement.{statement}
 use Rattle.reading.proofs.heads.add_root.Tie as tie
 
--- the ways through it: no such root; one, where nothing opens under its tag yet; and one after another
-module _ (heads : List ℕ) (g a : ℕ) (b : Bool) where
-  no-root : b ≡ false → heads ≡ addRoot heads g a b
+-- the ways through it: a root that bears no tree, and one that does
+module _ (heads tag bears : List ℕ) (a : ℕ) (b : Bool) (tells : b ≡ bearsIn bears a) where
+  treeless : b ≡ false → heads ≡ addRoot heads tag bears a
   unfolding addRoot
-  no-root e = rw e
+  treeless e = rw (← tells, e)
 
-  module _ (root : b ≡ true) (f : ℕ) (fe : f ≡ headRoot g) where
-    later : getD heads f 0 ≢ 0 → heads ≡ addRoot heads g a b
-    unfolding addRoot
-    later h = rw (← fe, root, ne-eqb (getD heads f 0) 0 h)
+  bearing : b ≡ true → (f n : ℕ) → f ≡ headRoot (getD tag a 0) → n ≡ withRoot (getD heads f 0) a → set heads f n ≡ addRoot heads tag bears a
+  unfolding addRoot
+  bearing e f n fe ne = rw (← tells, e, ne, fe)
 
-    first : (f′ : ℕ) → f′ ≡ headRoot g → getD heads f 0 ≡ 0 → set heads f′ (a + 1) ≡ addRoot heads g a b
-    unfolding addRoot
-    first f′ fe′ h = rw (fe′, ← fe, root, eq-eqb (getD heads f 0) 0 h)
+cast-i : tie.Need-cast-i
+cast-i c = search needs
+
+bears-in-requires : tie.Need-bears-in-requires
+bears-in-requires c κs = search needs
 
 returns : tie.Need-returns
-returns c = no-root _ _ _ _ (not-true _ (c .if1 .taken))
+returns c = treeless _ _ _ _ _ (c .before .bears-in .ensures) (not-true _ (c .if1 .taken))
+
+element-copy-out-t11 : tie.Need-element-copy-out-t11
+element-copy-out-t11 c = search needs
 
 head-root-requires : tie.Need-head-root-requires
 head-root-requires c κs = search needs
 
-mul-if2 : tie.Need-mul-if2
-mul-if2 c = search needs
+mul-with-root : tie.Need-mul-with-root
+mul-with-root c = search needs
 
-element-copy-out-if2 : tie.Need-element-copy-out-if2
-element-copy-out-if2 c = search needs
+element-copy-out-with-root : tie.Need-element-copy-out-with-root
+element-copy-out-with-root c = search needs
 
-cast-heads : tie.Need-cast-heads
-cast-heads c = search needs
-
-add-heads : tie.Need-add-heads
-add-heads c = search needs
-
-head-root-requires-2 : tie.Need-head-root-requires-2
-head-root-requires-2 c κs = search needs
+with-root-requires : tie.Need-with-root-requires
+with-root-requires c κs = search needs
 
 mul-heads : tie.Need-mul-heads
 mul-heads c = search needs
@@ -55,27 +53,22 @@ element-write-heads c = search needs
 
 returns-2 : tie.Need-returns-2
 returns-2 c =
-    let t = c .before .before in
-    let f = t .before .before in
-    first _ _ _ _ (not-false _ (f .before .if1 .left)) _ (f .head-root .ensures) _ (c .head-root2 .ensures) (t .if2 .taken)
-
-returns-3 : tie.Need-returns-3
-returns-3 c =
-    let f = c .before .before in
-    later _ _ _ _ (not-false _ (f .before .if1 .left)) _ (f .head-root .ensures) (c .if2 .left)
+    let r = c .before .before in
+    let i = r .before .before in
+    bearing _ _ _ _ _ (i .before .bears-in .ensures) (not-false _ (i .if1 .left)) _ _ (r .head-root .ensures) (c .with-root .ensures)
 
 pub add-root-spec : {M : Type 1} → statement M
 add-root-spec =
     tie.close
     (tie.spec
+    cast-i
+    bears-in-requires
     returns
+    element-copy-out-t11
     head-root-requires
-    mul-if2
-    element-copy-out-if2
-    cast-heads
-    add-heads
-    head-root-requires-2
+    mul-with-root
+    element-copy-out-with-root
+    with-root-requires
     mul-heads
     element-write-heads
-    returns-2
-    returns-3)
+    returns-2)

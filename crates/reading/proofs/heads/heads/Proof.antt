@@ -1,60 +1,32 @@
--- `reading::heads::heads` meets its contract.
-use mathlib.Core.Path.{_≡_, sym, _∙_}
-use mathlib.Core.Bool.{Bool, _&&_}
-use mathlib.Core.Logic.{_↔_}
-use mathlib.Core.List.{List}
-use Prim.Native.Nat.{ℕ, _+_, _-_, _≤_, _<_}
+-- `reading::heads::heads` meets its contract. The loop's invariant: the numbers of the types below a are laid, and nothing opens yet.
+use mathlib.Core.Path.{_≡_}
+use Prim.Native.Nat.{_-_, _≤_}
 use native.Mathlib.Numerals.{add-one}
 use native.Mathlib.Omega.{arith}
 use borrow.Author.Needs.{needs}
-use lib.Dec.{T, eqb, eqb→eq, eqb-refl}
-use lib.ListN.{getD}
 use Rattle.sdtd.specs.Limits.{mostTypes}
-use Rattle.sdtd.specs.Tree.{IsRoot}
-use Rattle.sdtd.specs.Trim.{Bears}
 use Rattle.sdtd.specs.Schema.{WithinLimits}
-use Rattle.sdtd.proofs.Basics.{and-parts, and-both}
-use Rattle.schema.specs.States.{bearsIn}
 use Rattle.schema.specs.Value.{meaning}
-use Rattle.schema.specs.Trimming.{BearsExactly}
-use Rattle.schema.specs.declared.value.Schema.{Schema}
 use Rattle.schema.proofs.LimitLaws.{within-room}
-use Rattle.schema.proofs.FirstTables.{root-is}
-use Rattle.reading.specs.Heads.{setHead, addRoot}
-use Rattle.reading.proofs.LevelLaws.{tag-below}
-use Rattle.reading.proofs.RootMeans.{HeadsBelow, heads-none, heads-laid, heads-more, heads-all}
+use Rattle.reading.proofs.RootMeans.{HeadsBelow, heads-none, heads-laid, roots-fit, heads-rooted, heads-all}
 use Rattle.reading.proofs.heads.heads.Statement.{statement}
 use Rattle.reading.proofs.heads.heads.Tie as tie
 
-module _ (v : Schema) (within : WithinLimits (meaning v)) (bears : List ℕ) (table : BearsExactly (meaning v) bears) where
-  -- the test tells the root types that bear a tree
-  tells : (a : ℕ) → T (eqb a (v .root .0) && bearsIn bears a) ↔ (IsRoot (meaning v) a × Bears (meaning v) a)
-  tells a = (
-    λ t.
-        let p = and-parts (eqb a (v .root .0)) (bearsIn bears a) t in
-        (eqb→eq a (v .root .0) (p .0) ∙ sym (root-is v), table a .0 (p .1)),
-    λ w. and-both (eqb a (v .root .0)) (bearsIn bears a) (rw (w .0 ∙ root-is v) (eqb-refl (v .root .0))) (table a .1 (w .1)),
-  )
-
-  -- a turn adds the type a
-  turn : (a : ℕ) (b : Bool) (was laid is : List ℕ) → a < v .types → laid ≡ setHead was a (getD (v .tag) a 0) (getD (v .accepting) a 0)
-      → b ≡ (eqb a (v .root .0) && bearsIn bears a) → is ≡ addRoot laid (getD (v .tag) a 0) a b → HeadsBelow v a a was
-      → HeadsBelow v (a + 1) (a + 1) is
-  turn a b was laid is l h e f w =
-      rw (add-one, f, h, e) (heads-more v within a l _ (heads-laid v within a l was w) (eqb a (v .root .0) && bearsIn bears a) (tells a))
-
 abbrev Inv-loop : tie.InvT-loop
-Inv-loop schema bears all₀ tag accepting root a₀ all a = (a ≤ schema .types) × HeadsBelow schema a a all
+Inv-loop schema bears all₀ tag accepting root a₀ all a = (a ≤ schema .types) × HeadsBelow schema a 0 all
 
 abbrev μ-loop : tie.MeasureT-loop
 μ-loop schema bears all₀ tag accepting root a₀ all a = schema .types - a
 
--- the schema is inside the limits
-within : (c : tie.Start Inv-loop μ-loop) → WithinLimits (meaning (c .args .schema))
-within c = c .pre .0
+-- where the function begins, by a place at the loop; the schema is inside the limits
+abbrev start : tie.At-loop Inv-loop μ-loop → tie.Start Inv-loop μ-loop
+start k = k .before .before .before .before
 
-types-most : (c : tie.Start Inv-loop μ-loop) → c .args .schema .types ≤ mostTypes
-types-most c = within-room _ (within c) .types
+within : (k : tie.At-loop Inv-loop μ-loop) → WithinLimits (meaning (start k .args .schema))
+within k = start k .pre .0
+
+types-most : (k : tie.At-loop Inv-loop μ-loop) → start k .args .schema .types ≤ mostTypes
+types-most k = within-room _ (within k) .types
 
 loop-holds : tie.Need-loop-holds Inv-loop μ-loop
 loop-holds c = (omega arith, heads-none _)
@@ -62,30 +34,17 @@ loop-holds c = (omega arith, heads-none _)
 cast-i : tie.Need-cast-i Inv-loop μ-loop
 cast-i c = search needs
 
-array-read-t16 : tie.Need-array-read-t16 Inv-loop μ-loop
-array-read-t16 c = search (needs, types-most (c .before .before .before .before .before .before .before))
+array-read-t15 : tie.Need-array-read-t15 Inv-loop μ-loop
+array-read-t15 c = search (needs, types-most (c .before .before .before))
 
 mul-lay-head : tie.Need-mul-lay-head Inv-loop μ-loop
 mul-lay-head c = search needs
 
 array-read-lay-head : tie.Need-array-read-lay-head Inv-loop μ-loop
-array-read-lay-head c = search (needs, types-most (c .before .before .before .before .before .before .before))
+array-read-lay-head c = search (needs, types-most (c .before .before .before))
 
 lay-head-requires : tie.Need-lay-head-requires Inv-loop μ-loop
-lay-head-requires c κs = omega (arith, types-most (c .before .before .before .before .before .before .before))
-
-bearing-root-requires : tie.Need-bearing-root-requires Inv-loop μ-loop
-bearing-root-requires c κs = omega (arith, types-most (c .before .before .before .before .before .before .before .before .before))
-
-array-read-t16-2 : tie.Need-array-read-t16-2 Inv-loop μ-loop
-array-read-t16-2 c =
-    search (needs, types-most (c .before .before .before .before .before .before .before .before .before .before .before))
-
-add-root-requires : tie.Need-add-root-requires Inv-loop μ-loop
-add-root-requires c κs =
-    let i = c .before .before .before .before .before in
-    let s = i .before .before .before .before .before .before in
-    tag-below (s .args .schema) (within s) _ (i .if1 .taken)
+lay-head-requires c κs = omega (arith, types-most (c .before .before .before))
 
 add-a : tie.Need-add-a Inv-loop μ-loop
 add-a c = search needs
@@ -95,20 +54,22 @@ loop-less c = search needs
 
 loop-again : tie.Need-loop-again Inv-loop μ-loop
 loop-again c =
-    let r = c .before .before in
-    let h = r .before .before in
-    let i = h .before .before in
+    let i = c .before .before in
     let k = i .before .before in
-    let s = k .before .before .before .before in
-    (omega arith, turn (s .args .schema) (within s) (s .args .t2) (s .pre .1) _ _ _ _ _ (i .if1 .taken) (h .lay-head .ensures) (r .bearing-root .ensures) (c .add-root .ensures) (k .loop .inv .1))
+    let s = start k .args .schema in
+    (omega arith, rw (add-one, c .lay-head .ensures) (heads-laid s (within k) _ (i .if1 .taken) _ (k .loop .inv .1)))
+
+lay-roots-requires : tie.Need-lay-roots-requires Inv-loop μ-loop
+lay-roots-requires c κs = roots-fit _ (within (c .before .before .before .before .before))
 
 returns : tie.Need-returns Inv-loop μ-loop
 returns c =
-    let k = c .before .before in
-    let s = k .before .before .before .before in
+    let k = c .before .before .before .before .before .before in
+    let s = start k in
     let v = s .args .schema in
     let e : k .loop .a ≡ v .types = omega arith in
-    heads-all v (within s) _ (rw e at (k .loop .inv .1))
+    let rooted = heads-rooted v (within k) (s .args .t2) (s .pre .1) (types-most k) (rw e at (k .loop .inv .1)) in
+    rw (c .lay-roots .ensures) (heads-all v (within k) _ (rooted (v .roots) (omega arith)))
 
 pub heads-spec : {M : Type 1} → statement M
 heads-spec =
@@ -118,14 +79,12 @@ heads-spec =
     μ-loop
     loop-holds
     cast-i
-    array-read-t16
+    array-read-t15
     mul-lay-head
     array-read-lay-head
     lay-head-requires
-    bearing-root-requires
-    array-read-t16-2
-    add-root-requires
     add-a
     loop-less
     loop-again
+    lay-roots-requires
     returns)

@@ -1,10 +1,9 @@
 -- The types before the place `at` of the queue are gone over.
 use Prim.Native.Nat.{_-_, _<_}
-use mathlib.Core.Path.{refl}
 use native.Mathlib.Numerals.{add-one}
 use native.Mathlib.Omega.{arith}
 use borrow.Author.Needs.{needs}
-use lib.ListN.{getD, replicate}
+use lib.ListN.{getD}
 use Rattle.sdtd.specs.Limits.{mostTypes}
 use Rattle.schema.specs.Spread.{Starts, stepsIn, queued}
 use Rattle.schema.specs.Value.{stepsOf}
@@ -14,24 +13,18 @@ use Rattle.schema.proofs.tables.reached_types.Statement.{statement}
 use Rattle.schema.proofs.tables.reached_types.Tie as tie
 
 abbrev Inv-loop : tie.InvT-loop
-Inv-loop from by to steps types tables starts first reached₀ queue₀ count₀ at₀ reached queue count at =
+Inv-loop from by to steps types roots tables starts reached₀ queue₀ count₀ at₀ reached queue count at =
     Starts steps types starts
-    × Visited (stepsIn steps (stepsOf from by to) types) (tables .bears) (tables .forward) (tables .live) first at (queued reached queue count)
+    × Visited (stepsIn steps (stepsOf from by to) types) (tables .bears) (tables .forward) (tables .live) roots at (queued reached queue count)
 
 abbrev μ-loop : tie.MeasureT-loop
-μ-loop from by to steps types tables starts first reached₀ queue₀ count₀ at₀ reached queue count at = mostTypes - at
+μ-loop from by to steps types roots tables starts reached₀ queue₀ count₀ at₀ reached queue count at = mostTypes - at
 
 starts-requires : tie.Need-starts-requires Inv-loop μ-loop
 starts-requires c κs = search needs
 
-cast-first : tie.Need-cast-first Inv-loop μ-loop
-cast-first c = search needs
-
-array-write-reached : tie.Need-array-write-reached Inv-loop μ-loop
-array-write-reached c = search needs
-
-array-write-queue : tie.Need-array-write-queue Inv-loop μ-loop
-array-write-queue c = search needs
+join-marked-requires : tie.Need-join-marked-requires Inv-loop μ-loop
+join-marked-requires c κs = search needs
 
 -- the place `at` is one of the queue, and the type there has an entry in each table
 ahead : (c : tie.In-loop Inv-loop μ-loop) → c .before .loop .at < c .before .loop .count
@@ -44,7 +37,7 @@ small : (c : tie.In-loop Inv-loop μ-loop) → getD (c .before .loop .queue) (c 
 small c = visited-below _ _ _ _ _ (c .before .loop .inv .1) (ahead c)
 
 loop-holds : tie.Need-loop-holds Inv-loop μ-loop
-loop-holds c = (c .before .starts .ensures, visited-first _ _ _ _ _ (replicate mostTypes 0) refl (omega arith))
+loop-holds c = (c .before .before .before .starts .ensures, rw (c .join-marked .ensures) (visited-first _ _ _ _ _))
 
 array-read-a : tie.Need-array-read-a Inv-loop μ-loop
 array-read-a c = omega (arith, most c)
@@ -70,7 +63,7 @@ element-copy-out-live c = omega (arith, small (c .before .before .before))
 reach-steps-requires : tie.Need-reach-steps-requires Inv-loop μ-loop
 reach-steps-requires c κs =
     let k = c .before .before .before .before .before .before in
-    rw (k .span-at .ensures) (span-fits _ _ _ (k .before .before .before .before .before .before .pre .1))
+    rw (k .span-at .ensures) (span-fits _ _ _ (k .before .before .before .before .before .before .before .before .pre .1))
 
 add-at : tie.Need-add-at Inv-loop μ-loop
 add-at c = omega (arith, most (c .before .before .before .before .before .before .before .before .before))
@@ -95,9 +88,7 @@ reached-types-spec =
     Inv-loop
     μ-loop
     starts-requires
-    cast-first
-    array-write-reached
-    array-write-queue
+    join-marked-requires
     loop-holds
     array-read-a
     cast-a

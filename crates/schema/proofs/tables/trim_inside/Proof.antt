@@ -20,28 +20,34 @@ fits c =
 room : (c : tie.Start) → Room (c .args .t1)
 room c = within-room _ (c .pre .0)
 
+root-types-requires : tie.Need-root-types-requires
+root-types-requires c κs = search needs
+
 cast-types : tie.Need-cast-types
 cast-types c = search needs
 
 forward-states-requires : tie.Need-forward-states-requires
-forward-states-requires c κs = let r = room (c .before .before .before .before .before .before .before) in (r .types, r .steps)
+forward-states-requires c κs = let r = room (c .before .before .before .before .before .before .before .before) in (r .types, r .steps)
 
 reached-types-requires : tie.Need-reached-types-requires
 reached-types-requires c κs =
-    let r = room (c .before .before .before .before .before .before .before .before .before .before .before .before .before) in
-    (r .types, r .steps, r .root)
+    let r = room (c .before .before .before .before .before .before .before .before .before .before .before .before .before .before .before) in
+    (r .types, r .steps)
 
 bearing-types-requires : tie.Need-bearing-types-requires
 bearing-types-requires c κs = search needs
 
 returns : tie.Need-returns
 returns c =
-    let start = c .before .before .before .before .before .before .before .before .before .before .before .before .before .before .before in (
+    let marked = c .before .before .before .before .before .before .before .before .before .before .before .before .before .before .before in
+    let start = marked .before .before in (
       tt,
       rw (c .bearing-types .ensures)
           (tables-exact (fits start) (start .pre .0) (start .args .t2) (search needs) (start .pre .1)
-          (c .before .before .before .before .before .before .before .forward-states .ensures) (c .before .reached-types .ensures)),
+          (c .before .before .before .before .before .before .before .before .forward-states .ensures) (marked .root-types .ensures)
+          (c .before .reached-types .ensures)),
     )
 
 pub trim-inside-spec : {M : Type 1} → statement M
-trim-inside-spec = tie.close (tie.spec cast-types forward-states-requires reached-types-requires bearing-types-requires returns)
+trim-inside-spec =
+    tie.close (tie.spec cast-types root-types-requires forward-states-requires reached-types-requires bearing-types-requires returns)
