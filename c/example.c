@@ -1,5 +1,6 @@
 /*
- * Types a document: example SCHEMA EVENTS prints what the program `typestock` prints of a schema file and an event file.
+ * Types a document: example SCHEMA EVENTS prints what the program `typestock` prints of a schema file and an event file. Where two roots compete
+ * it says so in words, in place of the line `type 255 gives J or K after 0`.
  */
 #include <inttypes.h>
 #include <stdio.h>
@@ -54,7 +55,11 @@ static struct bytes file(const char *name)
 static void print_refused(uint8_t number, size_t place, const uint8_t *witness)
 {
     printf("schema refused %" PRIu8 " at %zu\n", number, place);
-    if (number == TYPESTOCK_COMPETITION)
+    if (number != TYPESTOCK_COMPETITION)
+        return;
+    if (witness[0] == TYPESTOCK_NO_PARENT)
+        printf("the roots %d and %d have one tag\n", witness[1], witness[2]);
+    else
         printf("type %d gives %d or %d after %d\n", witness[0], witness[1], witness[2], witness[3] + 256 * witness[4]);
 }
 

@@ -29,9 +29,12 @@ extern "C" {
 /* The least length of a witness buffer: with fewer bytes every schema is refused with TYPESTOCK_SHORT_WITNESS. */
 #define TYPESTOCK_WITNESS 532
 
+/* In place of type A at the head of a witness: two roots compete, before any element is open. No type has this number. */
+#define TYPESTOCK_NO_PARENT 255
+
 /*
- * The greatest length of an accepted schema file with one ROOT and only the commands 10 to 14 and 1F. One with expressions may be longer:
- * an expression has no largest length.
+ * The greatest length of an accepted schema file with one ROOT and only the commands 10 to 14 and 1F. One with more ROOTs may be longer, by two
+ * bytes for each, and one with expressions too: an expression has no largest length.
  */
 #define TYPESTOCK_LONGEST_SCHEMA 8389
 
@@ -45,18 +48,21 @@ extern "C" {
  * The content of a type is given by states, with FINAL and STEP, or, after a TYPE with state count 0, by an expression: 32 and a type is a use of
  * that type, what stands side by side comes in that order, 33 divides what is chosen from, 30 and 31 are brackets, 34 repeats the use or
  * the brackets before it zero or more times, and 3F ends the expression. Both may stand in one file. docs/FORMATS.md says what it becomes.
+ *
+ * ROOT is given one to eight times, each time with another type, after all types and right before DONE. A document's root element may be of any of
+ * these types.
  */
 #define TYPESTOCK_ACCEPTED 0        /* accepted; place 0 */
 #define TYPESTOCK_SHORT_WITNESS 1   /* the witness buffer has fewer than 532 bytes; place 0 */
 #define TYPESTOCK_NO_COMMAND 2      /* no command, or its operands run past the end; an unfinished file: at its length */
-#define TYPESTOCK_OUT_OF_ORDER 3    /* a command out of its order: also one of an expression outside, any other inside; a byte after DONE:
-                                       at that byte */
-#define TYPESTOCK_OUT_OF_RANGE 4    /* an operand out of range */
-#define TYPESTOCK_TOO_MANY 5        /* a 65th type or a 1,025th step; for an expression's steps at its 3F */
-#define TYPESTOCK_REPEATED 6        /* a FINAL or STEP that its block already has */
+#define TYPESTOCK_OUT_OF_ORDER 3    /* a command out of its order: also one of an expression outside, any other inside, and any but ROOT
+                                       and DONE after a ROOT; a byte after DONE: at that byte */
+#define TYPESTOCK_OUT_OF_RANGE 4    /* an operand out of range: also a ROOT with a type that was not given */
+#define TYPESTOCK_TOO_MANY 5        /* a 65th type, a 1,025th step or a ninth ROOT; for an expression's steps at its 3F */
+#define TYPESTOCK_REPEATED 6        /* a FINAL or STEP that its block already has, or a second ROOT of one type */
 #define TYPESTOCK_UNKNOWN_TYPE 7    /* a STEP or a 32 with a type that was not given; the first such in the file */
-#define TYPESTOCK_NO_TREE 8         /* the root type bears no tree; place 0 */
-#define TYPESTOCK_COMPETITION 9     /* two types compete, as the witness shows; place 0 */
+#define TYPESTOCK_NO_TREE 8         /* no root type bears a tree; place 0 */
+#define TYPESTOCK_COMPETITION 9     /* two types compete, as roots or inside a type, as the witness shows; place 0 */
 #define TYPESTOCK_CANNOT_FOLLOW 21  /* in an expression, a 31 with no bracket open, a 34 that is not right after a 32 or a 31, or a 3F with
                                        a bracket open */
 #define TYPESTOCK_TOO_MANY_USES 22  /* a 32nd use in one expression */
@@ -107,11 +113,12 @@ struct typestock_opening {
  *
  * schema    the file's bytes.
  * witness   a buffer, of TYPESTOCK_WITNESS bytes or more for an answer other than 1. On TYPESTOCK_COMPETITION its first 5 + n bytes say why:
- *           type A, types J and K, the length n of a word in two bytes, the low one first, and the word, a byte a type. After that word
- *           of children an element of type A may go on with J or with K, which have one tag; J < K, and A is the smallest type in which two
- *           compete. The word is shortest: no two types compete in A after fewer children. So A and n are fixed by the schema, n is at most
- *           527, and J, K and the word are one choice of those that are left. The rest of the buffer is unchanged; on every other answer all
- *           of it is.
+ *           type A, types J and K, the length n of a word in two bytes, the low one first, and the word, a byte a type. J < K, and both have
+ *           one tag. Where A is TYPESTOCK_NO_PARENT they are root types that both bear a tree: a document may begin with either, and n is 0. This
+ *           is looked at first. Else no two roots compete: after that word of children an element of type A may go on with J or with K, and
+ *           A is the smallest type in which two compete. The word is shortest: no two types compete in A after fewer children. So A and n are fixed
+ *           by the schema, n is at most 527, and J, K and the word are one choice of those that are left. The rest of the buffer is unchanged;
+ *           on every other answer all of it is.
  */
 struct typestock_schema typestock_check_schema(const uint8_t *schema, size_t schema_length, uint8_t *witness, size_t witness_length);
 

@@ -20,8 +20,9 @@ type Begins = [u16; ROWS + 1];
 
 // The layouts that the exports have: C's, of the fields in the engine's order.
 const _: () = {
-    assert!(size_of::<Schema>() == 3588 && offset_of!(Schema, accepting) == 132);
-    assert!(offset_of!(Schema, steps) == 388 && offset_of!(Schema, from) == 516);
+    assert!(size_of::<Schema>() == 3596 && offset_of!(Schema, root) == 3);
+    assert!(offset_of!(Schema, tag) == 11 && offset_of!(Schema, accepting) == 140);
+    assert!(offset_of!(Schema, steps) == 396 && offset_of!(Schema, from) == 524);
     assert!(size_of::<Trimmed>() == 388 && offset_of!(Trimmed, live) == 4);
     assert!(offset_of!(Trimmed, bears) == 260 && offset_of!(Trimmed, reached) == 324);
     assert!(size_of::<Entries>() == 4096 && size_of::<Begins>() == 4098);

@@ -1,6 +1,7 @@
 //! Random schemas, inside the limits and outside them.
 use crate::random::Random;
-use crate::schemas::{Type, schema};
+use crate::schemas::{Type, schema, set_roots};
+use plain::limits::MOST_ROOTS;
 use plain::{Schema, States};
 
 impl Random {
@@ -32,7 +33,11 @@ impl Random {
                 }
             })
             .collect();
-        let mut s = schema(tags, self.byte(types), &blocks);
+        // A root may be there twice.
+        let most = [1, MOST_ROOTS as u8][self.below(2) as usize];
+        let roots: Vec<u8> = (0..=self.byte(most)).map(|_| self.byte(types)).collect();
+        let mut s = schema(tags, roots[0], &blocks);
+        set_roots(&mut s, &roots);
         if self.below(8) == 0 {
             self.spoil(&mut s);
         }
@@ -48,16 +53,17 @@ impl Random {
             n @ 0..8 => near[n as usize],
             _ => self.byte(255),
         };
-        match self.below(10) {
+        match self.below(11) {
             0 => s.tags = any,
             1 => s.types = any,
-            2 => s.root = any,
-            3 => s.tag[a] = any,
-            4 => s.states[a] = any % 40,
-            5 => s.accepting[a] = self.states(32),
-            6 => s.steps[a] = self.below(1100) as u16,
-            7 => s.from[i] = any % 40,
-            8 => s.by[i] = any,
+            2 => s.roots = [0, 8, 9, 255, any][self.below(5) as usize],
+            3 => s.root[i % MOST_ROOTS] = any,
+            4 => s.tag[a] = any,
+            5 => s.states[a] = any % 40,
+            6 => s.accepting[a] = self.states(32),
+            7 => s.steps[a] = self.below(1100) as u16,
+            8 => s.from[i] = any % 40,
+            9 => s.by[i] = any,
             _ => s.to[i] = any % 40,
         }
     }

@@ -61,11 +61,13 @@ impl Asked {
         }
     }
 
-    fn met(self, microseconds: f64, ratios: impl Iterator<Item = f64>) -> bool {
+    /// Whether it was met. Of a contender that was not run there is no ratio.
+    fn met(self, microseconds: f64, ratios: &[Option<f64>]) -> bool {
         let asked = [self.ratio, self.second].into_iter();
         let by_ratios = asked
             .zip(ratios)
-            .all(|(most, ratio)| most.is_none_or(|most| ratio <= most));
+            .filter_map(|(most, ratio)| most.zip(*ratio))
+            .all(|(most, ratio)| ratio <= most);
         self.microseconds.is_none_or(|most| microseconds <= most) && by_ratios
     }
 
@@ -170,16 +172,14 @@ pub fn row(what: &str, size: &str, times: &[Vec<f64>], asked: Asked) -> bool {
         figure(median(proved)),
         spread.join(" to ")
     );
-    for other in others {
-        if other.is_empty() {
-            print!(" {:>9} {:>6}", "", "");
-        } else {
-            let ratio = ratio(proved, other);
-            print!(" {:>9} {ratio:>6.2}", figure(median(other)));
+    let ratios: Vec<Option<f64>> = others.iter().map(|other| ratio(proved, other)).collect();
+    for (other, ratio) in others.iter().zip(&ratios) {
+        match ratio {
+            Some(ratio) => print!(" {:>9} {ratio:>6.2}", figure(median(other))),
+            None => print!(" {:>9} {:>6}", "", ""),
         }
     }
-    let ratios = others.iter().map(|other| ratio(proved, other));
-    let met = asked.met(median(proved), ratios);
+    let met = asked.met(median(proved), &ratios);
     println!("{}{}", if met { "" } else { "  OVER" }, asked.text());
     met
 }
@@ -192,7 +192,8 @@ pub fn agree(same: bool) -> bool {
     same
 }
 
-fn ratio(proved: &[f64], other: &[f64]) -> f64 {
+/// The median of the ratios, if there are times of the other.
+fn ratio(proved: &[f64], other: &[f64]) -> Option<f64> {
     let ratios: Vec<f64> = proved.iter().zip(other).map(|(a, b)| a / b).collect();
-    median(&ratios)
+    (!ratios.is_empty()).then(|| median(&ratios))
 }

@@ -3,9 +3,9 @@
 use crate::engine::{self, Trimmed};
 use crate::measure::{Asked, agree, heading, in_turn, row};
 use crate::random::Random;
-use crate::schemas::{chain, chain_back, dense, small, wide};
+use crate::schemas::{chain, chain_back, dense, eight_lists, eight_roots, small, wide};
 use crate::witness::is_left_right;
-use plain::limits::WITNESS;
+use plain::limits::{NO_PARENT, WITNESS};
 use plain::questions::{COMPETITION, NONE, OUTSIDE_LIMITS};
 use plain::{Rows, Schema, Trimming, competition};
 use std::cell::RefCell;
@@ -85,10 +85,11 @@ fn report<P, Q>(
 /// How many random schemas are compared.
 const SCHEMAS: usize = 4_000;
 
-/// Limits, tables and numbers of random schemas, which both find alike, and the witnesses. How many compete, and how many are outside the limits.
-fn compare() -> Option<[usize; 2]> {
+/// Limits, tables and numbers of random schemas, which both find alike, and the witnesses. In how many two types compete, in how many two roots, and
+/// how many are outside the limits.
+fn compare() -> Option<[usize; 3]> {
     let mut random = Random(0x2545_F491_4F6C_DD1D);
-    let mut counts = [0; 2];
+    let mut counts = [0; 3];
     let mut rows = Rows::NONE;
     for _ in 0..SCHEMAS {
         let schema = random.schema();
@@ -103,8 +104,13 @@ fn compare() -> Option<[usize; 2]> {
         if !same {
             return None;
         }
-        counts[0] += usize::from(found.0 == COMPETITION);
-        counts[1] += usize::from(found.0 == OUTSIDE_LIMITS);
+        let counted = match found {
+            (COMPETITION, [NO_PARENT, ..]) => Some(1),
+            (COMPETITION, _) => Some(0),
+            (OUTSIDE_LIMITS, _) => Some(2),
+            _ => None,
+        };
+        counted.into_iter().for_each(|n: usize| counts[n] += 1);
     }
     Some(counts)
 }
@@ -118,6 +124,8 @@ pub fn run() -> bool {
         ("1 type of 32 states, 63 leaves", 20e3, dense()),
         ("32 types of 32 states", 20e3, wide(0)),
         ("the same, 32 leaves", 20e3, wide(32)),
+        ("8 roots, 64 types of 16 steps", 20e3, eight_roots()),
+        ("8 roots, each of a kind of list", 20e3, eight_lists()),
     ];
     heading("Schemas as values", "steps", &["plain"]);
     let mut same = true;
@@ -150,8 +158,9 @@ pub fn run() -> bool {
         );
     }
     match compare() {
-        Some([compete, outside]) => println!(
-            "{SCHEMAS} random schemas: the same limits, tables and numbers, and witnesses that are. {compete} compete, {outside} are outside the limits"
+        Some([types, roots, outside]) => println!(
+            "{SCHEMAS} random schemas: the same limits, tables and numbers, and witnesses that are. In {types} two types compete, in {roots} two roots, \
+             {outside} are outside the limits"
         ),
         None => return agree(false),
     }

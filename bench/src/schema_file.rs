@@ -4,11 +4,11 @@ use crate::expressions;
 use crate::measure::{Asked, agree, heading, in_turn, row};
 use crate::random::Random;
 use crate::schemas::{
-    STEPS_GROW, chain, chain_back, full, layered, longest, mixed, samples, schema_file, shuffled,
-    single, small, wide,
+    STEPS_GROW, chain, chain_back, competing_roots, eight_lists, eight_roots, full, layered,
+    longest, mixed, samples, schema_file, shuffled, single, small, wide,
 };
 use crate::witness::is_left_right;
-use plain::codes::{CLOSE_BRACKET, END, OPEN_BRACKET, REPEAT, STEP, TYPE, USE};
+use plain::codes::{CLOSE_BRACKET, END, OPEN_BRACKET, REPEAT, ROOT, STEP, TYPE, USE};
 use plain::limits::WITNESS;
 use plain::{Schema, SchemaAnswer, check_schema, competes, schema_file::read};
 use std::hint::black_box;
@@ -75,7 +75,7 @@ fn one_within(what: &str, schema: &Schema, leads: Leads, microseconds: f64) -> b
     report(what, &[schema_file(schema)], leads, Some(microseconds))
 }
 
-/// The longest files, in two orders of their steps. Questions 1 to 7 cannot be called alone: the root type with no step leaves 8 and 9 little to
+/// The longest files of one ROOT, in two orders of their steps. Questions 1 to 7 cannot be called alone: the root type with no step leaves 8 and 9 little to
 /// ask, and a last step that gets 7 leaves them nothing.
 fn longest_files() -> bool {
     let mut same = true;
@@ -148,6 +148,7 @@ fn spoiled() -> Option<[u32; NUMBERS]> {
     let mut random = Random(0x9E37_79B9_7F4A_7C15);
     let mut schemas = samples();
     schemas.extend([small(), layered(5), layered(64), mixed(8, 4)]);
+    schemas.extend([eight_roots(), competing_roots(), eight_lists()]);
     let mut files: Vec<Vec<u8>> = schemas.iter().map(schema_file).collect();
     files.extend([
         expressions::five_uses(),
@@ -166,6 +167,12 @@ fn spoiled() -> Option<[u32; NUMBERS]> {
             ];
             let root = file.len() - 3;
             file.splice(root..root, more[random.below(4) as usize].iter().copied());
+        }
+        if random.below(4) == 0 {
+            let roots = [random.byte(8), random.byte(64)].map(|root| [ROOT, root]);
+            let done = file.len() - 1;
+            let more = &roots[..1 + random.below(2) as usize];
+            file.splice(done..done, more.concat());
         }
         for _ in 0..random.below(3) {
             let at = random.below(file.len() as u64) as usize;
@@ -223,6 +230,9 @@ pub fn run() -> bool {
         let what = format!("steps grow: {steps} by 31 types, in one of {states} states");
         same &= one(&what, &mixed(states, targets));
     }
+    same &= one("8 roots, 64 types of 16 steps", &eight_roots());
+    same &= one("the same, two roots compete", &competing_roots());
+    same &= one("8 roots, each of a kind of list", &eight_lists());
     same &= expression_files();
     match spoiled() {
         Some(numbers) => println!(

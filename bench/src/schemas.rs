@@ -32,9 +32,9 @@ pub fn schema(tags: u8, root: u8, types: &[Type]) -> Schema {
     let mut s = Schema {
         tags,
         types: types.len() as u8,
-        root,
         ..Schema::BLANK
     };
+    set_roots(&mut s, &[root]);
     for (a, t) in types.iter().enumerate() {
         s.tag[a] = t.tag;
         s.states[a] = t.states;
@@ -45,6 +45,13 @@ pub fn schema(tags: u8, root: u8, types: &[Type]) -> Schema {
         [s.from[i], s.by[i], s.to[i]] = *step;
     }
     s
+}
+
+/// Gives the schema these roots, at most eight, in place of its own.
+pub fn set_roots(s: &mut Schema, roots: &[u8]) {
+    s.roots = roots.len() as u8;
+    s.root = Schema::BLANK.root;
+    s.root[..roots.len()].copy_from_slice(roots);
 }
 
 /// The schema file that states the schema.
@@ -58,7 +65,8 @@ pub fn schema_file(s: &Schema) -> Vec<u8> {
                 .flat_map(|step| [STEP, step.from, step.by, step.to]),
         );
     }
-    file.extend([ROOT, s.root, DONE]);
+    file.extend(s.root_types().iter().flat_map(|&root| [ROOT, root]));
+    file.push(DONE);
     file
 }
 
@@ -205,6 +213,40 @@ pub fn layered(types: u8) -> Schema {
         })
         .collect();
     schema(tags, 0, &types)
+}
+
+/// 64 types of `layered`, eight of them roots, none of which compete.
+pub fn eight_roots() -> Schema {
+    let mut s = layered(64);
+    set_roots(&mut s, &[63, 54, 45, 36, 27, 18, 9, 0]);
+    s
+}
+
+/// The same with a last root of the first one's tag.
+pub fn competing_roots() -> Schema {
+    let mut s = eight_roots();
+    s.root[7] = 31;
+    s
+}
+
+/// Eight kinds of lists, each a root with types of its own: it holds articles of six kinds, and each of these notes, both in any number and order.
+pub fn eight_lists() -> Schema {
+    let mut types: Vec<Type> = (0..8)
+        .map(|list| {
+            let articles = (0..6).map(|n| 8 + 6 * list + n);
+            Type {
+                tag: list,
+                states: 1,
+                accepting: 1,
+                steps: articles.map(|article| [0, article, 0]).collect(),
+            }
+        })
+        .collect();
+    types.extend((0..48).map(|article| typed(8 + article % 6, 1, 1, [[0, 56 + article / 6, 0]])));
+    types.extend((0..8).map(|list| leaf(14 + list)));
+    let mut s = schema(22, 0, &types);
+    set_roots(&mut s, &[7, 6, 5, 4, 3, 2, 1, 0]);
+    s
 }
 
 /// One type, with one step by itself.

@@ -2,7 +2,7 @@
 use super::calls::Events;
 use crate::documents::document;
 use crate::random::Random;
-use crate::schemas::{STEPS_GROW, dense, layered, mixed, nesting, small};
+use crate::schemas::{STEPS_GROW, dense, eight_lists, eight_roots, layered, mixed, nesting, small};
 use plain::codes::{CLOSE, FINISH, OPEN};
 use plain::limits::MOST_OPEN;
 use plain::questions::TOO_DEEP;
@@ -63,6 +63,19 @@ pub fn file_cases() -> Vec<FileCase> {
         ),
         case("the same, 60 to 64 deep", nesting(), LONGEST, [60, deep]),
         case("1 type, 1,024 steps by one type", dense(), LONGEST, [1, 2]),
+        case(
+            "8 roots, 64 types of 16 steps",
+            eight_roots(),
+            LONGEST,
+            [1, 12],
+        ),
+        case(
+            "8 roots, each of a kind of list",
+            eight_lists(),
+            LONGEST,
+            [1, 3],
+        ),
+        case("the same, 1 KB", eight_lists(), 1024, [1, 3]),
     ]);
     for types in [1, 2, 4, 8, 16, 32, 64] {
         let name = format!("types grow: {types}, 16 steps each");

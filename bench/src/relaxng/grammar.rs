@@ -90,10 +90,10 @@ fn write(p: &Pattern, out: &mut String) {
 }
 
 pub fn grammar(schema: &Schema) -> String {
-    let mut out = format!(
-        "<grammar xmlns=\"http://relaxng.org/ns/structure/1.0\">\n<start><ref name=\"t{}\"/></start>\n",
-        schema.root
-    );
+    let mut out = "<grammar xmlns=\"http://relaxng.org/ns/structure/1.0\">\n<start>".to_string();
+    let roots = schema.root_types().iter().map(|&root| Type(root));
+    write(&roots.fold(Nothing, or), &mut out);
+    out += "</start>\n";
     for (a, own) in schema.blocks() {
         out += &format!(
             "<define name=\"t{a}\"><element name=\"e{}\">",

@@ -8,7 +8,7 @@ mod validator;
 use crate::engine::events;
 use crate::measure::{figure, in_turn, median, percentile};
 use crate::random::Random;
-use crate::schemas::{Type, layered, leaf, optional, schema, small};
+use crate::schemas::{Type, eight_lists, layered, leaf, optional, schema, small};
 use grammar::grammar;
 use plain::Schema;
 use plain::questions::NONE;
@@ -82,7 +82,9 @@ impl Subject {
     }
 
     fn tree(&self, mut elements: i64, random: &mut Random) -> Tree {
-        valid(&self.schema, self.schema.root, &mut elements, 1, random)
+        let roots = self.schema.root_types();
+        let root = roots[random.below(roots.len() as u64) as usize];
+        valid(&self.schema, root, &mut elements, 1, random)
     }
 
     fn taken(&self, file: &[u8]) -> bool {
@@ -175,6 +177,7 @@ fn subjects() -> Vec<Subject> {
         ("R as the racks of a wall", wall()),
         ("003's a1? b1 (b1 or c1)* a2 c1", optional()),
         ("16 types of 16 steps", layered(16)),
+        ("eight roots, each of a kind of list", eight_lists()),
     ];
     let subject = |(n, (name, schema)): (usize, _)| {
         let directory = Path::new(DIRECTORY).join(n.to_string());

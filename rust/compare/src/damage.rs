@@ -5,7 +5,7 @@ use plain::codes::{
     CLOSE, CLOSE_BRACKET, DONE, END, FINAL, FINISH, NEXT, OPEN, OPEN_BRACKET, REPEAT, ROOT, STEP,
     TAGS, TYPE, USE,
 };
-use plain::limits::{MOST_STATES, MOST_STEPS, MOST_TYPES};
+use plain::limits::{MOST_ROOTS, MOST_STATES, MOST_STEPS, MOST_TYPES};
 
 /// Bytes at the edges of the file forms.
 const EDGES: [u8; 22] = [
@@ -67,7 +67,7 @@ fn commands(chance: &mut Chance, file: &mut Vec<u8>) {
     let pick = chance.below(count);
     let (start, end) = (offsets[pick], offsets[pick + 1]);
     let command = file[start..end].to_vec();
-    match chance.below(12) {
+    match chance.below(14) {
         // Again, at once or anywhere.
         0 => insert(file, end, &command),
         1 => insert(file, offsets[chance.below(count + 1)], &command),
@@ -86,7 +86,8 @@ fn commands(chance: &mut Chance, file: &mut Vec<u8>) {
         4..6 => unknown_type(chance, file, &offsets),
         6..8 => operand(chance, file, start, end),
         8 => too_many(chance, file, &offsets),
-        9..11 => {
+        9..11 => roots(chance, file, &offsets),
+        11..13 => {
             let sign = chance.of(&[OPEN_BRACKET, CLOSE_BRACKET, USE, NEXT, REPEAT, END]);
             let of = (sign == USE).then(|| chance.small(0..=5));
             let inserted: Vec<u8> = [sign].into_iter().chain(of).collect();
@@ -144,16 +145,68 @@ fn operand(chance: &mut Chance, file: &mut [u8], start: usize, end: usize) {
     };
 }
 
+/// The place of the first ROOT of a file that was not damaged.
+fn first_root(file: &[u8], offsets: &[usize]) -> usize {
+    let mut offsets = offsets.iter().copied();
+    let root = offsets.find(|&place| file[place] == ROOT);
+    root.expect("a file has a ROOT")
+}
+
+/// Damages the ROOTs: another type, one of them again, one more, another command among them, or about
+/// as many as there may be.
+fn roots(chance: &mut Chance, file: &mut Vec<u8>, offsets: &[usize]) {
+    let first = first_root(file, offsets);
+    let count = given(file, offsets, ROOT);
+    let place = first + 2 * chance.below(count + 1);
+    match chance.below(6) {
+        0 => file[first + 2 * chance.below(count) + 1] = chance.small(0..=12),
+        1 => insert(file, place, &[ROOT, chance.small(0..=12)]),
+        2 => {
+            let again = file[first + 2 * chance.below(count) + 1];
+            insert(file, place, &[ROOT, again]);
+        }
+        3 => {
+            let other: &[&[u8]] = &[
+                &[TYPE, 0, 1],
+                &[TYPE, 0, 0, END],
+                &[FINAL, 0],
+                &[STEP, 0, 0, 0],
+                &[TAGS, 1],
+                &[DONE],
+                &[END],
+            ];
+            insert(file, place, chance.of(other));
+        }
+        _ => many_roots(chance, file, offsets),
+    }
+}
+
+/// Types that bear no tree, and ROOTs of them up to about the most; then perhaps one of a type that has
+/// one, or that was not given.
+fn many_roots(chance: &mut Chance, file: &mut Vec<u8>, offsets: &[usize]) {
+    let [types, roots] = [TYPE, ROOT].map(|command| given(file, offsets, command));
+    let wanted = chance.within(MOST_ROOTS - 1..=MOST_ROOTS + 1);
+    let more = wanted.saturating_sub(roots);
+    let any = chance.below(types + more + 1);
+    let last = chance.percent(40).then_some(any);
+    let of_roots = (types..types + more).chain(last);
+    let roots: Vec<u8> = of_roots.flat_map(|of| [ROOT, of as u8]).collect();
+    let first = first_root(file, offsets);
+    let place = chance.of(&[first, file.len() - 1]);
+    insert(file, place, &roots);
+    insert(file, first, &[TYPE, 0, 1].repeat(more));
+}
+
+/// How often a command stands in a file that was not damaged.
+fn given(file: &[u8], offsets: &[usize], command: u8) -> usize {
+    let stands = |place: &&usize| file.get(**place) == Some(&command);
+    offsets.iter().filter(stands).count()
+}
+
 /// As many TYPE or STEP commands as there may be, or one less, and then one more.
 fn too_many(chance: &mut Chance, file: &mut Vec<u8>, offsets: &[usize]) {
-    let given = |command: u8| {
-        offsets
-            .iter()
-            .filter(|&&place| file.get(place) == Some(&command))
-            .count()
-    };
-    let (types, steps) = (given(TYPE), given(STEP));
-    let root = offsets[offsets.len() - 3];
+    let [types, steps] = [TYPE, STEP].map(|command| given(file, offsets, command));
+    let root = first_root(file, offsets);
     let one_less = usize::from(chance.once_in(4));
     let mut more = vec![];
     if chance.percent(75) {

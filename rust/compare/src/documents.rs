@@ -74,11 +74,10 @@ struct Walk<'a> {
 
 impl Walk<'_> {
     fn document(&mut self) {
-        let root = self.guide.model.root;
-        if self.guide.tree[usize::from(root)] == NEVER {
+        let Some(root) = self.root() else {
             self.stray();
             return;
-        }
+        };
         self.opening(root);
         while !self.open.is_empty() && self.file.len() < LONGEST {
             self.go_on();
@@ -87,6 +86,21 @@ impl Walk<'_> {
         while self.chance.once_in(30) {
             self.stray();
         }
+    }
+
+    /// A root that bears a tree; if a level is sought, one whose trees nest deepest.
+    fn root(&mut self) -> Option<u8> {
+        let Guide {
+            model, tree, depth, ..
+        } = self.guide;
+        let bearing = model.roots.iter().copied();
+        let bearing: Vec<u8> = bearing
+            .filter(|&of| tree[usize::from(of)] != NEVER)
+            .collect();
+        if self.plan.depth > 1 {
+            return bearing.into_iter().max_by_key(|&of| depth[usize::from(of)]);
+        }
+        (!bearing.is_empty()).then(|| self.chance.of(&bearing))
     }
 
     fn go_on(&mut self) {
@@ -119,8 +133,9 @@ impl Walk<'_> {
     /// Is the level that is sought not yet reached, and may it be?
     fn descends(&self) -> bool {
         let level = self.open.len();
-        let root = usize::from(self.guide.model.root);
-        self.file.len() <= 2 * level && level < self.plan.depth && self.guide.depth[root] == DEEP
+        let sought = self.file.len() <= 2 * level && level < self.plan.depth;
+        let deep = |&(root, _): &(u8, u8)| self.guide.depth[usize::from(root)] == DEEP;
+        sought && self.open.first().is_some_and(deep)
     }
 
     fn wants_to_close(&mut self) -> bool {

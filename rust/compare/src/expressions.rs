@@ -102,8 +102,8 @@ fn leaves(chance: &mut Chance) -> Model {
             }
         })
         .collect();
-    let root = chance.small(0..=count - 1);
-    Model { tags, types, root }
+    let roots = vec![chance.small(0..=count - 1)];
+    Model { tags, types, roots }
 }
 
 /// In half of the types an expression of types of which no two have one tag, so that little competes.
@@ -173,7 +173,7 @@ fn marked(chance: &mut Chance) -> Model {
     Model {
         tags: 2 + pairs,
         types,
-        root: 0,
+        roots: vec![0],
     }
 }
 
@@ -184,7 +184,7 @@ fn over_leaves(content: Vec<u8>, leaves: u8) -> Model {
     Model {
         tags: 1 + leaves,
         types,
-        root: 0,
+        roots: vec![0],
     }
 }
 

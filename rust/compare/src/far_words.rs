@@ -67,7 +67,7 @@ pub fn ways(chance: &mut Chance) -> Model {
         model.tags += 1;
         let number = model.types.len() as u8;
         model.types.push(beside);
-        let root = &mut model.types[usize::from(model.root)];
+        let root = &mut model.types[usize::from(model.roots[0])];
         root.add(0, number, root.states - 1);
     }
     model
@@ -115,6 +115,6 @@ fn under_a_root(chance: &mut Chance, owner: Type) -> Model {
     Model {
         tags: 7,
         types,
-        root,
+        roots: vec![root],
     }
 }

@@ -9,7 +9,8 @@ use plain::{Schema, schema_file};
 pub struct Model {
     pub tags: u8,
     pub types: Vec<Type>,
-    pub root: u8,
+    /// The root types, as they stand in the file.
+    pub roots: Vec<u8>,
 }
 
 #[derive(Debug, Clone)]
@@ -115,7 +116,9 @@ impl Model {
             .into_iter()
             .map(|old| self.types[old].clone())
             .collect();
-        self.root = numbers[usize::from(self.root)];
+        for root in &mut self.roots {
+            *root = numbers[usize::from(*root)];
+        }
         for block in &mut self.types {
             if let Some(mut text) = block.content.take() {
                 let mut place = 0;
@@ -170,7 +173,8 @@ impl Model {
                 file.extend(&command[..length]);
             }
         }
-        file.extend([ROOT, self.root, DONE]);
+        file.extend(self.roots.iter().flat_map(|&root| [ROOT, root]));
+        file.push(DONE);
         file
     }
 }

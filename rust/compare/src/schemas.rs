@@ -5,6 +5,7 @@ use crate::expressions;
 use crate::far_words;
 use crate::guide::{Guide, NEVER};
 use crate::model::{Model, Step, Type};
+use crate::roots;
 use plain::limits::{MOST_STATES, MOST_STEPS, MOST_TAGS, MOST_TYPES};
 
 /// The most that a random schema has of each.
@@ -53,16 +54,19 @@ pub fn schema(chance: &mut Chance) -> Model {
     if !chance.once_in(6) {
         better_root(chance, &mut model);
     }
+    if chance.percent(45) {
+        roots::add(chance, &mut model);
+    }
     if !chance.once_in(8) {
         model.renumber(chance);
     }
     model
 }
 
-/// If the root type bears no tree, another that bears one, rather a type whose trees nest deeply.
+/// If the one root type bears no tree, another that bears one, rather a type whose trees nest deeply.
 fn better_root(chance: &mut Chance, model: &mut Model) {
     let guide = Guide::new(model);
-    if guide.tree[usize::from(model.root)] != NEVER {
+    if guide.tree[usize::from(model.roots[0])] != NEVER {
         return;
     }
     let bearing: Vec<usize> = (0..model.types.len())
@@ -72,7 +76,7 @@ fn better_root(chance: &mut Chance, model: &mut Model) {
         return;
     }
     let (one, other) = (chance.of(&bearing), chance.of(&bearing));
-    model.root = if guide.depth[one] >= guide.depth[other] {
+    model.roots[0] = if guide.depth[one] >= guide.depth[other] {
         one
     } else {
         other
@@ -105,7 +109,7 @@ fn blank(chance: &mut Chance, size: Size) -> Model {
     Model {
         tags,
         types,
-        root: chance.small(0..=count - 1),
+        roots: vec![chance.small(0..=count - 1)],
     }
 }
 
@@ -225,7 +229,7 @@ fn nesting(chance: &mut Chance, size: Size) -> Model {
             block.accept(0);
         }
     }
-    model.root = chance.below(ring) as u8;
+    model.roots = vec![chance.below(ring) as u8];
     model
 }
 
@@ -257,7 +261,7 @@ fn chain(chance: &mut Chance, size: Size) -> Model {
     let mut model = Model {
         tags,
         types,
-        root: 0,
+        roots: vec![0],
     };
     if chance.once_in(3) {
         sprinkle(chance, &mut model, 2, 2);
@@ -296,7 +300,7 @@ fn full(chance: &mut Chance, types: u8, states: u8, steps: usize) -> Model {
     let mut model = Model {
         tags,
         types: blocks,
-        root: chance.small(0..=types - 1),
+        roots: vec![chance.small(0..=types - 1)],
     };
     let mut left = steps;
     while left > 0 {

@@ -3,6 +3,7 @@
 use crate::calls;
 use crate::chance::Chance;
 use crate::input::Input;
+use plain::limits::NO_PARENT;
 use plain::questions::{COMPETITION, NONE};
 use plain::{Job, Witness};
 
@@ -16,7 +17,8 @@ pub struct Answers {
     pub witness: Option<Fixed>,
 }
 
-/// The type in which two compete, and the length of the word: five bytes more are filled.
+/// The type in which two compete, `NO_PARENT` if they are roots, and the length of the word: five bytes
+/// more are filled.
 #[derive(Debug, Clone, Copy, PartialEq, Eq)]
 pub struct Fixed {
     pub within: u8,
@@ -242,7 +244,8 @@ fn check_witness(lent: &Lent) -> Result<Witness<'_>, &'static str> {
     let bytes = lent.witness.inner();
     let witness = Witness::from_bytes(bytes).ok_or("no witness in the buffer")?;
     let parts = typestock::witness(bytes).map(|w| (w.within, w.one, w.other, w.word));
-    if parts != Some((witness.within, witness.one, witness.other, witness.word)) {
+    let within = Some(witness.within).filter(|&of| of != NO_PARENT);
+    if parts != Some((within, witness.one, witness.other, witness.word)) {
         return Err("the parts of the witness differ");
     }
     if !plain::competes(lent.schema.inner(), &witness) {

@@ -3,7 +3,7 @@
 use compare::{Answers, Chance, Fixed, Input, compare};
 use plain::Job;
 use plain::codes::{CLOSE, FINISH, OPEN};
-use plain::limits::WITNESS;
+use plain::limits::{MOST_ROOTS, NO_PARENT, WITNESS};
 
 /// One type that holds itself without end.
 const NESTING: [u8; 14] = [0x10, 1, 0x11, 0, 1, 0x12, 0, 0x13, 0, 0, 0, 0x14, 0, 0x1F];
@@ -55,7 +55,7 @@ fn a_word_that_fills_the_witness_buffer() {
     let answer = typestock::check_schema(&longest_word(), &mut buffer);
     assert_eq!((answer.number, answer.place), (9, 0));
     let found = typestock::witness(&buffer).expect("a witness");
-    assert_eq!((found.within, found.one, found.other), (0, 4, 5));
+    assert_eq!((found.within, found.one, found.other), (Some(0), 4, 5));
     assert_eq!(found.word.len(), 527);
 }
 
@@ -293,4 +293,176 @@ fn levels_of_openings_past_the_limit() {
             .map(|opening| opening.level),
         Some(100_000)
     );
+}
+
+/// Leaves of these tags, and the ROOTs of these types; the place of the first ROOT.
+fn leaves_and_roots(tags: &[u8], roots: &[u8]) -> (Vec<u8>, usize) {
+    let mut schema = vec![0x10, 32];
+    schema.extend(tags.iter().flat_map(|&tag| [0x11, tag, 1, 0x12, 0]));
+    let place = schema.len();
+    schema.extend(roots.iter().flat_map(|&root| [0x14, root]));
+    schema.push(0x1F);
+    (schema, place)
+}
+
+/// Each of these tags opened and closed as a whole document: the type, if it is valid.
+fn roots_given(schema: &[u8], tags: u8) -> Vec<Option<u8>> {
+    let given = |tag| {
+        let mut types = [0; 1];
+        let mut witness = [0; WITNESS];
+        let events = [OPEN, tag, CLOSE, tag, FINISH];
+        both(schema, &events, WITNESS, 1);
+        let job = typestock::type_document(schema, &events, &mut witness, &mut types);
+        let taken = typestock::Job::EventsRead {
+            number: 0,
+            place: 5,
+            count: 1,
+        };
+        (job == taken).then_some(types[0])
+    };
+    (0..tags).map(given).collect()
+}
+
+#[test]
+fn roots_at_their_limit() {
+    let tags: Vec<u8> = (0..32).rev().collect();
+    let number = |roots: &[u8]| {
+        let (schema, place) = leaves_and_roots(&tags, roots);
+        let (number, at) = both(&schema, &[], WITNESS, 0).schema;
+        (number, at.saturating_sub(place))
+    };
+    for count in 1..=MOST_ROOTS {
+        let roots: Vec<u8> = (0..count as u8).map(|n| 31 - 3 * n).collect();
+        assert_eq!(number(&roots), (0, 0));
+        let given = roots_given(&leaves_and_roots(&tags, &roots).0, 32);
+        for (tag, of) in (0..).zip(given) {
+            assert_eq!(of, roots.contains(&(31 - tag)).then_some(31 - tag));
+        }
+        // One more: new, given, and of a type that there is not.
+        let past = 2 * count;
+        let with = |more: u8| number(&[&roots[..], &[more]].concat());
+        let full = count == MOST_ROOTS;
+        assert_eq!(with(0), if full { (5, past) } else { (0, 0) });
+        for again in [roots[0], roots[count - 1]] {
+            assert_eq!(with(again), (if full { 5 } else { 6 }, past));
+        }
+        for unknown in [32, 63, 64, 255] {
+            assert_eq!(with(unknown), (4, past));
+        }
+    }
+    assert_eq!(number(&[]), (3, 0));
+}
+
+#[test]
+fn commands_among_roots() {
+    let between: [&[u8]; 12] = [
+        &[0x10, 1],
+        &[0x11, 0, 1],
+        &[0x11, 0, 0, 0x3F],
+        &[0x12, 0],
+        &[0x13, 0, 0, 0],
+        &[0x30],
+        &[0x31],
+        &[0x32, 0],
+        &[0x33],
+        &[0x34],
+        &[0x3F],
+        &[0x1F],
+    ];
+    for (command, after) in between
+        .iter()
+        .flat_map(|command| [(command, 1), (command, 8)])
+    {
+        let tags: Vec<u8> = (0..9).collect();
+        let roots = [0, 1, 2, 3, 4, 5, 6, 7, 8];
+        let (mut schema, place) = leaves_and_roots(&tags, &roots);
+        let at = place + 2 * after;
+        schema.splice(at..at, command.iter().copied());
+        // A byte after DONE is out of order too.
+        let expected = if command[0] == 0x1F { at + 1 } else { at };
+        assert_eq!(both(&schema, &[], WITNESS, 0).schema, (3, expected));
+    }
+    let (schema, place) = leaves_and_roots(&[0, 1, 2], &[2, 0, 1]);
+    for end in 0..schema.len() {
+        let at = if end <= place {
+            None
+        } else {
+            Some(place + (end - place) / 2 * 2)
+        };
+        let (number, found) = both(&schema[..end], &[], WITNESS, 0).schema;
+        assert_eq!((number, at.unwrap_or(found)), (2, found));
+    }
+    assert_eq!(both(&[0x10, 1, 0x14, 0], &[], WITNESS, 0).schema, (3, 2));
+}
+
+#[test]
+fn every_pair_of_roots_that_compete() {
+    for (one, other) in (0..8).flat_map(|one| (0..8).map(move |other| (one, other))) {
+        let mut tags: Vec<u8> = (0..8).collect();
+        tags[other] = tags[one];
+        for roots in [[0, 1, 2, 3, 4, 5, 6, 7], [7, 3, 1, 0, 2, 6, 5, 4]] {
+            let (schema, _) = leaves_and_roots(&tags, &roots);
+            let fixed = both(&schema, &[], WITNESS, 0).witness;
+            let competes = one != other;
+            let within = NO_PARENT;
+            assert_eq!(fixed, competes.then_some(Fixed { within, length: 0 }));
+            if competes {
+                let mut buffer = [0xEE; WITNESS];
+                typestock::check_schema(&schema, &mut buffer);
+                let (one, other) = (one.min(other) as u8, one.max(other) as u8);
+                assert_eq!(buffer[..6], [NO_PARENT, one, other, 0, 0, 0xEE]);
+            }
+        }
+    }
+}
+
+#[test]
+fn roots_compete_before_types() {
+    // Types 1 and 2 compete in type 0. Types 3 and 4 have one tag, and so has type 5, which bears no
+    // tree.
+    let mut types = vec![0x10, 4, 0x11, 0, 2, 0x12, 1, 0x13, 0, 1, 1, 0x13, 0, 2, 1];
+    types.extend([0x11, 1, 1, 0x12, 0].repeat(2));
+    types.extend([0x11, 2, 1, 0x12, 0, 0x11, 2, 1, 0x12, 0, 0x11, 2, 1]);
+    let fixed = |roots: &[u8]| {
+        let roots = roots.iter().flat_map(|&root| [0x14, root]);
+        let schema: Vec<u8> = types.iter().copied().chain(roots).chain([0x1F]).collect();
+        both(&schema, &[OPEN, 2, CLOSE, 2, FINISH], WITNESS, 1).witness
+    };
+    let length = 0;
+    let in_type = Some(Fixed { within: 0, length });
+    let of_roots = Some(Fixed {
+        within: NO_PARENT,
+        length,
+    });
+    assert_eq!(fixed(&[3]), None);
+    assert_eq!(fixed(&[3, 0]), in_type);
+    assert_eq!(fixed(&[0, 1, 3]), in_type);
+    assert_eq!(fixed(&[3, 4]), of_roots);
+    assert_eq!(fixed(&[0, 3, 4]), of_roots);
+    assert_eq!(fixed(&[4, 1, 3, 0]), of_roots);
+    assert_eq!(fixed(&[2, 0, 1]), of_roots);
+    assert_eq!(fixed(&[5, 3]), None);
+    assert_eq!(fixed(&[5, 3, 0]), in_type);
+    assert_eq!(fixed(&[5, 3, 4]), of_roots);
+}
+
+#[test]
+fn roots_without_trees() {
+    // Types 0 to 7 bear no tree, of one tag or of two; type 8 bears one.
+    for tags in [[0; 8], [0, 1, 0, 1, 0, 1, 0, 1]] {
+        let mut types = vec![0x10, 2];
+        types.extend(tags.iter().flat_map(|&tag| [0x11, tag, 2, 0x12, 1]));
+        types.extend([0x11, 1, 1, 0x12, 0]);
+        for bearing in 0..=8 {
+            let roots = (0..8).map(|n| [0x14, if n == bearing { 8 } else { n }]);
+            let mut schema = types.clone();
+            schema.extend(roots.flatten());
+            schema.push(0x1F);
+            let number = both(&schema, &[], WITNESS, 0).schema;
+            assert_eq!(number, (if bearing == 8 { 8 } else { 0 }, 0));
+            if bearing < 8 {
+                assert_eq!(roots_given(&schema, 2), [None, Some(8)]);
+            }
+        }
+    }
 }

@@ -1,6 +1,7 @@
 //! Random inputs, of which each number comes up.
 
 use compare::{Chance, Input, Tally, compare};
+use plain::limits::MOST_ROOTS;
 
 const INPUTS: u64 = 20_000;
 
@@ -22,4 +23,7 @@ fn nothing_differs_and_each_number_comes_up() {
         tally.longest_word() > 255,
         "no word whose length needs two bytes\n{tally}"
     );
+    assert_eq!(tally.most_roots(), MOST_ROOTS, "{tally}");
+    assert!(tally.several_roots() > INPUTS / 20, "{tally}");
+    assert!(tally.competing_roots() > INPUTS / 100, "{tally}");
 }

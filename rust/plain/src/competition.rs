@@ -1,6 +1,6 @@
-//! Competition: two types of one tag that may both come next in an element.
+//! Competition: two types of one tag that may both come next in an element, or that are both roots.
 
-use crate::limits::{LONGEST_WORD, MOST_STATES, PAIRS, State, Type};
+use crate::limits::{LONGEST_WORD, MOST_STATES, MOST_TAGS, NO_PARENT, PAIRS, State, Type};
 use crate::rows::{Entry, Rows};
 use crate::schema::Schema;
 use crate::states::States;
@@ -27,24 +27,50 @@ impl Competition {
     }
 }
 
+/// A competition of two roots, or, where no roots compete, in a type.
+pub fn find(schema: &Schema, trimming: &Trimming) -> Option<Competition> {
+    among_roots(schema, trimming).or_else(|| in_types(schema, trimming))
+}
+
+/// Two tree-bearing roots of one tag, which come before any word.
+fn among_roots(schema: &Schema, trimming: &Trimming) -> Option<Competition> {
+    let bears = |of: &Type| trimming.bears[usize::from(*of)];
+    let mut first_of_tag = [None; MOST_TAGS];
+    for root in schema.root_types().iter().copied().filter(bears) {
+        let tag = schema.tag[usize::from(root)];
+        let first = *first_of_tag[usize::from(tag)].get_or_insert(root);
+        if first != root {
+            return Some(Competition {
+                within: NO_PARENT,
+                one: first.min(root),
+                other: first.max(root),
+                word: vec![],
+            });
+        }
+    }
+    None
+}
+
 /// A competition in the smallest type that has one, after a shortest of the words after which two
 /// types compete in that type.
-pub fn find(schema: &Schema, trimming: &Trimming) -> Option<Competition> {
+fn in_types(schema: &Schema, trimming: &Trimming) -> Option<Competition> {
     let mut queue = Queue::EMPTY;
     let counts = |&of: &Type| trimming.reached[usize::from(of)] && trimming.bears[usize::from(of)];
     let mut types = (0..schema.types).filter(counts);
     types.find_map(|within| queue.search(&trimming.rows, within))
 }
 
-/// Do the witness's types compete after its word, in the smallest type that has a competition, and no
-/// two in that type after a shorter word?
+/// Do the witness's types compete as roots; or after its word, where no roots compete, in the smallest
+/// type that has a competition, and no two in that type after a shorter word?
 pub fn confirm(schema: &Schema, trimming: &Trimming, witness: &Witness) -> bool {
     let is_least = |found: Competition| {
         found.within == witness.within && found.word.len() == witness.word.len()
     };
-    has_form(schema, witness)
-        && both_come(trimming, witness)
-        && find(schema, trimming).is_some_and(is_least)
+    let compete = || match witness.within {
+        NO_PARENT => both_open(schema, trimming, witness),
+        _ => both_come(trimming, witness),
+    };
+    has_form(schema, witness) && compete() && find(schema, trimming).is_some_and(is_least)
 }
 
 /// Are its types given, J less than K and of one tag, and the word not too long?
@@ -56,11 +82,18 @@ fn has_form(schema: &Schema, witness: &Witness) -> bool {
         word,
     } = witness;
     let tag = |of: Type| schema.tag[usize::from(of)];
-    let mut types = [within, one, other].into_iter().chain(word.iter().copied());
-    types.all(|of| of < schema.types)
+    let is_given = |of: Type| of < schema.types;
+    (within == NO_PARENT || is_given(within))
+        && [one, other].iter().chain(word).all(|&of| is_given(of))
         && one < other
         && tag(one) == tag(other)
         && word.len() <= LONGEST_WORD
+}
+
+/// Are J and K tree-bearing roots?
+fn both_open(schema: &Schema, trimming: &Trimming, witness: &Witness) -> bool {
+    let opens = |of: Type| schema.root_types().contains(&of) && trimming.bears[usize::from(of)];
+    [witness.one, witness.other].into_iter().all(opens)
 }
 
 /// May J come after the word, and K too?

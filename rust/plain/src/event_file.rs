@@ -1,9 +1,9 @@
 //! The event file: its events and the questions 19 and 20.
 
 use crate::codes::{CLOSE, FINISH, OPEN};
-use crate::limits::{Tag, Type};
+use crate::limits::{MOST_TAGS, Tag, Type};
 use crate::questions::{NO_EVENT, NO_ROOM, Number, OUTSIDE_LIMITS};
-use crate::reading::{Ahead, Reading};
+use crate::reading::{Ahead, Reading, RootOf, roots_by_tag};
 use crate::rows::Rows;
 use crate::schema::Schema;
 use crate::states::States;
@@ -95,10 +95,10 @@ fn take(
     Ok(length)
 }
 
-/// A schema with its rows, made once for a file.
+/// A schema with its roots by tag and its rows, made once for a file.
 struct Ways<'s> {
     schema: &'s Schema,
-    root_bears: bool,
+    root_of: RootOf,
     rows: Rows,
 }
 
@@ -106,11 +106,11 @@ impl<'s> Ways<'s> {
     fn of(schema: &'s Schema) -> Self {
         let mut ways = Ways {
             schema,
-            root_bears: false,
+            root_of: [None; MOST_TAGS],
             rows: Rows::NONE,
         };
         let live = live_and_rows(schema, &mut ways.rows);
-        ways.root_bears = live[usize::from(schema.root)].has_start();
+        ways.root_of = roots_by_tag(schema, &live);
         ways
     }
 }
@@ -122,8 +122,8 @@ impl Ahead for Ways<'_> {
     }
 
     #[inline]
-    fn root_bears(&self) -> bool {
-        self.root_bears
+    fn root(&self, tag: Tag) -> Option<Type> {
+        self.root_of[usize::from(tag)]
     }
 
     #[inline]

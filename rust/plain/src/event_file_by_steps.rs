@@ -4,7 +4,7 @@
 
 use crate::event_file::{EventAnswer, outside_limits, walk};
 use crate::limits::{MOST_STEPS, MOST_TYPES, Tag, Type};
-use crate::reading::{Ahead, smallest};
+use crate::reading::{Ahead, RootOf, roots_by_tag, smallest};
 use crate::schema::Schema;
 use crate::states::States;
 use crate::trimming::live_states;
@@ -17,10 +17,10 @@ pub fn read(schema: &Schema, file: &[u8], types: &mut [Type]) -> EventAnswer {
     walk(&Labels::of(schema), file, types)
 }
 
-/// A schema with its steps labelled by tags, made once for a file.
+/// A schema with its roots by tag and its steps labelled by tags, made once for a file.
 struct Labels<'s> {
     schema: &'s Schema,
-    root_bears: bool,
+    root_of: RootOf,
     /// For each type the place of its first step.
     first: [u16; MOST_TYPES],
     /// For each step the tag of its type if it counts: that type bears a tree, and it leads to a live state.
@@ -46,7 +46,7 @@ impl<'s> Labels<'s> {
         }
         Labels {
             schema,
-            root_bears: live[usize::from(schema.root)].has_start(),
+            root_of: roots_by_tag(schema, &live),
             first,
             label,
         }
@@ -60,8 +60,8 @@ impl Ahead for Labels<'_> {
     }
 
     #[inline]
-    fn root_bears(&self) -> bool {
-        self.root_bears
+    fn root(&self, tag: Tag) -> Option<Type> {
+        self.root_of[usize::from(tag)]
     }
 
     #[inline]

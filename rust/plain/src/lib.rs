@@ -1,7 +1,8 @@
 //! Typing of tagged documents as they open, in plain Rust.
 //!
 //! A schema file states tags, types and a content automaton for each type, or an expression that
-//! becomes one. If no two types compete, each element of a document gets its type at its opening tag.
+//! becomes one, and the root types. If no two types compete, each element of a document gets its type
+//! at its opening tag.
 //! This crate is written from the documents that describe the files and answers, and shares no code
 //! with the engine: it is what the engine is compared with, and what its time is measured against.
 #![forbid(unsafe_code)]
@@ -86,17 +87,22 @@ pub fn type_document(schema: &[u8], events: &[u8], witness: &mut [u8], types: &m
     }
 }
 
-/// Is this a witness of the schema that the file states? Its types compete after its word, no two
-/// compete in a smaller type, and in the same type no two do after a shorter word. No if the file
-/// states no schema, or one with no valid document.
+/// Is this a witness of the schema that the file states? Its types compete as roots; or no roots do, its
+/// types compete after its word, no two compete in a smaller type, and in the same type no two do after
+/// a shorter word. No if the file states no schema, or one with no valid document.
 pub fn competes(schema: &[u8], witness: &Witness) -> bool {
     let mut stated = Schema::BLANK;
     if schema_file::read(schema, &mut stated).is_err() {
         return false;
     }
     let trimming = Trimming::of(&stated);
-    let has_documents = trimming.bears[usize::from(stated.root)];
-    has_documents && competition::confirm(&stated, &trimming, witness)
+    has_documents(&stated, &trimming) && competition::confirm(&stated, &trimming, witness)
+}
+
+/// Question 8: does a root type bear a tree?
+fn has_documents(schema: &Schema, trimming: &Trimming) -> bool {
+    let mut roots = schema.root_types().iter();
+    roots.any(|&root| trimming.bears[usize::from(root)])
 }
 
 /// Questions 1 to 9 and 21 to 23: reads the schema that the file states into a blank one, if it is accepted.
@@ -107,7 +113,7 @@ fn accept(file: &[u8], witness: &mut [u8], schema: &mut Schema) -> Result<(), Re
     }
     schema_file::read(file, schema)?;
     let trimming = Trimming::of(schema);
-    if !trimming.bears[usize::from(schema.root)] {
+    if !has_documents(schema, &trimming) {
         return Err(at_start(NO_TREE));
     }
     match competition::find(schema, &trimming) {

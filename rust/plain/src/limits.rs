@@ -11,6 +11,7 @@ pub const MOST_TAGS: usize = 32;
 pub const MOST_TYPES: usize = 64;
 pub const MOST_STATES: usize = 32;
 pub const MOST_STEPS: usize = 1024;
+pub const MOST_ROOTS: usize = 8;
 
 /// The most uses of types in an expression; state 0 is the automaton's other state.
 pub const MOST_USES: usize = MOST_STATES - 1;
@@ -29,6 +30,9 @@ pub const LONGEST_WORD: usize = PAIRS - 1;
 
 /// The bytes of a witness before its word: A, J, K and the word's length in two.
 pub const BEFORE_WORD: usize = 5;
+
+/// For A in a witness, which no type's number is: two roots compete, before any element is open.
+pub const NO_PARENT: Type = Type::MAX;
 
 /// The shortest witness buffer.
 pub const WITNESS: usize = BEFORE_WORD + LONGEST_WORD;

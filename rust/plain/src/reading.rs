@@ -1,6 +1,6 @@
 //! A reading: the elements that are open, and the questions 10 to 18.
 
-use crate::limits::{MOST_OPEN, MOST_TYPES, State, Tag, Type};
+use crate::limits::{MOST_OPEN, MOST_TAGS, MOST_TYPES, State, Tag, Type};
 use crate::questions::{
     FINISHED, INCOMPLETE, NO_SUCH_OPENING, NOTHING_OPEN, Number, OTHER_TAG, OUTSIDE_LIMITS,
     ROOT_NOT_CLOSED, TOO_DEEP, UNKNOWN_TAG, ask,
@@ -122,8 +122,8 @@ impl Reading {
 pub(crate) trait Ahead {
     fn schema(&self) -> &Schema;
 
-    /// Does the root type bear a tree?
-    fn root_bears(&self) -> bool;
+    /// The smallest tree-bearing root type of a tag below the schema's count.
+    fn root(&self, tag: Tag) -> Option<Type>;
 
     /// The smallest tree-bearing type of the tag that leads from the set to a live state, in an
     /// element of the type `within`; and the live states that it leads to.
@@ -192,10 +192,24 @@ impl Reading {
             let inner = usize::from(self.depth) - 1;
             return ahead.child(self.types[inner], self.sets[inner], tag);
         }
-        let root = ahead.schema().root;
-        let fits = ahead.schema().tag[usize::from(root)] == tag && ahead.root_bears();
-        (!self.rooted && fits).then_some((root, States::NONE))
+        let root = if self.rooted { None } else { ahead.root(tag) };
+        root.map(|root| (root, States::NONE))
     }
+}
+
+/// For each tag the smallest tree-bearing root type of it.
+pub(crate) type RootOf = [Option<Type>; MOST_TAGS];
+
+/// The roots by tag, of a schema with these live states.
+pub(crate) fn roots_by_tag(schema: &Schema, live: &StatesOf) -> RootOf {
+    let mut root_of = [None; MOST_TAGS];
+    for &root in schema.root_types() {
+        let smallest = &mut root_of[usize::from(schema.tag[usize::from(root)])];
+        if live[usize::from(root)].has_start() {
+            *smallest = Some(smallest.map_or(root, |of: Type| of.min(root)));
+        }
+    }
+    root_of
 }
 
 /// A schema with its live states.
@@ -220,8 +234,10 @@ impl Ahead for Live<'_> {
         self.schema
     }
 
-    fn root_bears(&self) -> bool {
-        self.bears(self.schema.root)
+    fn root(&self, tag: Tag) -> Option<Type> {
+        let roots = self.schema.root_types().iter().copied();
+        let opens = |&of: &Type| self.schema.tag[usize::from(of)] == tag && self.bears(of);
+        roots.filter(opens).min()
     }
 
     fn child(&self, within: Type, set: States, tag: Tag) -> Option<(Type, States)> {

@@ -2,17 +2,19 @@
 
 use std::ops::Range;
 
-use crate::limits::{MOST_STATES, MOST_STEPS, MOST_TAGS, MOST_TYPES, State, Tag, Type};
+use crate::limits::{MOST_ROOTS, MOST_STATES, MOST_STEPS, MOST_TAGS, MOST_TYPES, State, Tag, Type};
 use crate::states::States;
 
-/// A schema. The first `types` entries of the tables by type are used, and as many of the steps as
-/// these types have, type after type. It lies in memory as the engine has it.
+/// A schema. The first `types` entries of the tables by type are used, the first `roots` of `root`, and
+/// as many of the steps as these types have, type after type. It lies in memory as the engine has it.
 #[derive(Debug, Clone, Copy, PartialEq, Eq)]
 #[repr(C)]
 pub struct Schema {
     pub tags: u8,
     pub types: u8,
-    pub root: Type,
+    pub roots: u8,
+    /// The root types, as they stand in the file.
+    pub root: [Type; MOST_ROOTS],
     /// For each type its tag, its number of states, its accepting states and its number of steps.
     pub tag: [Tag; MOST_TYPES],
     pub states: [u8; MOST_TYPES],
@@ -33,11 +35,12 @@ pub struct Step {
 }
 
 impl Schema {
-    /// No tag and no type; every entry is 0.
+    /// No tag, no type and no root; every entry is 0.
     pub const BLANK: Schema = Schema {
         tags: 0,
         types: 0,
-        root: 0,
+        roots: 0,
+        root: [0; MOST_ROOTS],
         tag: [0; MOST_TYPES],
         states: [0; MOST_TYPES],
         accepting: [States::NONE; MOST_TYPES],
@@ -52,8 +55,10 @@ impl Schema {
     pub fn within_limits(&self) -> bool {
         let counts = (1..=MOST_TAGS).contains(&usize::from(self.tags))
             && usize::from(self.types) <= MOST_TYPES
-            && self.root < self.types;
-        counts && self.blocks().all(|(of, own)| self.block_within(of, own))
+            && (1..=MOST_ROOTS).contains(&usize::from(self.roots));
+        counts
+            && self.root_types().iter().all(|&root| root < self.types)
+            && self.blocks().all(|(of, own)| self.block_within(of, own))
     }
 
     /// Are the type's entries and its steps inside the limits?
@@ -66,6 +71,12 @@ impl Schema {
             && self
                 .steps_at(own)
                 .all(|Step { from, by, to }| from < states && by < self.types && to < states)
+    }
+
+    /// The root types; a made-up value may have one of them twice.
+    #[inline]
+    pub fn root_types(&self) -> &[Type] {
+        &self.root[..usize::from(self.roots)]
     }
 
     /// Each type with the places of its steps.

@@ -4,7 +4,7 @@ use crate::codes::{
     CLOSE_BRACKET, DONE, END, FINAL, NEXT, OPEN_BRACKET, REPEAT, ROOT, STEP, TAGS, TYPE, USE,
 };
 use crate::expression::Reader;
-use crate::limits::{MOST_STATES, MOST_STEPS, MOST_TAGS, MOST_TYPES, State, Tag, Type};
+use crate::limits::{MOST_ROOTS, MOST_STATES, MOST_STEPS, MOST_TAGS, MOST_TYPES, State, Tag, Type};
 use crate::questions::{
     NO_COMMAND, Number, OUT_OF_ORDER, OUT_OF_RANGE, REPEATED, TOO_MANY, UNKNOWN_TYPE, ask,
 };
@@ -85,14 +85,14 @@ pub fn read(file: &[u8], schema: &mut Schema) -> Result<(), Refusal> {
 }
 
 /// Which commands may come: TAGS, a TYPE, what stands in a block or after it, what stands after an
-/// expression, DONE, none.
+/// expression, a ROOT or DONE, none.
 #[derive(Debug, Clone, Copy, PartialEq, Eq)]
 enum Phase {
     Start,
     Tags,
     Blocks,
     Expression,
-    Root,
+    Roots,
     Done,
 }
 
@@ -141,8 +141,10 @@ impl Draft<'_> {
                 matches!(self.phase, Phase::Tags | Phase::Blocks | Phase::Expression)
             }
             Command::Final { .. } | Command::Step(_) => self.phase == Phase::Blocks,
-            Command::Root { .. } => matches!(self.phase, Phase::Blocks | Phase::Expression),
-            Command::Done => self.phase == Phase::Root,
+            Command::Root { .. } => {
+                matches!(self.phase, Phase::Blocks | Phase::Expression | Phase::Roots)
+            }
+            Command::Done => self.phase == Phase::Roots,
             Command::OfExpression => false,
         }
     }
@@ -168,11 +170,12 @@ impl Draft<'_> {
         match command {
             Command::Type { .. } => usize::from(self.schema.types) < MOST_TYPES,
             Command::Step(_) => self.steps < MOST_STEPS,
+            Command::Root { .. } => usize::from(self.schema.roots) < MOST_ROOTS,
             _ => true,
         }
     }
 
-    /// Is it no FINAL or STEP that its block already has?
+    /// Is it no FINAL or STEP that its block already has, and no ROOT that was given?
     #[inline]
     fn is_new(&self, command: Command) -> bool {
         match command {
@@ -182,6 +185,7 @@ impl Draft<'_> {
                 let mut given = self.schema.steps_at(first..self.steps);
                 !given.any(|other| other == step)
             }
+            Command::Root { of } => !self.schema.root_types().contains(&of),
             _ => true,
         }
     }
@@ -197,10 +201,7 @@ impl Draft<'_> {
             Command::Type { tag, states } => self.put_type(tag, states),
             Command::Final { state } => self.schema.accepting[self.block()].add(state),
             Command::Step(step) => self.put_step(step, place),
-            Command::Root { of } => {
-                self.schema.root = of;
-                self.phase = Phase::Root;
-            }
+            Command::Root { of } => self.put_root(of),
             Command::Done => self.phase = Phase::Done,
             Command::OfExpression => {}
         }
@@ -246,6 +247,13 @@ impl Draft<'_> {
         self.schema.steps[self.block()] += 1;
         self.steps += 1;
         self.named.put(by, place);
+    }
+
+    #[inline]
+    fn put_root(&mut self, of: Type) {
+        self.schema.root[usize::from(self.schema.roots)] = of;
+        self.schema.roots += 1;
+        self.phase = Phase::Roots;
     }
 
     /// The type whose block is being read.

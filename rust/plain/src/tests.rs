@@ -2,6 +2,7 @@
 
 mod expressions;
 mod made_up;
+mod roots;
 mod rows;
 mod shortest;
 
@@ -24,6 +25,10 @@ fn leaf(tag: u8) -> Block<'static> {
 }
 
 fn file(tags: u8, blocks: &[Block], root: u8) -> Vec<u8> {
+    file_of_roots(tags, blocks, &[root])
+}
+
+fn file_of_roots(tags: u8, blocks: &[Block], roots: &[u8]) -> Vec<u8> {
     let mut bytes = vec![0x10, tags];
     for &(tag, states, accepting, steps) in blocks {
         bytes.extend([0x11, tag, states]);
@@ -34,7 +39,8 @@ fn file(tags: u8, blocks: &[Block], root: u8) -> Vec<u8> {
                 .flat_map(|&(from, by, to)| [0x13, from, by, to]),
         );
     }
-    bytes.extend([0x14, root, 0x1F]);
+    bytes.extend(roots.iter().flat_map(|&root| [0x14, root]));
+    bytes.push(0x1F);
     bytes
 }
 
@@ -329,7 +335,7 @@ fn order_of_commands() {
     refused(&hex("10 01 14 00"), 3, 2);
     refused(&hex("10 01 11 00 01 1F"), 3, 5);
     refused(&hex("10 01 11 00 01 14 00 12 00"), 3, 7);
-    refused(&hex("10 01 11 00 01 14 00 14 00"), 3, 7);
+    refused(&hex("10 01 11 00 01 14 00 11 00 01"), 3, 7);
     // Out of order comes before out of range.
     refused(&hex("10 01 14 09"), 3, 2);
 }

@@ -13,7 +13,7 @@ pub struct Trimming {
     pub live: StatesOf,
     /// Does it bear a tree? Its start state is live then.
     pub bears: [bool; MOST_TYPES],
-    /// Is it the root type, or in a word of a reached type?
+    /// Is it a root type, or in a word of a reached type?
     pub reached: [bool; MOST_TYPES],
     /// The steps that count.
     pub rows: Rows,
@@ -28,12 +28,22 @@ impl Trimming {
     };
 
     pub fn of(schema: &Schema) -> Trimming {
+        let mut roots = [false; MOST_TYPES];
+        for &root in schema.root_types() {
+            roots[usize::from(root)] = true;
+        }
+        Trimming::from_roots(schema, &roots)
+    }
+
+    /// The same with the flagged types for the roots, of which there may be more than a schema has.
+    #[inline]
+    fn from_roots(schema: &Schema, roots: &[bool; MOST_TYPES]) -> Trimming {
         // Filled in place: a copy of the rows takes longer than a small schema's trimming.
         let mut trimming = Trimming::NONE;
         trimming.live = live_and_rows(schema, &mut trimming.rows);
         trimming.bears = trimming.live.map(States::has_start);
         let ahead = states_ahead(schema, &trimming.live);
-        trimming.reached = reached_types(schema, &trimming.rows, &ahead);
+        trimming.reached = reached_types(schema, roots, &trimming.rows, &ahead);
         trimming
     }
 }
@@ -95,13 +105,21 @@ fn settle(
     }
 }
 
-/// The reached types, by a queue: the entries from the states ahead in a reached type are by reached
-/// types.
-fn reached_types(schema: &Schema, rows: &Rows, ahead: &StatesOf) -> [bool; MOST_TYPES] {
-    let mut reached = [false; MOST_TYPES];
-    reached[usize::from(schema.root)] = true;
-    let mut queue = [schema.root; MOST_TYPES];
-    let mut count = 1;
+/// The reached types, by a queue that begins with the roots: the entries from the states ahead in a
+/// reached type are by reached types.
+fn reached_types(
+    schema: &Schema,
+    roots: &[bool; MOST_TYPES],
+    rows: &Rows,
+    ahead: &StatesOf,
+) -> [bool; MOST_TYPES] {
+    let mut reached = *roots;
+    let mut queue = [0; MOST_TYPES];
+    let mut count = 0;
+    for root in (0..schema.types).filter(|&of| roots[usize::from(of)]) {
+        queue[count] = root;
+        count += 1;
+    }
     let mut place = 0;
     while place < count {
         let of = queue[place];

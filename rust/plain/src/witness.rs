@@ -2,7 +2,8 @@
 
 use crate::limits::{BEFORE_WORD, Type};
 
-/// Types `one` < `other` of one tag compete in the type `within` after `word`.
+/// Types `one` < `other` of one tag compete in the type `within` after `word`; as roots if `within` is
+/// `NO_PARENT`, and `word` is empty then.
 #[derive(Debug, Clone, Copy, PartialEq, Eq)]
 pub struct Witness<'a> {
     pub within: Type,

@@ -5,7 +5,7 @@ use crate::{foreign, witness, WITNESS};
 pub const TYPES: u8 = 64;
 
 /// A schema file's: 0 to 9 or 21 to 23; 1 exactly with a short buffer; the place inside the file, at its end for 2 alone, 0 where no command
-/// is in question; on 9 a witness.
+/// is in question; on 9 a witness, of two types in a type or of two roots.
 pub fn schema(number: u8, place: usize, length: usize, buffer: &[u8]) {
     assert!(
         matches!(number, 0..=9 | 21..=23),
@@ -115,11 +115,17 @@ mod tests {
             b[2] = 1;
             b
         };
+        let roots = {
+            let mut b = competing;
+            b[0] = 255;
+            b
+        };
         schema(0, 0, 10, &buffer);
         schema(1, 0, 10, &buffer[..531]);
         schema(2, 10, 10, &buffer);
         schema(7, 9, 10, &buffer);
         schema(9, 0, 10, &competing);
+        schema(9, 0, 10, &roots);
         schema(21, 9, 10, &buffer);
         schema(23, 0, 10, &buffer);
         for (number, place) in [
@@ -139,6 +145,14 @@ mod tests {
             breach(move || schema(number, place, 10, &competing));
         }
         breach(move || schema(9, 0, 10, &buffer));
+        // no type for A; 255 with a word, or with J not below K
+        for (place, value) in [(0, 64), (0, 254), (1, 1), (3, 1), (4, 1)] {
+            breach(move || {
+                let mut b = roots;
+                b[place] = value;
+                schema(9, 0, 10, &b)
+            });
+        }
         breach(move || schema(1, 0, 10, &buffer));
         breach(move || schema(0, 0, 10, &buffer[..531]));
     }

@@ -20,6 +20,16 @@
 //! let answer = typestock::check_schema(schema, &mut [0; typestock::WITNESS]);
 //! assert_eq!(answer, typestock::SchemaAnswer { number: 0, place: 0 });
 //! ```
+//!
+//! A schema has one to eight roots, and a document's root element may be of any of these types:
+//!
+//! ```
+//! let schema = b"\x10\x02\x11\x00\x01\x12\x00\x11\x01\x01\x12\x00\x14\x01\x14\x00\x1f"; // types 0 and 1, of tags 0 and 1, are roots
+//! let mut types = [0; 2];
+//! let job = typestock::type_document(schema, b"\x21\x01\x22\x01\x2f", &mut [0; typestock::WITNESS], &mut types);
+//! assert_eq!(job, typestock::Job::EventsRead { number: 0, place: 5, count: 1 });
+//! assert_eq!(types[0], 1);
+//! ```
 #[cfg(not(all(target_arch = "x86_64", target_os = "linux")))]
 compile_error!("libtypestock_c.a is for x86-64 Linux");
 
@@ -129,28 +139,47 @@ impl Iterator for Openings<'_> {
 
 impl std::iter::FusedIterator for Openings<'_> {}
 
-/// Why a schema is refused with 9: after the word of children an element of type `within` may go on with type `one` or with type `other`,
-/// which have one tag. `within` is the smallest type in which two compete, and the word is shortest: no two types compete in it after fewer
-/// children.
+/// Why a schema is refused with 9: types `one` and `other` have one tag, and both may be opened at one place.
+///
+/// ```
+/// let schema = b"\x10\x01\x11\x00\x01\x12\x00\x11\x00\x01\x12\x00\x14\x00\x14\x01\x1f"; // types 0 and 1, both of tag 0, are roots
+/// let mut buffer = [0; typestock::WITNESS];
+/// assert_eq!(typestock::check_schema(schema, &mut buffer).number, 9);
+/// let witness = typestock::witness(&buffer).unwrap();
+/// let why = match witness.within {
+///     None => format!("roots {} and {}", witness.one, witness.other),
+///     Some(a) => format!("{} and {} in type {a} after {} children", witness.one, witness.other, witness.word.len()),
+/// };
+/// assert_eq!(why, "roots 0 and 1");
+/// ```
 #[derive(Debug, Clone, Copy, PartialEq, Eq)]
 pub struct Witness<'a> {
-    pub within: u8,
+    /// The type in which they compete: an element of it may go on with either after the word of children. It is the smallest type in which
+    /// two compete. None where they compete as roots: a document may begin with either, and the word is empty. Roots are looked at first: with
+    /// a type here no two roots compete.
+    pub within: Option<u8>,
+    /// Below `other`.
     pub one: u8,
     pub other: u8,
+    /// The types of the children before them. It is shortest: no two types compete in `within` after fewer children.
     pub word: &'a [u8],
 }
 
+/// For A in the witness's bytes where two roots compete.
+const NO_PARENT: u8 = 255;
+
 /// The witness that the buffer of a call that answered 9 begins with. None where the bytes are none: fewer than 5 and the word's, types of
-/// 64 or more, `one` not below `other`, or a word of more than 527.
+/// 64 or more but for the 255 of competing roots, a word with that 255, `one` not below `other`, or a word of more than 527.
 pub fn witness(bytes: &[u8]) -> Option<Witness<'_>> {
-    let &[within, one, other, low, high, ref rest @ ..] = bytes else {
+    let &[a, one, other, low, high, ref rest @ ..] = bytes else {
         return None;
     };
     let length = usize::from(u16::from_le_bytes([low, high]));
     let word = rest.get(..length).filter(|_| length <= WITNESS - 5)?;
-    let types = [within, one, other];
-    let known = types.iter().chain(word).all(|&a| a < held::TYPES);
-    (known && one < other).then_some(Witness {
+    let within = Some(a).filter(|&a| a != NO_PARENT);
+    let fits = within.map_or(word.is_empty(), |a| a < held::TYPES);
+    let known = [one, other].iter().chain(word).all(|&a| a < held::TYPES);
+    (fits && known && one < other).then_some(Witness {
         within,
         one,
         other,

@@ -1,7 +1,7 @@
 // Buffers of every length, damaged files and small threads: which bytes are written, and that every answer is one of document 01's or 02's
 // (the wrapper tests that of each).
 mod common;
-use common::{checked, hex, read, refused, typed, R, R_BY_EXPRESSIONS, R_EVENTS};
+use common::{checked, hex, read, refused, typed, LISTS, R, R_BY_EXPRESSIONS, R_EVENTS, STOCK};
 use typestock::{check_schema, openings, witness, Job, SchemaAnswer, Witness, WITNESS};
 
 // The steps of a content automaton whose types 2 and 3 lead on from the states 30 and 31 alone. Type 1 enters two cycles, of the states 1 to
@@ -38,7 +38,7 @@ fn a_word_of_270_types() {
     };
     assert_eq!(answer, refused);
     let found = witness(&bytes).unwrap();
-    assert_eq!((found.within, found.one, found.other), (0, 2, 3));
+    assert_eq!((found.within, found.one, found.other), (Some(0), 2, 3));
     assert_eq!(found.word.len(), 270);
     let mut states = vec![0];
     for &a in found.word {
@@ -64,6 +64,25 @@ fn witness_buffers_of_every_length() {
         assert_eq!(types, []);
         let (answer, _) = checked(&hex(R), room);
         assert_eq!(answer.number, if long { 0 } else { 1 });
+    }
+}
+
+// The lists with all four types as roots, of which the last two compete: the witness has five bytes.
+#[test]
+fn witness_buffers_of_competing_roots() {
+    let competing = hex(&format!("{LISTS} 14 03 14 00 14 02 14 01 1F"));
+    for room in 0..=WITNESS + 40 {
+        let (number, expected) = if room < WITNESS {
+            (1, vec![])
+        } else {
+            (9, hex("FF 02 03 00 00"))
+        };
+        let (answer, found) = checked(&competing, room);
+        assert_eq!((answer.number, answer.place), (number, 0));
+        assert_eq!(found, expected);
+        let (job, found, types) = typed(&competing, &hex(STOCK), room, 8);
+        assert_eq!((job, found), (refused(number, 0), expected));
+        assert_eq!(types, []);
     }
 }
 
@@ -118,7 +137,8 @@ fn cut_at(file: &[u8], length: usize) -> usize {
 #[test]
 fn files_cut_short() {
     let (schema, events) = (hex(R), hex(R_EVENTS));
-    for schema in [&schema, &hex(R_BY_EXPRESSIONS)] {
+    let lists = hex(&format!("{LISTS} 14 01 14 00 1F"));
+    for schema in [&schema, &hex(R_BY_EXPRESSIONS), &lists] {
         for length in 0..schema.len() {
             let expected = SchemaAnswer {
                 number: 2,
@@ -156,12 +176,14 @@ fn schema_byte_changed(schema: &[u8], events: &[u8]) {
     }
 }
 
-// So of R, by states and by expressions; of each byte of the events, no more is counted than there are openings.
+// So of R, by states and by expressions, and of a schema with three roots; of each byte of the events, no more is counted than there are openings.
 #[test]
 fn one_byte_changed() {
     let (schema, events) = (hex(R), hex(R_EVENTS));
     schema_byte_changed(&schema, &events);
     schema_byte_changed(&hex(R_BY_EXPRESSIONS), &events);
+    let lists = hex(&format!("{LISTS} 14 01 14 00 14 03 1F"));
+    schema_byte_changed(&lists, &hex(STOCK));
     for place in 0..events.len() {
         for value in 0..=255 {
             let mut damaged = events.clone();
@@ -197,7 +219,7 @@ fn openings_of_any_bytes() {
 #[test]
 fn witnesses_read_off() {
     let expected = Witness {
-        within: 3,
+        within: Some(3),
         one: 1,
         other: 63,
         word: &[7; 258],
@@ -221,6 +243,27 @@ fn witnesses_read_off() {
         let mut none = bytes.clone();
         none[place] = value;
         assert_eq!(witness(&none), None);
+    }
+    let of_roots = Witness {
+        within: None,
+        one: 0,
+        other: 63,
+        word: &[],
+    };
+    assert_eq!(witness(&[255, 0, 63, 0, 0]), Some(of_roots));
+    assert_eq!(witness(&[255, 0, 63, 0, 0, 255]), Some(of_roots));
+    for none in [
+        [255, 0, 63, 1, 0],
+        [255, 0, 63, 0, 1],
+        [255, 63, 0, 0, 0],
+        [255, 0, 0, 0, 0],
+        [255, 0, 64, 0, 0],
+        [255, 254, 255, 0, 0],
+        [254, 0, 63, 0, 0],
+    ] {
+        let mut bytes = none.to_vec();
+        bytes.resize(1000, 0);
+        assert_eq!(witness(&bytes), None);
     }
     let longest = |n: u16| {
         let mut bytes = vec![0, 1, 2];
@@ -246,11 +289,13 @@ fn deepest() -> Vec<u8> {
 fn small_threads() {
     let work = || {
         let (competing, deepest) = (long_witness(), deepest());
+        let roots = hex(&format!("{LISTS} 14 02 14 03 1F"));
         let (schema, events) = (hex(R), hex(R_EVENTS));
         for _ in 0..200 {
             let mut buffer = vec![0; WITNESS];
             assert_eq!(check_schema(&competing, &mut buffer).number, 9);
             assert_eq!(check_schema(&deepest, &mut buffer).number, 0);
+            assert_eq!(check_schema(&roots, &mut buffer).number, 9);
             let (job, _, types) = typed(&schema, &events, WITNESS, 4);
             assert_eq!((job, types), (read(0, 17, 4), vec![0, 1, 2, 3]));
         }

@@ -1,7 +1,7 @@
-// Document 01's "Samples from the boot wall", and schemas written as expressions. Where a sample names elements a, b, c their tags are 1, 2, 3;
-// the root's is 0.
+// Document 01's "Samples from the boot wall", schemas written as expressions and schemas with several roots. Where a sample names elements a, b, c
+// their tags are 1, 2, 3; the root's is 0.
 mod common;
-use common::{checked, hex, read, refused, typed, R, R_BY_EXPRESSIONS, R_EVENTS};
+use common::{checked, hex, read, refused, typed, LISTS, R, R_BY_EXPRESSIONS, R_EVENTS, STOCK};
 use typestock::{openings, witness, Opening, SchemaAnswer, Witness, WITNESS};
 
 // The schema gets the number at the place, with the witness, from both calls.
@@ -55,7 +55,7 @@ fn a_gives_b1_or_b2() {
     let mut buffer = [0xff; WITNESS];
     typestock::check_schema(&hex(&schema), &mut buffer);
     let expected = Witness {
-        within: 0,
+        within: Some(0),
         one: 1,
         other: 2,
         word: &[],
@@ -223,4 +223,106 @@ fn steps_of_expressions() {
     let content = format!("{} 3F", "32 00 34 ".repeat(31));
     let types = format!("10 01 11 00 00 {content} 11 00 00 {content}");
     schema_gets(&format!("{types} 14 00 1F"), 5, 195, "");
+}
+
+// The ROOTs of these types, and DONE.
+fn roots(types: &[u8]) -> String {
+    let roots: String = types.iter().map(|a| format!("14 {a:02X} ")).collect();
+    format!("{roots} 1F")
+}
+
+#[test]
+fn price_lists_and_stock_lists() {
+    for both in [[0, 1], [1, 0]] {
+        let schema = format!("{LISTS} {}", roots(&both));
+        let prices = "21 00 21 02 22 02 21 02 22 02 22 00 2F";
+        events_get(&schema, prices, 0, 13, &[0, 2, 2]);
+        events_get(&schema, STOCK, 0, 13, &[1, 3, 3]);
+        events_get(&schema, "21 00 22 00 21 01", 13, 4, &[0]);
+        events_get(&schema, "21 00 21 01", 13, 2, &[0]);
+        events_get(&schema, "21 02", 13, 0, &[]);
+    }
+    events_get(&format!("{LISTS} 14 00 1F"), STOCK, 13, 0, &[]);
+}
+
+#[test]
+fn price_lists_by_expressions() {
+    let schema = "10 03  11 00 00 32 02 34 3F  11 01 00 32 03 34 3F  11 02 00 3F  11 02 00 3F  14 01 14 00 1F";
+    events_get(schema, STOCK, 0, 13, &[1, 3, 3]);
+    events_get(schema, "21 00 22 00 2F", 0, 5, &[0]);
+}
+
+#[test]
+fn roots_of_one_tag() {
+    // all four types are roots, of which the two articles compete
+    for all in [[0, 1, 2, 3], [3, 1, 0, 2]] {
+        let schema = format!("{LISTS} {}", roots(&all));
+        schema_gets(&schema, 9, 0, "FF 02 03 00 00");
+        let mut buffer = [0xff; WITNESS];
+        typestock::check_schema(&hex(&schema), &mut buffer);
+        let expected = Witness {
+            within: None,
+            one: 2,
+            other: 3,
+            word: &[],
+        };
+        assert_eq!(witness(&buffer), Some(expected));
+    }
+    schema_gets(&format!("{LISTS} {}", roots(&[0, 3, 1])), 0, 0, "");
+}
+
+// Type 0 gives 1 or 2 at once; types 3 and 4 are of one tag.
+#[test]
+fn roots_are_looked_at_first() {
+    let types = "10 03  11 00 02 12 01 13 00 01 01 13 00 02 01  11 01 01 12 00  11 01 01 12 00  11 02 01 12 00  11 02 01 12 00";
+    schema_gets(&format!("{types} 14 00 1F"), 9, 0, "00 01 02 00 00");
+    schema_gets(&format!("{types} 14 03 14 00 1F"), 9, 0, "00 01 02 00 00");
+    schema_gets(
+        &format!("{types} 14 00 14 04 14 03 1F"),
+        9,
+        0,
+        "FF 03 04 00 00",
+    );
+}
+
+// Types 0 and 1, of tag 0, bear no tree, type 2, of tag 0, and type 3, of tag 1, have no children.
+#[test]
+fn roots_that_bear_no_tree() {
+    let types = "10 02  11 00 01  11 00 01  11 00 01 12 00  11 01 01 12 00";
+    let schema = |types_of_roots: &[u8]| format!("{types} {}", roots(types_of_roots));
+    schema_gets(&schema(&[0]), 8, 0, "");
+    schema_gets(&schema(&[1, 0]), 8, 0, "");
+    events_get(&schema(&[0, 1, 3]), "21 01 22 01 2F", 0, 5, &[3]);
+    events_get(&schema(&[0, 1, 3]), "21 00", 13, 0, &[]);
+    events_get(&schema(&[0, 2, 1]), "21 00 22 00 2F", 0, 5, &[2]);
+}
+
+// Nine types with no children, each of a tag of its own: 47 bytes, then ROOTs.
+#[test]
+fn roots_8_and_9() {
+    let types: String = (0..9).map(|a| format!("11 {a:02X} 01 12 00 ")).collect();
+    let schema = |of: &[u8]| format!("10 09 {types} {}", roots(of));
+    let eight = schema(&[8, 1, 2, 3, 7, 5, 6, 4]);
+    for a in 1..9 {
+        events_get(&eight, &format!("21 {a:02X} 22 {a:02X} 2F"), 0, 5, &[a]);
+    }
+    events_get(&eight, "21 00", 13, 0, &[]);
+    schema_gets(&schema(&[]), 3, 47, "");
+    schema_gets(&schema(&[8, 1, 2, 3, 7, 5, 6, 4, 0]), 5, 63, "");
+    // a ninth that was given, or whose type was not
+    schema_gets(&schema(&[8, 1, 2, 3, 7, 5, 6, 4, 8]), 5, 63, "");
+    schema_gets(&schema(&[8, 1, 2, 3, 7, 5, 6, 4, 9]), 4, 63, "");
+    schema_gets(&schema(&[8, 8]), 6, 49, "");
+    schema_gets(&schema(&[8, 1, 2, 3, 7, 5, 6, 1]), 6, 61, "");
+    schema_gets(&schema(&[8, 9]), 4, 49, "");
+}
+
+#[test]
+fn roots_stand_together() {
+    for between in ["11 00 01", "12 00", "13 00 00 00", "10 01", "30", "3F"] {
+        let schema = format!("10 01 11 00 01 12 00 11 00 01 14 00 {between} 14 01 1F");
+        schema_gets(&schema, 3, 12, "");
+    }
+    schema_gets("10 01 14 00", 3, 2, "");
+    schema_gets("10 01 11 00 01 14 00 14", 2, 7, "");
 }

@@ -1,11 +1,14 @@
 //! Calls on schemas and readings that no file stated and no events led to.
 
-use super::{OPEN, boots, stated};
-use crate::limits::{MOST_OPEN, MOST_STEPS, MOST_TYPES};
+use super::{Block, OPEN, boots, file_of_roots, leaf, stated};
+use crate::limits::{MOST_OPEN, MOST_ROOTS, MOST_STEPS, MOST_TYPES};
 use crate::questions::{
     INCOMPLETE, NO_EVENT, NO_SUCH_OPENING, OUTSIDE_LIMITS, TOO_DEEP, UNKNOWN_TAG,
 };
-use crate::{Answer, Answered, Reading, Schema, States, event_file};
+use crate::{
+    Answer, Answered, Reading, Schema, States, Trimming, competition, event_file,
+    event_file_by_steps,
+};
 
 /// An element of this type is open, in these states.
 fn inside(of: u8, set: u32) -> Reading {
@@ -32,12 +35,16 @@ fn outside(schema: &Schema, reading: Reading) {
 
 #[test]
 fn schemas_outside_the_limits() {
-    let changes: [fn(&mut Schema); 14] = [
+    let changes: [fn(&mut Schema); 18] = [
         |schema| schema.tags = 0,
         |schema| schema.tags = 33,
         |schema| schema.types = 0,
         |schema| schema.types = 65,
-        |schema| schema.root = 4,
+        |schema| schema.roots = 0,
+        |schema| schema.roots = MOST_ROOTS as u8 + 1,
+        |schema| schema.roots = u8::MAX,
+        |schema| schema.root[0] = 4,
+        |schema| (schema.roots, schema.root[7]) = (8, 4),
         |schema| schema.tag[3] = 3,
         |schema| schema.states[1] = 0,
         |schema| schema.states[1] = 33,
@@ -66,6 +73,7 @@ fn entries_that_are_not_used() {
     schema.tag[4] = 99;
     schema.states[MOST_TYPES - 1] = 99;
     schema.by[3] = 99;
+    schema.root[1] = 99;
     assert!(schema.within_limits());
     let mut reading = inside(0, 0b01);
     reading.types[1] = 99;
@@ -115,4 +123,59 @@ fn the_set_of_no_states() {
     assert_eq!(empty.open(&schema, 1).answer, refused(NO_SUCH_OPENING));
     assert_eq!(empty.close(&schema, 0).answer, refused(INCOMPLETE));
     assert_eq!(inside(0, 0b10).close(&schema, 0).answer, Answer::Taken);
+}
+
+/// The type that an opening of this tag gets, alike from a call and from an event file of both layouts.
+fn root_given(schema: &Schema, tag: u8) -> Option<u8> {
+    let called = match Reading::FRESH.open(schema, tag).answer {
+        Answer::Typed(of) => Some(of),
+        answer => {
+            assert_eq!(answer, Answer::Refused(NO_SUCH_OPENING));
+            None
+        }
+    };
+    for read in [event_file::read, event_file_by_steps::read] {
+        let mut types = [99];
+        let count = read(schema, &[OPEN, tag], &mut types).count;
+        assert_eq!(types[..count].first().copied(), called);
+    }
+    called
+}
+
+#[test]
+fn the_smallest_root_of_a_tag() {
+    let barren: Block = (0, 1, &[], &[]);
+    let blocks = [barren, leaf(0), leaf(0), leaf(0), leaf(1)];
+    let mut schema = stated(&file_of_roots(3, &blocks, &[3, 4, 0, 2]));
+    let given = |schema: &Schema| [0, 1, 2].map(|tag| root_given(schema, tag));
+    // Type 0 bears no tree, and type 1 is no root.
+    assert_eq!(given(&schema), [Some(2), Some(4), None]);
+    schema.roots = 3;
+    assert_eq!(given(&schema), [Some(3), Some(4), None]);
+    schema.roots = 1;
+    assert_eq!(given(&schema), [Some(3), None, None]);
+    // Once a root was opened there is no other.
+    let rooted = Reading {
+        rooted: true,
+        ..Reading::FRESH
+    };
+    let answer = rooted.open(&schema, 0).answer;
+    assert_eq!(answer, Answer::Refused(NO_SUCH_OPENING));
+}
+
+#[test]
+fn a_root_twice_is_no_competition() {
+    let mut schema = stated(&file_of_roots(2, &[leaf(0), leaf(1), leaf(0)], &[0, 1]));
+    schema.roots = MOST_ROOTS as u8;
+    schema.root = [1, 0, 0, 1, 1, 0, 1, 0];
+    assert!(schema.within_limits());
+    let found = |schema: &Schema| competition::find(schema, &Trimming::of(schema));
+    assert_eq!(found(&schema), None);
+    assert_eq!(
+        [0, 1].map(|tag| root_given(&schema, tag)),
+        [Some(0), Some(1)]
+    );
+    schema.root[7] = 2;
+    let found = found(&schema).unwrap();
+    assert_eq!((found.within, found.one, found.other), (255, 0, 2));
 }

@@ -1,6 +1,6 @@
 //! The rows of the steps that count, and event files over both layouts.
 
-use super::{Block, OPEN, boots, file, leaf, nesting, row, stated, two_readings};
+use super::{Block, OPEN, boots, file, file_of_roots, leaf, nesting, row, stated, two_readings};
 use crate::rows::Entry;
 use crate::{Rows, Trimming, event_file, event_file_by_steps};
 
@@ -58,8 +58,13 @@ fn as_many_rows_as_there_are() {
 
 #[test]
 fn both_layouts_answer_alike() {
-    let schemas = [boots(), nesting(), two_readings(leaf(3))];
+    let lists: Block = (2, 1, &[0], &[(0, 0, 0), (0, 1, 0)]);
+    let barren: Block = (0, 1, &[], &[]);
+    let roots = file_of_roots(3, &[leaf(0), leaf(1), lists, barren], &[3, 2, 1]);
+    let schemas = [boots(), nesting(), two_readings(leaf(3)), roots];
     let files = [
+        row(2, &[0, 1, 1]),
+        row(1, &[]),
         row(0, &[1, 1, 2, 1]),
         row(0, &[2, 2]),
         row(0, &[]),

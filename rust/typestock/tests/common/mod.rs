@@ -1,4 +1,5 @@
-// What the tests share: bytes from hexadecimal text, document 01's schema R, by states and by expressions, and calls on buffers that are watched.
+// What the tests share: bytes from hexadecimal text, document 01's schema R, by states and by expressions, one with two roots, and calls on
+// buffers that are watched.
 #![allow(dead_code)]
 use typestock::{check_schema, type_document, Job, SchemaAnswer};
 
@@ -15,6 +16,13 @@ pub const R_BY_EXPRESSIONS: &str =
     "10 03 11 00 00 32 01 34 32 02 32 03 34 3F 11 01 00 3F 11 02 00 3F 11 01 00 3F 14 00 1F";
 // Its events.
 pub const R_EVENTS: &str = "21 00 21 01 22 01 21 02 22 02 21 01 22 01 22 00 2F";
+
+// Price lists, type 0 of tag 0, and stock lists, type 1 of tag 1; an article, tag 2, is of type 2 in the one and of type 3 in the other. ROOTs and
+// DONE are to follow.
+pub const LISTS: &str =
+    "10 03  11 00 01 12 00 13 00 02 00  11 01 01 12 00 13 00 03 00  11 02 01 12 00  11 02 01 12 00";
+// A stock list of two articles.
+pub const STOCK: &str = "21 01 21 02 22 02 21 02 22 02 22 01 2F";
 
 // A buffer between guard bytes. Each byte, the guards too, has a value of its place's; `turned` has each bit the other way, so that a
 // byte that is written differs from its value in one of the two.
