@@ -75,8 +75,8 @@ fn one_within(what: &str, schema: &Schema, leads: Leads, microseconds: f64) -> b
     report(what, &[schema_file(schema)], leads, Some(microseconds))
 }
 
-/// The longest files of one ROOT, in two orders of their steps. Questions 1 to 7 cannot be called alone: the root type with no step leaves 8 and 9 little to
-/// ask, and a last step that gets 7 leaves them nothing.
+/// The longest files of one ROOT, in two orders of their steps. Questions 1 to 7 cannot be called alone: the root type with no step leaves 8
+/// and 9 little to ask, and a last step that gets 7 leaves them nothing.
 fn longest_files() -> bool {
     let mut same = true;
     for (order, steps) in [("in order", full(32, 32, 1)), ("shuffled", shuffled())] {

@@ -1,16 +1,18 @@
 -- Reading the commands one by one: a command that passes its questions ends inside the file, what is left of the file then decides, and the
 -- answer at the end.
-use mathlib.Core.Path.{_≡_, sym, ap, subst, _∙_}
+use mathlib.Core.Path.{_≡_, refl, sym, ap, subst, _∙_}
 use mathlib.Core.Bool.{true, false}
 use mathlib.Core.Logic.{inl, inr}
 use mathlib.Core.List.{List, reverseAux-eq}
 use Prim.Native.Nat.{ℕ, suc, _+_, _-_, _≤_, _<_}
+use native.Mathlib.Decide.{decLt}
 use native.Mathlib.Omega.{arith}
-use borrow.Author.Tests.{le-leb, lt-leb, eqb-true, ne-eqb}
+use borrow.Author.Tests.{le-leb, lt-leb, lt-ltb, le-ltb, eqb-true, ne-eqb}
 use lib.Dec.{T}
 use lib.ListN.{length, replicate}
 use Rattle.sdtd.specs.Limits.{mostTypes, mostSteps}
 use Rattle.sdtd.specs.declared.Verdict.the-variants.{Fine}
+use Rattle.schema.specs.declared.value.Schema.{Schema}
 use Rattle.command.specs.Command.{isCommand, commandAt, size}
 use Rattle.command.specs.declared.Command.{Command}
 use Rattle.command.proofs.CommandLaws.{command-in-file, size-some}
@@ -24,7 +26,7 @@ use Rattle.commands.specs.File.{Commands, stopped, states, byContent, co
 use Rattle.commands.specs.Value.{StatedValue}
 use Rattle.commands.specs.Answer.{stoppedAt, CommandsBy}
 use Rattle.commands.specs.Progress.{nothingRead, progressAfter, progressWith, lastType, placesAfter, boundAfter}
-use Rattle.commands.specs.Progress.{placesWith, boundWith, leastFrom}
+use Rattle.commands.specs.Progress.{placesWith, boundWith, leastFrom, endedAt}
 use Rattle.commands.proofs.SchemaTables.{SchemaTables}
 use Rattle.commands.specs.declared.commands.StatedSchema.{StatedSchema}
 use Rattle.commands.specs.declared.progress.Phase.{Phase}
@@ -184,7 +186,7 @@ module _ {file : List ℕ} {i : ℕ} {s : Progress} {t : SchemaTables} {places :
     is-done : samePhase (r .stated .phase) AfterDone ≡ true
     is-done = rw (← r .holds .phase) done
 
-    pub reads-over : i < length file → commands file ≡ stopped 3 i
+    reads-over : i < length file → commands file ≡ stopped 3 i
     reads-over l = sym (r .rest) ∙ over (length file - i) file i (r .stated) is-done l
 
     module _ (end : length file ≤ i) (a : StatedSchema) where
@@ -196,12 +198,27 @@ module _ {file : List ℕ} {i : ℕ} {s : Progress} {t : SchemaTables} {places :
         least-stated : let n = length (r .stated .blocks) in p ≡ leastFrom places (length file) n (bound - n)
         least-stated = rw (← r .holds .types) least
 
-        pub answer-unknown : p < length file → a ≡ stoppedAt 7 p → CommandsBy (commands file) a
+        answer-unknown : p < length file → a ≡ stoppedAt 7 p → CommandsBy (commands file) a
         answer-unknown l e =
             let f = first-named (r .named) (length (r .stated .blocks)) least-stated l in
             answered (inl (f .0, rw (← f .1) e))
 
-        pub answer-known : length file ≤ p → a .verdict ≡ Fine → a .schema ≡ valueIn s t → CommandsBy (commands file) a
+        answer-known : length file ≤ p → a .verdict ≡ Fine → a .schema ≡ valueIn s t → CommandsBy (commands file) a
         answer-known l o v =
             let none = none-named (r .named) (length (r .stated .blocks)) least-stated (r .within) l in
             answered (inr (none, (o, subst (StatedValue (r .stated)) (sym v) (stated-value (r .holds)))))
+
+    -- the answer: 3, then 7, then the schema
+    pub answer-ended : {p : ℕ} {v : Schema} → p ≡ leastFrom places (length file) (s .types) (bound - s .types) → v ≡ valueIn s t
+        → CommandsBy (commands file) (endedAt i p (length file) v)
+    answer-ended {p} least e =
+        elim (decLt i (length file)) [
+          | yes l ↦ rw (lt-ltb i (length file) l) (answer-stopped file _ (reads-over l) refl)
+          | no n ↦
+              let end : length file ≤ i = omega arith in
+              rw (le-ltb i (length file) end)
+              (elim (decLt p (length file)) [
+                | yes l ↦ rw (lt-ltb p (length file) l) (answer-unknown end _ least l refl)
+                | no m ↦ let k : length file ≤ p = omega arith in rw (le-ltb p (length file) k) (answer-known end _ least k refl e)
+              ])
+        ]

@@ -5,6 +5,7 @@ use Prim.Native.Nat.{ℕ, zero, suc, _+_, _-_, _%_, min, max}
 use lib.Dec.{eqb, leb, ltb}
 use lib.ListN.{getD, set, replicate}
 use Rattle.sdtd.specs.Limits.{mostTypes, mostRoots, mostSteps}
+use Rattle.sdtd.specs.declared.Verdict.the-variants.{Fine}
 use Rattle.schema.specs.States.{insert}
 use Rattle.schema.specs.Value.{stepAt, rootsOf}
 use Rattle.schema.specs.declared.state_set.StateSet.{StateSet}
@@ -15,6 +16,9 @@ use Rattle.command.specs.declared.Command.the-variants.{Tags, TypeBlock, Final,
 use Rattle.expression.specs.Content.{Name}
 use Rattle.commands.specs.Questions.{failed}
 use Rattle.commands.specs.File.{sameStep, hasRoot}
+use Rattle.commands.specs.Answer.{stoppedAt}
+use Rattle.commands.specs.declared.commands.StatedSchema.{StatedSchema}
+use Rattle.commands.specs.declared.progress.Phase.{Phase}
 use Rattle.commands.specs.declared.progress.Phase.the-variants.{BeforeTags, BeforeTypes, InBlock, InExpression, AfterExpression, AfterRoot, AfterDone}
 use Rattle.commands.specs.declared.progress.Progress.{Progress}
 use Rattle.commands.specs.declared.questions.Seen.{Seen}
@@ -22,21 +26,17 @@ use Rattle.commands.specs.declared.questions.Seen.{Seen}
 abbrev pub nothingRead : Progress
 nothingRead = record { phase = BeforeTags; tags = 0; types = 0; roots = 0; root = replicate mostRoots 0; steps = 0 }
 
+-- the progress in a phase, with so many tags, types and steps; the roots stay
+abbrev pub withCounts : Progress → Phase → ℕ → ℕ → ℕ → Progress
+withCounts s phase tags types steps =
+    record { phase = phase; tags = tags; types = types; roots = s .roots; root = s .root; steps = steps }
+
 -- the progress after a command that passed its questions
 unfoldable pub progressAfter : Progress → Command → Progress
-progressAfter s (Tags n) = record { phase = BeforeTypes; tags = n; types = s .types; roots = s .roots; root = s .root; steps = s .steps }
-progressAfter s (TypeBlock g k) =
-    record {
-      phase = cond (eqb k 0) InExpression InBlock;
-      tags = s .tags;
-      types = s .types % mostTypes + 1;
-      roots = s .roots;
-      root = s .root;
-      steps = s .steps;
-    }
+progressAfter s (Tags n) = withCounts s BeforeTypes n (s .types) (s .steps)
+progressAfter s (TypeBlock g k) = withCounts s (cond (eqb k 0) InExpression InBlock) (s .tags) (s .types % mostTypes + 1) (s .steps)
 progressAfter s (Final q) = s
-progressAfter s (Step p j q) =
-    record { phase = s .phase; tags = s .tags; types = s .types; roots = s .roots; root = s .root; steps = s .steps % mostSteps + 1 }
+progressAfter s (Step p j q) = withCounts s (s .phase) (s .tags) (s .types) (s .steps % mostSteps + 1)
 progressAfter s (Root a) =
     record {
       phase = AfterRoot;
@@ -46,13 +46,13 @@ progressAfter s (Root a) =
       root = set (s .root) (s .roots % mostRoots) (a .0);
       steps = s .steps;
     }
-progressAfter s Done = record { phase = AfterDone; tags = s .tags; types = s .types; roots = s .roots; root = s .root; steps = s .steps }
+progressAfter s Done = withCounts s AfterDone (s .tags) (s .types) (s .steps)
 progressAfter s (Expression x) = s
 progressAfter s NoCommand = s
 
 -- the progress after an expression, with so many steps
 abbrev pub progressWith : Progress → ℕ → Progress
-progressWith s n = record { phase = AfterExpression; tags = s .tags; types = s .types; roots = s .roots; root = s .root; steps = n }
+progressWith s n = withCounts s AfterExpression (s .tags) (s .types) n
 
 -- what is seen of the file: by the progress, and the state count and the accepting states of the block that the file is in, and whether the
 -- STEP or the ROOT is given already
@@ -162,3 +162,8 @@ valueOf s tag states accepting counts from by to =
       by = by;
       to = to;
     }
+
+-- the answer after DONE, at the place i of a file of n bytes, where p is the first place at which a type that was not given is named, if that is
+-- below n
+abbrev pub endedAt : ℕ → ℕ → ℕ → Schema → StatedSchema
+endedAt i p n v = cond (ltb i n) (stoppedAt 3 i) (cond (ltb p n) (stoppedAt 7 p) (record { verdict = Fine; schema = v }))

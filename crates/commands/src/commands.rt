@@ -1,7 +1,8 @@
 // The commands of a file, one after another, and the schema that they state.
 use crate::laying::add_names;
-use crate::laying::complete_type;
+use crate::laying::count_steps;
 use crate::laying::fits;
+use crate::laying::lay_states;
 use crate::laying::lay_steps;
 use crate::progress::Progress;
 use crate::progress::is_done;
@@ -36,7 +37,7 @@ ghost use Rattle.sdtd.specs.Limits.{mostTypes};
 ghost use Rattle.commands.specs.File.{commands};
 ghost use Rattle.commands.specs.Value.{noSchema};
 ghost use Rattle.commands.specs.Answer.{stoppedAt, CommandsBy};
-ghost use Rattle.commands.specs.Progress.{failedIn, leastFrom, valueOf};
+ghost use Rattle.commands.specs.Progress.{failedIn, leastFrom, valueOf, endedAt};
 
 // The verdict, and beside it the schema stated; beside a refusal, the value of no schema.
 pub struct StatedSchema {
@@ -137,9 +138,25 @@ fn failed_in<'a>(
     failed_by(seen, command)
 }
 
+// The answer after DONE: 3 where the file goes on, 7 where a type that was not given is named first at the place `unknown`, else the schema.
+fn ended(at: usize, unknown: usize, end: usize, schema: Schema) -> StatedSchema
+    ensures { λ r. ⌜ r ≡ endedAt at unknown end schema ⌝ }
+{
+    if at < end {
+        return stopped(3, at);
+    }
+    if unknown < end {
+        return stopped(7, unknown);
+    }
+    StatedSchema {
+        verdict: Verdict::Fine,
+        schema,
+    }
+}
+
 // Questions 2 to 7 and 21 to 23 of a file: each command in order, up to DONE and the end of the file; then the types that are named.
-// `places` holds for each type the place of the first STEP or 32 that names it, or `none`, the file's length; `bound` lies above
-// each type that is named.
+// `places` holds for each type the place of the first STEP or 32 that names it, or the file's length; `bound` lies above each type that is
+// named.
 pub fn read_commands(file: &[u8]) -> StatedSchema
     ensures { λ r. ⌜ CommandsBy (commands (now (file .entry))) r ⌝ }
 {
@@ -150,8 +167,7 @@ pub fn read_commands(file: &[u8]) -> StatedSchema
     let mut from = [0u8; STEPS];
     let mut by = [0u8; STEPS];
     let mut to = [0u8; STEPS];
-    let none = file.len();
-    let mut places = [none; TYPES];
+    let mut places = [file.len(); TYPES];
     let mut bound = 0;
     let mut progress = nothing_read();
     let mut at = 0;
@@ -159,14 +175,11 @@ pub fn read_commands(file: &[u8]) -> StatedSchema
         if is_in_expression(progress) {
             let read = read_content(file, at);
             let total = lay_steps(read, progress.steps, &mut from, &mut by, &mut to);
-            let verdict = read.verdict;
-            let fit = fits(verdict, read.end, total);
-            if let Verdict::RefusedAt(n, p) = fit {
+            if let Verdict::RefusedAt(n, p) = fits(read, total) {
                 return stopped(n, p);
             }
-            let count = total - progress.steps;
-            let types = progress.types;
-            complete_type(read, types, count, &mut states, &mut accepting, &mut counts);
+            lay_states(read, progress.types, &mut states, &mut accepting);
+            count_steps(progress, total, &mut counts);
             bound = add_names(read, &mut places, bound);
             progress = progress_with(progress, total);
             at = read.end + 1;
@@ -185,15 +198,7 @@ pub fn read_commands(file: &[u8]) -> StatedSchema
         progress = progress_after(progress, c);
         at += size_of(c);
     }
-    if at < file.len() {
-        return stopped(3, at);
-    }
-    let unknown = first_unknown(&places, progress.types, bound, none);
-    if unknown < none {
-        return stopped(7, unknown);
-    }
-    StatedSchema {
-        verdict: Verdict::Fine,
-        schema: schema_of(progress, tag, states, accepting, counts, from, by, to),
-    }
+    let unknown = first_unknown(&places, progress.types, bound, file.len());
+    let schema = schema_of(progress, tag, states, accepting, counts, from, by, to);
+    ended(at, unknown, file.len(), schema)
 }

@@ -1,4 +1,5 @@
 // An expression's automaton, laid into the tables.
+use crate::progress::Progress;
 use crate::progress::TYPE_NUMBERS;
 use crate::tables::earlier;
 use crate::tables::larger;
@@ -11,7 +12,7 @@ use schema::TYPES;
 use sdtd::Verdict;
 ghost use mathlib.Core.Path.{_≡_};
 ghost use mathlib.Core.List.{[], _∷_};
-ghost use Prim.Native.Nat.{ℕ, suc, _+_, _≤_, _<_};
+ghost use Prim.Native.Nat.{ℕ, suc, _+_, _-_, _≤_, _<_};
 ghost use lib.ListN.{length, getD, set};
 ghost use Rattle.sdtd.specs.Limits.{mostTypes, mostStates, mostSteps};
 ghost use Rattle.sdtd.specs.Schema.{step};
@@ -139,14 +140,15 @@ pub(crate) fn lay_steps<'a>(
     count
 }
 
-// The verdict on an expression that ends at a place, with so many steps in all.
-pub(crate) fn fits(verdict: Verdict, end: usize, steps: usize) -> Verdict
-    ensures { λ r. ⌜ r ≡ fitting verdict end steps ⌝ }
+// The verdict on an expression, with so many steps in all.
+pub(crate) fn fits(read: Automaton, steps: usize) -> Verdict
+    ensures { λ r. ⌜ r ≡ fitting (read .verdict) (read .end) steps ⌝ }
 {
+    let verdict = read.verdict;
     match verdict {
         Verdict::Fine => {
             if STEPS < steps {
-                return Verdict::RefusedAt(5, end);
+                return Verdict::RefusedAt(5, read.end);
             }
             Verdict::Fine
         }
@@ -154,25 +156,30 @@ pub(crate) fn fits(verdict: Verdict, end: usize, steps: usize) -> Verdict
     }
 }
 
-// The last type's state count, accepting states and number of steps.
-pub(crate) fn complete_type<'a>(
+// The last type's state count and accepting states.
+pub(crate) fn lay_states<'a>(
     read: Automaton,
     types: u8,
-    steps: usize,
     states: &'a mut [u8; TYPES],
     accepting: &'a mut [u32; TYPES],
-    counts: &'a mut [u16; TYPES],
 )
-    requires { ⌜ (read .uses < mostStates) × (steps ≤ mostSteps) ⌝ }
+    requires { ⌜ read .uses < mostStates ⌝ }
     ensures { λ _. ⌜ (now (states .exit) ≡ set (now (states .entry)) (lastType types) (suc (read .uses)))
-        × (now (accepting .exit) ≡ set (now (accepting .entry)) (lastType types) (read .accepting .0))
-        × (now (counts .exit) ≡ set (now (counts .entry)) (lastType types) steps) ⌝ }
+        × (now (accepting .exit) ≡ set (now (accepting .entry)) (lastType types) (read .accepting .0)) ⌝ }
 {
     let last = last_type(types);
     let ends = read.accepting;
     states[last] = read.uses + 1;
     accepting[last] = ends.0;
-    counts[last] = steps as u16;
+}
+
+// The last type's number of steps: so many in all, without those before.
+pub(crate) fn count_steps(progress: Progress, total: usize, counts: &mut [u16; TYPES])
+    requires { ⌜ (progress .steps ≤ total) × (total ≤ mostSteps) ⌝ }
+    ensures { λ _. ⌜ now (counts .exit) ≡ set (now (counts .entry)) (lastType (progress .types)) (total - progress .steps) ⌝ }
+{
+    let last = last_type(progress.types);
+    counts[last] = (total - progress.steps) as u16;
 }
 
 // The places of the types that the automaton's uses name; and the bound above them.

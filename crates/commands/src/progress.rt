@@ -6,12 +6,10 @@ use schema::TYPES;
 use sdtd::TypeNo;
 ghost use mathlib.Core.Path.{_≡_};
 ghost use mathlib.Core.Bool.{cond};
-ghost use Prim.Native.Nat.{_%_};
 ghost use lib.Dec.{eqb};
-ghost use lib.ListN.{set};
-ghost use Rattle.sdtd.specs.Limits.{mostRoots};
+ghost use Rattle.command.specs.declared.Command.the-variants.{Root};
 ghost use Rattle.commands.specs.Questions.{rank, samePhase};
-ghost use Rattle.commands.specs.Progress.{nothingRead, progressAfter, progressWith};
+ghost use Rattle.commands.specs.Progress.{nothingRead, withCounts, progressAfter, progressWith};
 ghost use Rattle.commands.specs.declared.progress.Phase.the-variants.{InBlock, InExpression, AfterDone};
 
 // the most types and the most roots, as bytes
@@ -102,28 +100,49 @@ fn phase_of_type(states: u8) -> Phase
     Phase::InBlock
 }
 
-// One root more, behind so many.
-fn with_root(root: [u8; ROOTS], roots: u8, a: TypeNo) -> [u8; ROOTS]
-    ensures { λ r. ⌜ r ≡ set root (roots % mostRoots) (a .0) ⌝ }
+// The progress in a phase, with so many tags, types and steps; the roots stay.
+fn with_counts(progress: Progress, phase: Phase, tags: u8, types: u8, steps: usize) -> Progress
+    ensures { λ r. ⌜ r ≡ withCounts progress phase tags types steps ⌝ }
 {
-    let mut more = root;
-    more[(roots % MOST_ROOTS) as usize] = a.0;
-    more
+    let root = progress.root;
+    Progress {
+        phase,
+        tags,
+        types,
+        roots: progress.roots,
+        root,
+        steps,
+    }
+}
+
+// The progress after a ROOT: one root more, behind the others.
+fn with_root(progress: Progress, a: TypeNo) -> Progress
+    ensures { λ r. ⌜ r ≡ progressAfter progress (Root a) ⌝ }
+{
+    let roots = progress.roots % MOST_ROOTS;
+    let mut root = progress.root;
+    root[roots as usize] = a.0;
+    Progress {
+        phase: Phase::AfterRoot,
+        tags: progress.tags,
+        types: progress.types,
+        roots: roots + 1,
+        root,
+        steps: progress.steps,
+    }
 }
 
 // The progress after an expression, with so many steps.
 pub(crate) fn progress_with(progress: Progress, steps: usize) -> Progress
     ensures { λ r. ⌜ r ≡ progressWith progress steps ⌝ }
 {
-    let root = progress.root;
-    Progress {
-        phase: Phase::AfterExpression,
-        tags: progress.tags,
-        types: progress.types,
-        roots: progress.roots,
-        root,
+    with_counts(
+        progress,
+        Phase::AfterExpression,
+        progress.tags,
+        progress.types,
         steps,
-    }
+    )
 }
 
 // The progress after a command that passed its questions.
@@ -131,48 +150,18 @@ pub(crate) fn progress_after(progress: Progress, command: Command) -> Progress
     ensures { λ r. ⌜ r ≡ progressAfter progress command ⌝ }
 {
     let phase = progress.phase;
-    let root = progress.root;
+    let tags = progress.tags;
+    let types = progress.types;
+    let steps = progress.steps;
     match command {
-        Command::Tags(n) => Progress {
-            phase: Phase::BeforeTypes,
-            tags: n,
-            types: progress.types,
-            roots: progress.roots,
-            root,
-            steps: progress.steps,
-        },
-        Command::TypeBlock(_, k) => Progress {
-            phase: phase_of_type(k),
-            tags: progress.tags,
-            types: progress.types % TYPE_NUMBERS + 1,
-            roots: progress.roots,
-            root,
-            steps: progress.steps,
-        },
-        Command::Step(_, _, _) => Progress {
-            phase,
-            tags: progress.tags,
-            types: progress.types,
-            roots: progress.roots,
-            root,
-            steps: progress.steps % STEPS + 1,
-        },
-        Command::Root(a) => Progress {
-            phase: Phase::AfterRoot,
-            tags: progress.tags,
-            types: progress.types,
-            roots: progress.roots % MOST_ROOTS + 1,
-            root: with_root(root, progress.roots, a),
-            steps: progress.steps,
-        },
-        Command::Done => Progress {
-            phase: Phase::AfterDone,
-            tags: progress.tags,
-            types: progress.types,
-            roots: progress.roots,
-            root,
-            steps: progress.steps,
-        },
+        Command::Tags(n) => with_counts(progress, Phase::BeforeTypes, n, types, steps),
+        Command::TypeBlock(_, k) => {
+            let one_more = types % TYPE_NUMBERS + 1;
+            with_counts(progress, phase_of_type(k), tags, one_more, steps)
+        }
+        Command::Step(_, _, _) => with_counts(progress, phase, tags, types, steps % STEPS + 1),
+        Command::Root(a) => with_root(progress, a),
+        Command::Done => with_counts(progress, Phase::AfterDone, tags, types, steps),
         _ => progress,
     }
 }

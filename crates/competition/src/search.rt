@@ -1,4 +1,5 @@
-// The search for competition: two roots of one tag; then type by type, breadth first over unordered pairs of states; and the two calls that answer by it.
+// The search for competition: two roots of one tag; then type by type, breadth first over unordered pairs of states; and the two calls that
+// answer by it.
 use crate::entries::first_of;
 use crate::entries::second_of;
 use crate::marks::search_from;

@@ -13,7 +13,8 @@ use Rattle.sdtd.specs.Trim.{SomeRootBears, AllBear, none, both, root}
 use Rattle.sdtd.specs.Competition.{GoesOn, Compete, CompeteIn, CompeteOutside, Competition, of-roots, in-type, witnessBytes, by-roots, by-types}
 use Rattle.sdtd.specs.Competition.{Accepted}
 use Rattle.sdtd.specs.Samples.{schemaR, schemaChoice, schemaNoD, schemaTwoWays, schemaTwoTypes, schemaLastButOne}
-use Rattle.sdtd.specs.Samples.{schemaOptional, schemaEndless, schemaNested, schemaLists, schemaOneTag, schemaTreeless, witnessChoice, witnessTwoWays, witnessOneTag}
+use Rattle.sdtd.specs.Samples.{schemaOptional, schemaEndless, schemaNested, schemaLists, schemaOneTag, schemaTreeless}
+use Rattle.sdtd.specs.Samples.{witnessChoice, witnessTwoWays, witnessOneTag}
 use Rattle.sdtd.specs.Samples.{refuses-8, refuses-9, Holds}
 use Rattle.sdtd.proofs.Bearing.{word-bears}
 use Rattle.sdtd.proofs.Tests.{Means, itself, and-means, not-means, every}

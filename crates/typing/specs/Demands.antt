@@ -86,7 +86,8 @@ Demand2File =
 pub record Demand3Of (file was : List ℕ) (f : SchemaFile) : Type 0 where
   -- "Suppose a schema file passes document 01's questions 1 to 7 and at least one document is valid under it. It is refused for competition
   -- exactly when two valid documents [..] agree in every event through some opening tag and differ in that element's type. Otherwise it is
-  -- accepted". "[T]he two-document statement covers the first opening tag too". "The third demand supposes these three passed too": 21 to 23 are among the questions that `StatesSchema` has passed.
+  -- accepted". "[T]he two-document statement covers the first opening tag too". "The third demand supposes these three passed too": 21 to 23
+  -- are among the questions that `StatesSchema` has passed.
   pub refused-exactly : (S : Meaning) → leastWitness ≤ length was → StatesSchema file S → SomeValid S → Demand3File S (f .answer)
   -- "and then what follows holds for every list of opening, closing and finishing calls from a fresh reading, with any tags and refused
   -- calls included, where each call gets the reading as the last one left it."

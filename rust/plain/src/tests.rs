@@ -416,15 +416,22 @@ fn a_thousand_and_twenty_four_steps() {
     refused(&then("11 00 01 13 00 00 00"), 5, bytes.len() + 3);
 }
 
-#[test]
-fn the_longest_file() {
+/// As many old commands as a file can have, with these roots.
+fn longest_file(roots: impl Iterator<Item = u8>) -> Vec<u8> {
     let mut bytes = hex("10 20");
     for number in 0..64 {
         bytes.extend([0x11, number / 2, 32]);
         bytes.extend((0..32).flat_map(|state| [0x12, state]));
         bytes.extend((0..16).flat_map(|from| [0x13, from, number, from + 1]));
     }
-    bytes.extend(hex("14 00 1F"));
+    bytes.extend(roots.flat_map(|of| [0x14, of]));
+    bytes.push(0x1F);
+    bytes
+}
+
+#[test]
+fn the_longest_file() {
+    let bytes = longest_file(std::iter::once(0));
     assert_eq!(bytes.len(), 8389);
     accepted(&bytes);
 }

@@ -1,8 +1,8 @@
 //! Schemas with more than one root.
 
 use super::{
-    Block, CLOSE, FINISH, OPEN, accepted, boots, check, confirmed, file_of_roots, hex, leaf, print,
-    read, refused, row, stated,
+    Block, CLOSE, FINISH, OPEN, accepted, boots, check, confirmed, file_of_roots, hex, leaf,
+    longest_file, print, read, refused, row, stated,
 };
 use crate::Trimming;
 
@@ -246,14 +246,7 @@ fn reached_from_all_roots() {
 /// With eight roots a file of old commands alone has up to 14 bytes more than with one.
 #[test]
 fn the_longest_file_with_eight_roots() {
-    let mut bytes = hex("10 20");
-    for number in 0..64 {
-        bytes.extend([0x11, number / 2, 32]);
-        bytes.extend((0..32).flat_map(|state| [0x12, state]));
-        bytes.extend((0..16).flat_map(|from| [0x13, from, number, from + 1]));
-    }
-    bytes.extend((0..8).flat_map(|of| [0x14, 63 - 2 * of]));
-    bytes.push(0x1F);
+    let bytes = longest_file((0..8).map(|of| 63 - 2 * of));
     assert_eq!(bytes.len(), 8389 + 14);
     accepted(&bytes);
 }

@@ -18,13 +18,12 @@ use Rattle.sdtd.specs.declared.Verdict.the-variants.{Fine}
 use Rattle.commands.specs.Laying.{fitting}
 use Rattle.commands.proofs.ExpressionReads.{Found, found, uses-few}
 use Rattle.commands.proofs.ExpressionTurns.{turn-refused, turn-steps, turn-end, turn-reads}
-use Rattle.commands.proofs.OneByOne.{Reads, reads-first, reads-stopped, reads-in-file, reads-next, reads-over}
-use Rattle.commands.proofs.OneByOne.{answer-stopped, answer-unknown, answer-known}
+use Rattle.commands.proofs.OneByOne.{Reads, reads-first, reads-stopped, reads-in-file, reads-next, answer-stopped, answer-ended}
 use Rattle.commands.proofs.commands.read_commands.Statement.{statement}
 use Rattle.commands.proofs.commands.read_commands.Tie as tie
 
 abbrev Inv-loop : tie.InvT-loop
-Inv-loop file tag₀ states₀ accepting₀ counts₀ from₀ by₀ to₀ none places₀ bound₀ progress₀ at₀ tag states accepting counts from by to places bound progress at =
+Inv-loop file tag₀ states₀ accepting₀ counts₀ from₀ by₀ to₀ places₀ bound₀ progress₀ at₀ tag states accepting counts from by to places bound progress at =
     Reads file at progress
     (record {
       tag = tag;
@@ -38,7 +37,7 @@ Inv-loop file tag₀ states₀ accepting₀ counts₀ from₀ by₀ to₀ none p
     places bound
 
 abbrev μ-loop : tie.MeasureT-loop
-μ-loop file tag₀ states₀ accepting₀ counts₀ from₀ by₀ to₀ none places₀ bound₀ progress₀ at₀ tag states accepting counts from by to places bound progress at =
+μ-loop file tag₀ states₀ accepting₀ counts₀ from₀ by₀ to₀ places₀ bound₀ progress₀ at₀ tag states accepting counts from by to places bound progress at =
     length file - at
 
 -- where the loop was reached, from where its test was made; and where an expression was read
@@ -142,7 +141,7 @@ ends-at c =
     turn-end (reached r .loop .inv) (inside (r .before)) (read r) (l .lay-steps .ensures) (fine c)
 
 -- from where the expression's part of the loop's body ends
-abbrev told : tie.After-struct-known2 Inv-loop μ-loop → tie.After-enum-told Inv-loop μ-loop
+abbrev told : tie.After-struct-known Inv-loop μ-loop → tie.After-enum-told Inv-loop μ-loop
 told c = c .before .before .before .before .before .before .before .before .before
 
 nothing-read-requires : tie.Need-nothing-read-requires Inv-loop μ-loop
@@ -186,8 +185,8 @@ lay-steps-requires c κs = let r = c .before .before .before in (uses-few (read 
 fits-requires : tie.Need-fits-requires Inv-loop μ-loop
 fits-requires c κs = tt
 
-enum-known-fit : tie.Need-enum-known-fit Inv-loop μ-loop
-enum-known-fit c = search needs
+enum-known-n : tie.Need-enum-known-n Inv-loop μ-loop
+enum-known-n c = search needs
 
 stopped-requires : tie.Need-stopped-requires Inv-loop μ-loop
 stopped-requires c κs = tt
@@ -198,19 +197,17 @@ returns c =
     let f = m .before .before in
     let r = read-at (f .before) in
     answer-stopped _ _
-    (turn-refused (reached r .loop .inv) (inside (r .before)) (read r) (f .before .lay-steps .ensures) (sym (f .fits2 .ensures) ∙ m .fit .given .1))
+    (turn-refused (reached r .loop .inv) (inside (r .before)) (read r) (f .before .lay-steps .ensures) (sym (f .fits2 .ensures) ∙ m .n .given .1))
     (c .stopped .ensures)
 
 enum-told : tie.Need-enum-told Inv-loop μ-loop
 enum-told c = search needs
 
-sub-count : tie.Need-sub-count Inv-loop μ-loop
-sub-count c = omega (arith, steps-at (c .before))
+lay-states-requires : tie.Need-lay-states-requires Inv-loop μ-loop
+lay-states-requires c κs = uses-few (read (read-at (laid-at (c .before .before))))
 
-complete-type-requires : tie.Need-complete-type-requires Inv-loop μ-loop
-complete-type-requires c κs =
-    let e = c .before .before .before .before in
-    (uses-few (read (read-at (laid-at e))), omega (arith, steps-at e))
+count-steps-requires : tie.Need-count-steps-requires Inv-loop μ-loop
+count-steps-requires c κs = steps-at (c .before .before .before .before)
 
 add-names-requires : tie.Need-add-names-requires Inv-loop μ-loop
 add-names-requires c κs =
@@ -234,10 +231,11 @@ loop-again c =
     let e = told c in
     let l = laid-at e in
     let r = read-at l in
-    let parts = c .before .before .before .before .complete-type .ensures in
+    let count = c .before .before .before .before .count-steps .ensures in
+    let parts = c .before .before .before .before .before .before .lay-states .ensures in
     let names = c .before .before .add-names .ensures in
     turn-reads (reached r .loop .inv) (inside (r .before)) (read r) (l .lay-steps .ensures) (fine e) (c .before .progress-with .ensures)
-    (parts .0) (parts .1) (parts .2) (names .0) (names .1)
+    (parts .0) (parts .1) count (names .0) (names .1)
 
 command-at-requires : tie.Need-command-at-requires Inv-loop μ-loop
 command-at-requires c κs = tt
@@ -308,37 +306,21 @@ loop-again-2 c =
     })
     (place .1) (c .before .before .bound-after .ensures)
 
-stopped-requires-3 : tie.Need-stopped-requires-3 Inv-loop μ-loop
-stopped-requires-3 c κs = tt
-
-returns-3 : tie.Need-returns-3 Inv-loop μ-loop
-returns-3 c =
-    let e1 = c .before .before in
-    answer-stopped _ _ (reads-over (e1 .before .before .loop .inv) (done e1) (c .before .if4 .taken)) (c .stopped3 .ensures)
-
 first-unknown-requires : tie.Need-first-unknown-requires Inv-loop μ-loop
-first-unknown-requires c κs = c .before .before .before .before .loop .inv .named .bound-most
-
-stopped-requires-4 : tie.Need-stopped-requires-4 Inv-loop μ-loop
-stopped-requires-4 c κs = tt
-
-returns-4 : tie.Need-returns-4 Inv-loop μ-loop
-returns-4 c =
-    let u = c .before .before in
-    let e4 = u .before .before in
-    let e1 = e4 .before in
-    answer-unknown (e1 .before .before .loop .inv) (done e1) (e4 .if4 .left) _ (u .first-unknown .ensures) (c .before .if5 .taken) (c .stopped4 .ensures)
+first-unknown-requires c κs = c .before .before .before .loop .inv .named .bound-most
 
 schema-of-requires : tie.Need-schema-of-requires Inv-loop μ-loop
 schema-of-requires c κs = tt
 
-returns-5 : tie.Need-returns-5 Inv-loop μ-loop
-returns-5 c =
-    let u = c .before .before in
-    let e4 = u .before .before in
-    let e1 = e4 .before in
-    answer-known (e1 .before .before .loop .inv) (done e1) (e4 .if4 .left) _ (u .first-unknown .ensures) (c .before .if5 .left) refl
-    (c .schema-of .ensures)
+ended-requires : tie.Need-ended-requires Inv-loop μ-loop
+ended-requires c κs = tt
+
+returns-3 : tie.Need-returns-3 Inv-loop μ-loop
+returns-3 c =
+    let m = c .before in
+    let u = m .before in
+    let e = u .before .before in
+    rw (c .ended .ensures) (answer-ended (e .before .before .loop .inv) (done e) (u .first-unknown .ensures) (m .schema-of .ensures))
 
 pub read-commands-spec : {M : Type 1} → statement M
 read-commands-spec =
@@ -353,12 +335,12 @@ read-commands-spec =
     read-content-requires
     lay-steps-requires
     fits-requires
-    enum-known-fit
+    enum-known-n
     stopped-requires
     returns
     enum-told
-    sub-count
-    complete-type-requires
+    lay-states-requires
+    count-steps-requires
     add-names-requires
     progress-with-requires
     add-at
@@ -378,10 +360,7 @@ read-commands-spec =
     add-at-2
     loop-less-2
     loop-again-2
-    stopped-requires-3
-    returns-3
     first-unknown-requires
-    stopped-requires-4
-    returns-4
     schema-of-requires
-    returns-5)
+    ended-requires
+    returns-3)

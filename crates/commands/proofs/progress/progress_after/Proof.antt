@@ -11,7 +11,6 @@ use Rattle.commands.specs.declared.progress.Progress.{Progress}
 use borrow.Author.Needs.{needs}
 use Rattle.commands.proofs.progress.progress_after.Statement.{statement}
 use Rattle.commands.proofs.progress.progress_after.Tie as tie
-use Rattle.commands.proofs.progress.phase_of_type.Reads as phase-of-type-reads
 
 -- FINAL changes nothing here
 others : (s : Progress) (c : Command) → OneOf (2 ∷ 6 ∷ 7 ∷ []) (tagOf the-type c) → s ≡ progressAfter s c
@@ -28,52 +27,60 @@ others s NoCommand k = refl
 enum-known-command : tie.Need-enum-known-command
 enum-known-command c = search needs
 
+with-counts-requires : tie.Need-with-counts-requires
+with-counts-requires c κs = tt
+
 enum-known-command-2 : tie.Need-enum-known-command-2
 enum-known-command-2 c = search needs
 
-phase-of-type-requires : tie.Need-phase-of-type-requires
-phase-of-type-requires c κs = search needs
+add-one-more : tie.Need-add-one-more
+add-one-more c = search needs
 
-add-t12 : tie.Need-add-t12
-add-t12 c = search needs
+phase-of-type-requires : tie.Need-phase-of-type-requires
+phase-of-type-requires c κs = tt
+
+with-counts-requires-2 : tie.Need-with-counts-requires-2
+with-counts-requires-2 c κs = tt
 
 enum-told : tie.Need-enum-told
 enum-told c = search needs
 
-add-t14 : tie.Need-add-t14
-add-t14 c = search needs
+add-with-counts : tie.Need-add-with-counts
+add-with-counts c = search needs
+
+with-counts-requires-3 : tie.Need-with-counts-requires-3
+with-counts-requires-3 c κs = tt
 
 enum-known-command-3 : tie.Need-enum-known-command-3
 enum-known-command-3 c = search needs
 
-add-t17 : tie.Need-add-t17
-add-t17 c = search needs
-
 with-root-requires : tie.Need-with-root-requires
-with-root-requires c κs = search needs
+with-root-requires c κs = tt
 
 enum-told-2 : tie.Need-enum-told-2
 enum-told-2 c = search needs
 
+with-counts-requires-4 : tie.Need-with-counts-requires-4
+with-counts-requires-4 c κs = tt
+
 returns : tie.Need-returns
 unfolding progressAfter
-returns c = rw (c .before .command .given .1)
+returns c = rw (c .before .before .command .given .1) (c .with-counts .ensures)
 
 returns-2 : tie.Need-returns-2
 unfolding progressAfter
-returns-2 c = rw (c .before .before .before .command2 .given .1, c .before .phase-of-type .ensures)
+returns-2 c = rw (c .before .before .before .command2 .given .1, ← c .before .phase-of-type .ensures) (c .with-counts2 .ensures)
 
 returns-3 : tie.Need-returns-3
 unfolding progressAfter
-returns-3 c = rw (c .before .enum-told .given .1)
+returns-3 c = rw (c .before .enum-told .given .1) (c .with-counts3 .ensures)
 
 returns-4 : tie.Need-returns-4
-unfolding progressAfter
-returns-4 c = rw (c .before .before .before .command3 .given .1, c .with-root .ensures)
+returns-4 c = rw (c .before .before .command3 .given .1) (c .with-root .ensures)
 
 returns-5 : tie.Need-returns-5
 unfolding progressAfter
-returns-5 c = rw (c .enum-told2 .given .1)
+returns-5 c = rw (c .before .enum-told2 .given .1) (c .with-counts4 .ensures)
 
 returns-6 : tie.Need-returns-6
 returns-6 c = others _ _ (c .match .keys6)
@@ -83,15 +90,18 @@ progress-after-spec =
     tie.close
     (tie.spec
     enum-known-command
+    with-counts-requires
     enum-known-command-2
+    add-one-more
     phase-of-type-requires
-    add-t12
+    with-counts-requires-2
     enum-told
-    add-t14
+    add-with-counts
+    with-counts-requires-3
     enum-known-command-3
-    add-t17
     with-root-requires
     enum-told-2
+    with-counts-requires-4
     returns
     returns-2
     returns-3

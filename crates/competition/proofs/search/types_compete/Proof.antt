@@ -1,5 +1,5 @@
--- `competition::search::types_compete` meets its contract: by the tables of the trimming and the rows, what the search finds is the smallest type in which two
--- compete, with a shortest word after which two compete in it; or there is none.
+-- `competition::search::types_compete` meets its contract: by the tables of the trimming and the rows, what the search finds is the smallest
+-- type in which two compete, with a shortest word after which two compete in it; or there is none.
 use mathlib.Core.Path.{refl}
 use borrow.Author.Needs.{needs}
 use Rattle.schema.proofs.LimitLaws.{within-room}

@@ -1,9 +1,9 @@
--- `commands::laying::complete_type` meets its contract.
+-- `commands::laying::lay_states` meets its contract.
 use mathlib.Core.Path.{refl}
 use native.Mathlib.Numerals.{add-one}
 use borrow.Author.Needs.{needs}
-use Rattle.commands.proofs.laying.complete_type.Statement.{statement}
-use Rattle.commands.proofs.laying.complete_type.Tie as tie
+use Rattle.commands.proofs.laying.lay_states.Statement.{statement}
+use Rattle.commands.proofs.laying.lay_states.Tie as tie
 
 last-type-requires : tie.Need-last-type-requires
 last-type-requires c κs = search needs
@@ -20,20 +20,11 @@ mul-accepting c = search needs
 element-write-accepting : tie.Need-element-write-accepting
 element-write-accepting c = search needs
 
-cast-counts : tie.Need-cast-counts
-cast-counts c = search needs
-
-mul-counts : tie.Need-mul-counts
-mul-counts c = search needs
-
-element-write-counts : tie.Need-element-write-counts
-element-write-counts c = search needs
-
 returns : tie.Need-returns
-returns c = rw (c .before .before .last-type .ensures, add-one) (refl, refl, refl)
+returns c = rw (c .before .before .last-type .ensures, add-one) (refl, refl)
 
-pub complete-type-spec : {M : Type 1} → statement M
-complete-type-spec =
+pub lay-states-spec : {M : Type 1} → statement M
+lay-states-spec =
     tie.close
     (tie.spec
     last-type-requires
@@ -41,7 +32,4 @@ complete-type-spec =
     element-write-states
     mul-accepting
     element-write-accepting
-    cast-counts
-    mul-counts
-    element-write-counts
     returns)
