@@ -19,11 +19,12 @@ states, Q a set of states.
 How the model decides. It lists words and typed trees from document 000's definition, as
 listing/meaning.py says: whether a type bears a tree, is reached, or has two that compete in it, and
 whether roots compete; whether a valid document begins with some events is found by typing them and
-completing the typed beginning, as listing/reading.py says. What a reading holds, and what made-up
-values answer, is said by document 01's words on such values, in listing/value.py; where both apply
-both are taken and must agree. Every number of document 01 stands in listing/tables.py. Beside that
-the valid documents of random schemas are listed up to some size and compared (listing/listed.py),
-and for each competition, of roots too, two documents of demand 3 are built and looked at, and all
+completing the typed beginning, as listing/reading.py says. Elements are of two kinds there, opened
+plainly and as nil. What a reading holds, and what made-up values answer, is said by document 01's
+words on such values, in listing/value.py; where both apply both are taken and must agree. Every
+number of document 01 stands in listing/tables.py. Beside that the valid documents of random schemas
+are listed up to some size and compared (listing/listed.py), and for each competition, of roots too,
+two documents of demand 3 are built and looked at, for each kind that the two types share, and all
 shorter words are listed, if there are not too many. Of content written as an expression the words
 are listed too, and the automaton is made from them by the request's wording
 (listing/expression.py).
@@ -41,8 +42,8 @@ from pathlib import Path
 
 sys.dont_write_bytecode = True
 
-from listing import (cases_roots, cases_under_expressions, cases_under_roots, choices, least,
-                     pair_numbers)
+from listing import (cases_nil, cases_roots, cases_under_expressions, cases_under_nil,
+                     cases_under_roots, choices, least, pair_numbers)
 from listing.case import HEAD
 from listing.cases_jobs import damaged_cases, named_size_cases, random_cases, sample_cases
 from listing.groups import GROUPS, made
@@ -114,9 +115,13 @@ def write_folders(count, folder):
     cases += list(damaged_cases(count // 10))
     cases += list(islice(cases_under_expressions.random_job_cases(), count // 10))
     cases += list(islice(cases_under_roots.random_job_cases(), count // 10))
-    named = [(f"sample-{n}", case) for n, case in enumerate(sample_cases())]
-    named += [(f"random-{n}", case) for n, case in enumerate(cases)]
-    named += [(f"roots-{n}", case) for n, case in enumerate(cases_roots.job_cases())]
+    cases += list(islice(cases_under_nil.random_job_cases(), count // 10))
+    named = []
+    for name, some in (("sample", sample_cases()), ("random", cases),
+                       ("roots", jobs(cases_roots.hand_cases, cases_under_roots.document_cases)),
+                       ("nil", jobs(cases_nil.hand_cases, cases_under_nil.document_cases,
+                                    cases_under_nil.level_cases))):
+        named += [(f"{name}-{n}", case) for n, case in enumerate(some)]
     named += [*named_size_cases(), *cases_under_expressions.named_size_cases()]
     for name, case in named:
         here = folder / name
@@ -124,6 +129,11 @@ def write_folders(count, folder):
         (here / "schema.tab").write_bytes(case.first)
         (here / "events").write_bytes(case.second)
         (here / "expected").write_text(case.text.removesuffix("--\n"))
+
+
+def jobs(*groups):
+    """The jobs among these cases."""
+    return [case for cases in groups for case in cases() if case.letter == "J"]
 
 
 def main(arguments):

@@ -4,7 +4,7 @@ import struct
 
 from .judged import judge
 from .reading import Reading
-from .tables import CALLS, FIELD_NAMES, FIELDS, LENT, OPEN
+from .tables import CALLS, FIELD_NAMES, FIELDS, KINDS, OPEN_NIL
 
 PUT = struct.Struct("<BHI")     # field, index and number of a value put
 CALL = struct.Struct("<BB")
@@ -24,7 +24,8 @@ def items_of(data):
             at += PUT.size
         else:
             call, tag = CALL.unpack_from(data, at)
-            yield CALLS[call % LENT], tag, call >= LENT
+            event, lent = CALLS[call]
+            yield event, tag, lent
             at += CALL.size
 
 
@@ -34,7 +35,7 @@ class Calls:
     def __init__(self, file):
         self.file, self.reading = file, Reading(judge(file))
         self.items, self.texts, self.answers = bytearray(), [judge(file).text()], []
-        self.lent_answers = []
+        self.lent_answers, self.nil_answers = [], []
 
     def call(self, event, tag=0, lent=False):
         """Calls; a lent call is answered like one by value."""
@@ -42,11 +43,13 @@ class Calls:
         text, changed = f"r{number}", ""
         if number is None:
             a = self.reading.take(event, tag)
-            text, changed = f"t{a}" if event == OPEN else "ok", self.reading.value.changed
-        self.items += CALL.pack(CALLS.index(event) + LENT * lent, tag)
+            text, changed = f"t{a}" if event in KINDS else "ok", self.reading.value.changed
+        self.items += CALL.pack(CALLS.index((event, lent)), tag)
         self.answers.append(text)
         if lent:
             self.lent_answers.append(text)
+        if event == OPEN_NIL:
+            self.nil_answers.append(text)
         self.texts.append(text + changed)
 
     def put(self, field, number, index=0):

@@ -40,9 +40,10 @@ def due_case(kind, file, number, place, room):
 
 
 def calls_case(kind, made):
-    """The case of a list of calls; the lent ones are counted besides."""
+    """The case of a list of calls; the lent ones and the nil openings are counted besides."""
     answers = ["type" if text[0] == "t" else text.removeprefix("r") for text in made.answers]
-    answers += ["lent" if text[0] in "to" else "lent refused" for text in made.lent_answers]
+    for name, texts in (("lent", made.lent_answers), ("nil", made.nil_answers)):
+        answers += [name if text[0] in "to" else f"{name} refused" for text in texts]
     return Case("C", f"C {kind}", 0, made.file, bytes(made.items), made.line() + "\n",
                 tuple(answers))
 

@@ -43,7 +43,7 @@ class Script(Calls):
 
     def refused(self, times=1):
         """Every kind of call that is refused here, so many times."""
-        for event in every_event(self.reading.tags()):
+        for event in every_event(self.reading.schema_value()):
             if self.reading.refusal(*event) is not None:
                 for _ in range(times):
                     self.give(*event)
@@ -211,11 +211,10 @@ def depth_puts():
         yield made.puts(("depth", most)).some()
 
 
-def inner_puts():
+def inner_puts(start, files):
     """Each type with each set of one state, none, all; and types and sets past the counts."""
-    start = starter("readings made up", "innermost")
-    for file in FILES:
-        schema = judge(file).meaning.schema
+    for file in files:
+        schema, value = judge(file).meaning.schema, judge(file).value
         types = len(schema.blocks)
         for a in sorted({*range(types), types, MOST_TYPES, BYTE}):
             made = start(file).puts(("depth", 1), ("rooted", 1), ("level type", a))
@@ -225,7 +224,8 @@ def inner_puts():
             for some in sorted(number for number in sets if number <= SET):
                 fresh = ("depth", 1), ("level set", some)
                 for tag in range(schema.tags):
-                    made.puts(*fresh).route(f"{tag}").puts(*fresh).route(f"/{tag}")
+                    for event in (*value.kinds(), CLOSE):
+                        made.puts(*fresh).give(event, tag)
                 made.puts(*fresh).route("f")
             yield made
 
@@ -274,7 +274,8 @@ def flag_puts():
 
 
 def made_up_reading_cases():
-    for lists in (depth_puts(), inner_puts(), outer_puts(), unused_puts(), flag_puts()):
+    inner = inner_puts(starter("readings made up", "innermost"), FILES)
+    for lists in (depth_puts(), inner, outer_puts(), unused_puts(), flag_puts()):
         for made in lists:
             yield made.case()
 
@@ -378,7 +379,7 @@ def random_value_cases():
                 for _ in range(rng.choice((1, 1, 2, 5, 10))):
                     made.puts(damage.random_put(rng, made.reading.value))
             for _ in range(rng.randint(2, 7)):
-                made.give(*random_event(rng, judged.meaning.schema.tags))
+                made.give(*random_event(rng, judged.value))
         yield made.case()
 
 

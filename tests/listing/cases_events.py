@@ -9,7 +9,7 @@ from .event_file import (END, closed, count_openings, document, event_at, leaves
 from .event_lists import FILES, ROUTES, random_document
 from .judged import judge
 from .listed import Listed
-from .meaning import Wrong
+from .meaning import Tree, Wrong
 from .schema_file import write
 from .tables import (BYTE, CLOSE, DONE, EVENT_BYTES, FINISH, MOST_LENGTH, MOST_LEVELS, MOST_TAGS,
                      NO_EVENT, OPEN, OUTSIDE_LIMITS, PROGRAM_TYPES)
@@ -83,7 +83,7 @@ def every_event_cases():
     """At every event of a valid file every kind of event put in, with the buffer full there or
     not."""
     for file, data in ROUTES:
-        for before, some in damage.every_event_put_in(data, judge(file).meaning.schema.tags):
+        for before, some in damage.every_event_put_in(data, judge(file).value):
             for room in (count_openings(before), PLENTY):
                 yield event_case("every event", file, some, room)
 
@@ -132,7 +132,7 @@ def no_schema_cases():
 def boots(before, after):
     """R's tree with so many boots before the sale mark and after it, and its document without
     the finish."""
-    tree = (0, ((1, ()),) * before + ((2, ()),) + ((3, ()),) * after)
+    tree = Tree(0, (Tree(1),) * before + (Tree(2),) + (Tree(3),) * after)
     return tree, document(judge(samples.R).meaning, tree)[:-1]
 
 
@@ -166,9 +166,9 @@ def most_openings():
     down, _ = nested([0], MOST_LEVELS)
     data = down + (closed(0) + opened(0)) * ((EVENT_BYTES - len(down)) // 4)
     openings = count_openings(data)
-    tree = (0, ((0, ()),) * (openings - MOST_LEVELS + 1))
+    tree = Tree(0, (Tree(0),) * (openings - MOST_LEVELS + 1))
     for _ in range(MOST_LEVELS - 2):
-        tree = (0, (tree,))
+        tree = Tree(0, (tree,))
     for some, room in ((data, PROGRAM_TYPES), (data, openings - 1),
                        (data + opened(0), PROGRAM_TYPES)):
         yield event_case("large", samples.NESTED, some, room, tree)

@@ -3,8 +3,8 @@
 The answer 20 cannot come up: events of at most 32,768 bytes have at most 16,384 openings of two
 bytes each, and the program's buffer holds 16,384 types. Nor can a byte of `schema.tab` past its
 first 16,384 matter here: without expressions commands that are not refused fill at most 8,389
-bytes, with eight ROOTs 14 more, so the refusal comes long before. cases_under_expressions has
-longer files.
+bytes, with eight ROOTs 14 more and with a NIL in each block 64 more, so the refusal comes long
+before. cases_under_expressions has longer files.
 """
 
 import random
@@ -16,7 +16,7 @@ from .event_file import END, closed, document, leaves, nested, opened, walked
 from .event_lists import random_document, walk_to_refusal
 from .judged import judge
 from .listed import Listed
-from .meaning import TooMany, Wrong
+from .meaning import TooMany, Tree, Wrong
 from .reading import Reading
 from .schema_file import without_end
 from .tables import (COMPETITION, DONE, EVENT_BYTES, FINAL, LONGEST_FILE, MOST_LENGTH, MOST_LEVELS,
@@ -167,16 +167,16 @@ def schema_size_cases():
 
 def row(file, a, count):
     """A tree of the first root type with so many children of type a, and its document."""
-    tree = (judge(file).meaning.schema.roots[0], ((a, ()),) * count)
+    tree = Tree(judge(file).meaning.schema.roots[0], (Tree(a),) * count)
     return tree, document(judge(file).meaning, tree)
 
 
 def low_row():
     """The last type in rows 62 levels down."""
     last, most = MOST_TYPES - 1, EVENT_BYTES // 4 - MOST_LEVELS
-    tree = (last, ((last, ()),) * (most + 1))
+    tree = Tree(last, (Tree(last),) * (most + 1))
     for _ in range(MOST_LEVELS - 3):
-        tree = (last, (tree,))
+        tree = Tree(last, (tree,))
     return tree, document(judge(schemas.LAST_TYPE).meaning, tree)
 
 
@@ -186,7 +186,7 @@ def event_size_cases():
     count = most // 4 - 2
     tree, data = low_row()
     yield f"events-{len(data)}-low", schemas.LAST_TYPE, data, tree
-    boots = (0, ((1, ()),) * 4000 + ((2, ()),) + ((3, ()),) * (count - 4001))
+    boots = Tree(0, (Tree(1),) * 4000 + (Tree(2),) + (Tree(3),) * (count - 4001))
     data = document(judge(r).meaning, boots)
     yield f"events-{len(data)}", r, data, boots
     tree, data = row(nest, 0, count)

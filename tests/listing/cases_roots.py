@@ -3,7 +3,7 @@ jobs (J)."""
 
 import random
 
-from . import damage, expressions, roots, schemas
+from . import damage, roots, schemas
 from .case import due_case, job_case, schema_case, value_case
 from .cases_jobs import ONE_ELEMENT
 from .cases_schema import ROOM, listed_case
@@ -120,32 +120,36 @@ def hand_cases():
     """Schemas of which every witness is known; each is a right choice and no other is."""
     by_states = [(write(schema), known) for schema, known in roots.BY_HAND]
     for file, known in by_states + roots.BY_HAND_EXPRESSIONS:
-        judged = judge(file)
-        found = witnesses(judged.meaning) if judged.number == COMPETITION else []
-        if judged.number == NO_TREE or sorted(found) != sorted(known):
-            raise Wrong(f"{known} are due, not {judged.text()} with {found}: {file.hex(' ')}")
-        check_both_ways(judged)
-        if not known:
-            yield due("by hand", file)
-            continue
-        for case in three_cases("by hand", file, LEAST_WITNESS_ROOM):
-            show_choices(case, known, wrong_choices(judged.meaning))
-            yield case
+        yield from known_cases("roots", file, known)
     for file in roots.FILES:
-        check_both_ways(judge(file))
-        yield due("by hand", file)
-        yield value_case("roots", file, [], ROOM)
+        yield from accepted_cases("roots", file)
 
 
-def three_cases(part, file, room):
-    return [schema_case(f"roots, {part}", file, room), value_case("roots", *made_up(file), room),
-            job_case("roots", file, ONE_ELEMENT)]
+def known_cases(name, file, known):
+    """The cases of a file of which every witness is known; one without any is accepted."""
+    judged = judge(file)
+    found = witnesses(judged.meaning) if judged.number == COMPETITION else []
+    if judged.number == NO_TREE or sorted(found) != sorted(known):
+        raise Wrong(f"{known} are due, not {judged.text()} with {found}: {file.hex(' ')}")
+    check_both_ways(judged)
+    if not known:
+        return [due_case(f"{name}, by hand", file, TAKEN, 0, LEAST_WITNESS_ROOM)]
+    cases = three_cases(name, "by hand", file, LEAST_WITNESS_ROOM)
+    for case in cases:
+        show_choices(case, known, wrong_choices(judged.meaning))
+    return cases
 
 
-def job_cases():
-    """The jobs by hand."""
-    return [case for case in hand_cases() if case.letter == "J"] + [
-        job_case("roots", file, data) for file, data, _ in roots.ROUTES]
+def accepted_cases(name, file):
+    """The cases of an accepted file and of its value."""
+    check_both_ways(judge(file))
+    return [due_case(f"{name}, by hand", file, TAKEN, 0, LEAST_WITNESS_ROOM),
+            value_case(name, file, [], ROOM)]
+
+
+def three_cases(name, part, file, room):
+    return [schema_case(f"{name}, {part}", file, room), value_case(name, *made_up(file), room),
+            job_case(name, file, ONE_ELEMENT)]
 
 
 def no_tree_cases():
@@ -153,7 +157,7 @@ def no_tree_cases():
     for schema in roots.TREELESS:
         if judge(write(schema)).number != NO_TREE:
             raise Wrong("a root bears a tree")
-        yield from three_cases("no tree", write(schema), ROOM)
+        yield from three_cases("roots", "no tree", write(schema), ROOM)
     for accepting in ([], [0]):
         start = without_end(write(Schema(1, [Block(0, 1, accepting)] * 2)))
         yield due("no tree", start + end_of_file(1, 0), COMPETITION if accepting else NO_TREE)
@@ -178,12 +182,15 @@ def witnesses(meaning):
 
 
 def wrong_choices(meaning):
-    """Wrong witnesses: other types as roots; where roots compete, also other numbers for A and n, a
-    word, and two types that compete in a type."""
+    """Wrong witnesses: other types as roots, or after a shortest word; where roots compete, also
+    other numbers for A and n, a word, and two types that compete in a type."""
     some = sorted({*meaning.schema.roots, *meaning.types[:6]})
     wrong = [witness_text(NO_PARENT, j, k, ()) for j in some for k in some
              if (j, k) not in meaning.competing_roots()]
     if not meaning.competing_roots():
+        a, _, _, w = meaning.first_competition()
+        wrong += [witness_text(a, j, k, w) for j in some for k in some
+                  if (j, k) not in meaning.pairs_after(a, w)]
         return wrong + wrong_witnesses(meaning)
     j, k = meaning.competing_roots()[0]
     wrong += [witness_text(a, j, k, ()) for a in (0, j, k, NO_PARENT - 1)]
@@ -203,8 +210,7 @@ def damaged_cases():
         yield from listed_case("roots, damaged", file[:start] + tail, ROOM)
     rng = random.Random("damaged files of several roots")
     for number in range(50):
-        made = (expressions.random_schema(rng, roots.BY_TEXT) if number % 4 == 0
-                else schemas.random_schema(rng, roots.SMALL))
+        made = roots.random_schema(rng, number)
         if made:
             yield from listed_case("roots, damaged", damaged(rng, *made), ROOM)
 
@@ -232,9 +238,8 @@ def random_cases():
             (NO_TREE, False): 3}
     while any(left.values()):
         number += 1
-        made = (expressions.random_schema(rng, roots.BY_TEXT) if number % 4 == 0
-                else schemas.random_schema(rng, roots.SMALL + roots.DENSE + roots.LEVELS))
-        if made is None or len(made[1].meaning.schema.roots) == 1:
+        made = roots.random_schema(rng, number, roots.SMALL + roots.DENSE + roots.LEVELS)
+        if made is None or not roots.is_wanted(made[1]):
             continue
         file, judged = made
         answer = judged.number, bool(judged.meaning.competing_roots())

@@ -90,7 +90,7 @@ def event_cases():
         for some in [*damage.every_cut(data), data]:
             yield event_case("expressions", file, some, count_openings(data))
     for file, data in ROUTES[:5]:
-        for before, some in damage.every_event_put_in(data, judge(file).meaning.schema.tags):
+        for before, some in damage.every_event_put_in(data, judge(file).value):
             yield event_case("expressions", file, some, PLENTY)
     for levels in damage.around(MOST_LEVELS):
         for file, tags in ((expressions.NESTED, [0]), (expressions.IN_TURN, [0, 1])):

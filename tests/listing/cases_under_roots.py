@@ -3,7 +3,7 @@ and jobs (J); and values made up (C, V), the roots' entries among them."""
 
 import random
 
-from . import damage, expressions, roots, schemas
+from . import damage, roots
 from .case import event_case, job_case, value_case
 from .cases_calls import starter, walked
 from .cases_events import PLENTY, checked_case
@@ -22,12 +22,17 @@ from .tables import (BYTE, COMPETITION, MOST_LEVELS, MOST_ROOTS, MOST_TYPES, NO_
 # By hand.
 
 def document_cases():
-    """Documents of each root: every call that is refused on the way, those of each root among them
-    once one was opened; event files of two documents; jobs; walks."""
-    start, rng = starter("roots"), random.Random("roots, walks")
-    for file in roots.FILES:
+    """Documents of each root; calls refused on the way open each root once one was opened."""
+    return cases_of_documents("roots", roots.FILES, roots.ROUTES)
+
+
+def cases_of_documents(kind, files, routes):
+    """Walks under these files; along documents with known types every call that is refused; event
+    files of two documents; jobs."""
+    start, rng = starter(kind), random.Random(f"{kind}, walks")
+    for file in files:
         yield walked(start(file), rng, 40).case()
-    for file, data, types in roots.ROUTES:
+    for file, data, types in routes:
         made = start(file)
         for event in calls_of(data):
             made.refused().give(*event)
@@ -35,14 +40,14 @@ def document_cases():
         if given != types or made.answers[-1] != "ok":
             raise Wrong(f"a document that is to get {types}: {made.line()}")
         yield made.refused().case()
-        yield event_case("roots", file, data[:-1] + data, PLENTY)
-        yield job_case("roots", file, data)
+        yield event_case(kind, file, data[:-1] + data, PLENTY)
+        yield job_case(kind, file, data)
 
 
 def every_event_cases():
     """At every place of a small document every kind of event."""
     file = roots.ALSO_BELOW
-    for _, some in damage.every_event_put_in(leaves(2) + END, judge(file).meaning.schema.tags):
+    for _, some in damage.every_event_put_in(leaves(2) + END, judge(file).value):
         yield event_case("roots", file, some, PLENTY)
 
 
@@ -69,39 +74,53 @@ def random_event_cases():
     """Event files, valid and damaged, each answer held to the listed documents."""
     rng = random.Random("event files under several roots")
     for number in range(10):
-        file, judged = roots.random_accepted(rng, number)
-        listed = Listed(judged.meaning)
+        yield from random_files("roots", rng, *roots.random_accepted(rng, number),
+                                damage.ROOT_DAMAGES)
+
+
+def random_files(kind, rng, file, judged, damages):
+    """Two documents, each with two event files made of it by these damages."""
+    listed = Listed(judged.meaning)
+    for _ in range(2):
+        data = random_document(rng, judged.meaning, (), (2, 6, 12, 20), 200)
+        most = count_openings(data)
+        yield checked_case(kind, file, data, most, listed)
         for _ in range(2):
-            data = random_document(rng, judged.meaning, (), (2, 6, 12, 20), 200)
-            most = count_openings(data)
-            yield checked_case("roots", file, data, most, listed)
-            for _ in range(2):
-                some = rng.choice(damage.ROOT_DAMAGES)(rng, judged, data)
-                yield checked_case("roots", file, some, rng.choice((most, most + 1)), listed)
+            some = rng.choice(damages)(rng, judged, data)
+            yield checked_case(kind, file, some, rng.choice((most, most + 1)), listed)
 
 
 def random_call_cases():
     """Walks, each answer held to the listed documents."""
     start, rng = starter("roots", "at random"), random.Random("walks under several roots")
     for number in range(16):
-        file, judged = roots.random_accepted(rng, number)
-        listed = Listed(judged.meaning)
-        yield walked(start(file), rng, rng.choice((10, 20, 40)), listed=listed).case()
+        yield random_walk(start, rng, *roots.random_accepted(rng, number))
+
+
+def random_walk(start, rng, file, judged):
+    listed = Listed(judged.meaning)
+    return walked(start(file), rng, rng.choice((10, 20, 40)), listed=listed).case()
 
 
 def random_job_cases():
     """Jobs under random schemas by states and by expressions."""
-    left, number = {TAKEN: 12, COMPETITION: 8, NO_TREE: 2}, 0
+    return random_jobs("roots", "several roots", {TAKEN: 12, COMPETITION: 8, NO_TREE: 2},
+                       roots.random_schema, roots.is_wanted, damage.ROOT_WAYS)
+
+
+def random_jobs(kind, name, left, random_schema, is_wanted, ways):
+    """Jobs under random schemas that are wanted, so many of each answer; three under an accepted
+    one, made by these ways."""
+    number = 0
     while any(left.values()):
         number += 1
-        rng = random.Random(f"several roots, jobs {number}")
-        made = (expressions.random_schema(rng, roots.BY_TEXT) if number % 4 == 0
-                else schemas.random_schema(rng, roots.SMALL))
-        if made and len(made[1].meaning.schema.roots) > 1 and left[made[1].number]:
-            cases = schema_cases(rng, *made, 3, damage.ROOT_WAYS)
+        rng = random.Random(f"{name}, jobs {number}")
+        made = random_schema(rng, number)
+        if made and is_wanted(made[1]) and left[made[1].number]:
+            cases = schema_cases(rng, *made, 3, ways)
             left[made[1].number] -= bool(cases)
             for case in cases:
-                yield case._replace(kind="J roots")
+                yield case._replace(kind=f"J {kind}")
 
 
 # Values made up.
@@ -171,14 +190,7 @@ def random_value_cases():
     start, rng = starter("roots made up", "at random"), random.Random("values of several roots")
     for number in range(16):
         file, judged = roots.random_accepted(rng, number)
-        value, puts = judged.value, []
-        if number % 2:
-            puts = damage.one_tag_puts(rng, len(judged.meaning.types))
-        for _ in range(rng.choice((1, 2, 3, 5))):
-            way = rng.choice((damage.random_root_put, damage.random_root_put,
-                              damage.random_schema_put))
-            puts.append(way(rng, value))
-            value = value.with_entry(puts[-1][0], puts[-1][2], puts[-1][1])
+        puts = random_puts(rng, judged, damage.ROOT_PUTS, number % 2)
         try:
             yield value_case("roots made up", file, puts, ROOM)
         except TooMany:
@@ -188,8 +200,20 @@ def random_value_cases():
             made.puts(("depth", 0), ("rooted", 0), ("finished", 0))
             made.give(OPEN, rng.randrange(judged.meaning.schema.tags))
             for _ in range(rng.randint(1, 4)):
-                made.give(*random_event(rng, judged.meaning.schema.tags))
+                made.give(*random_event(rng, judged.value))
         yield made.case()
+
+
+def random_puts(rng, judged, ways, one_tag):
+    """One to five puts made by these ways; before them, if that is asked for, most types get one
+    tag."""
+    value, puts = judged.value, []
+    if one_tag:
+        puts = damage.one_tag_puts(rng, len(judged.meaning.types))
+    for _ in range(rng.choice((1, 2, 3, 5))):
+        puts.append(rng.choice(ways)(rng, value))
+        value = value.with_entry(puts[-1][0], puts[-1][2], puts[-1][1])
+    return puts
 
 
 CASES = (document_cases, every_event_cases, level_cases, first_event_cases, random_event_cases,

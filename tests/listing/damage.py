@@ -4,14 +4,15 @@ from .event_file import calls_of, event_bytes, events_of
 from .event_lists import every_event, random_event, walk_to_refusal
 from .reading import Reading, Taken
 from .schema_file import commands_of, operand_count
-from .tables import (BYTE, CLOSE, DONE, EVENTS, FIELDS, FINISH, IN_BLOCK, MOST_LEVELS, MOST_ROOTS,
-                     MOST_STATES, MOST_STEPS, MOST_TAGS, MOST_TYPES, OPEN, ROOT, STATE_COMMANDS,
-                     STEP, TAGS, TYPE, WORD)
+from .tables import (BYTE, CLOSE, DONE, FIELDS, FINISH, IN_BLOCK, KINDS, MOST_LEVELS, MOST_ROOTS,
+                     MOST_STATES, MOST_STEPS, MOST_TAGS, MOST_TYPES, OPEN, PLAIN_EVENTS, ROOT,
+                     STATE_COMMANDS, STEP, TAGS, TYPE, WORD)
 
 # Bytes at which something begins or ends.
 EDGES = sorted({0, 1, 2, 3, 4, 5, MOST_STATES - 1, MOST_STATES, MOST_STATES + 1, MOST_TAGS,
                 MOST_TYPES - 1, MOST_TYPES, BYTE})
 COMMAND_BYTES = sorted(STATE_COMMANDS)
+# Bytes that are no event of a document without nil elements.
 NO_EVENTS = (0, 1, ord("\n"), OPEN - 1, CLOSE + 1, FINISH - 1, FINISH + 1, BYTE)
 
 
@@ -177,6 +178,11 @@ def random_commands(rng, operands):
 
 # Event files: each way takes a document of the schema.
 
+def events_under(judged):
+    """The events that documents of the schema may have."""
+    return [*PLAIN_EVENTS, *judged.value.kinds()[1:]]
+
+
 def whole(rng, judged, doc):
     return doc
 
@@ -186,19 +192,20 @@ def prefix(rng, judged, doc):
 
 
 def one_byte_changed(rng, judged, doc):
-    value = rng.choice([*EVENTS, 0, 1, judged.value.held["tags"], rng.randrange(BYTE + 1)])
+    value = rng.choice([*events_under(judged), 0, 1, judged.value.held["tags"],
+                        rng.randrange(BYTE + 1)])
     return byte_put(doc, rng.randrange(len(doc)), value)
 
 
 def one_event_changed(rng, judged, doc):
     events = events_of(doc)
-    new = event_bytes(*random_event(rng, judged.value.held["tags"]))
+    new = event_bytes(*random_event(rng, judged.value))
     return b"".join(parts_put(events, rng.randrange(len(events)), [new]))
 
 
 def one_event_added(rng, judged, doc):
     return event_put_in(doc, rng.randrange(count_of(doc) + 1),
-                        event_bytes(*random_event(rng, judged.value.held["tags"])))
+                        event_bytes(*random_event(rng, judged.value)))
 
 
 def one_tag_changed(rng, judged, doc):
@@ -221,10 +228,10 @@ def event_put_in(doc, place, event):
     return b"".join(events[:place] + [event] + events[place:])
 
 
-def every_event_put_in(doc, tags):
+def every_event_put_in(doc, value):
     """Every kind of event put in at every place: the document before it, and the whole."""
     for place in range(count_of(doc) + 1):
-        for event in every_event(tags):
+        for event in every_event(value):
             before = b"".join(events_of(doc)[:place])
             yield before, event_put_in(doc, place, event_bytes(*event))
 
@@ -232,20 +239,20 @@ def every_event_put_in(doc, tags):
 def element_left_out_or_doubled(rng, judged, doc):
     """One element below the root left out or given twice."""
     events = events_of(doc)
-    starts = [i for i, event in enumerate(events) if event[0] == OPEN][1:]
+    starts = [i for i, event in enumerate(events) if event[0] in KINDS][1:]
     if not starts:
         return doc
     start = end = rng.choice(starts)
     depth = 1
     while depth:
         end += 1
-        depth += 1 if events[end][0] == OPEN else -1
+        depth += 1 if events[end][0] in KINDS else -1
     element = events[start:end + 1]
     return b"".join(events[:start] + rng.choice([[], element * 2]) + events[end + 1:])
 
 
 def after_finish(rng, judged, doc):
-    tail = [event_bytes(*random_event(rng, judged.value.held["tags"])), bytes([OPEN]),
+    tail = [event_bytes(*random_event(rng, judged.value)), bytes([OPEN]),
             bytes([rng.randrange(BYTE + 1)])]
     return doc + rng.choice(tail)
 
@@ -299,7 +306,7 @@ def wrong_closing(rng, judged, doc):
 
 
 def any_bytes(rng, judged, doc):
-    values = [OPEN, *EVENTS, *range(judged.value.held["tags"])]
+    values = [OPEN, *events_under(judged), *range(judged.value.held["tags"])]
     return random_bytes(rng, values, 12)
 
 
@@ -318,6 +325,27 @@ EVENT_DAMAGES = [prefix, one_byte_changed, one_event_changed, one_event_added, o
 WAYS = [whole, whole, whole, *EVENT_DAMAGES]
 ROOT_DAMAGES = [root_of_any_tag, *EVENT_DAMAGES]
 ROOT_WAYS = [whole, whole, *ROOT_DAMAGES]
+
+
+def kind_changed(rng, judged, doc):
+    """An opening of the other kind."""
+    events = events_of(doc)
+    at = rng.choice([i for i, event in enumerate(events) if event[0] in KINDS])
+    [kind] = set(KINDS) - {events[at][0]}
+    return b"".join(parts_put(events, at, [event_bytes(kind, events[at][1])]))
+
+
+def put_in_nil(rng, judged, doc):
+    """An element, or its opening alone, put into a nil element; into any where none is nil."""
+    events = events_of(doc)
+    of_kind = [[i for i, event in enumerate(events) if event[0] == kind] for kind in KINDS]
+    tag, place = rng.randrange(judged.value.held["tags"]), rng.choice(of_kind[1] or of_kind[0])
+    new = event_bytes(rng.choice(KINDS), tag) + rng.choice((b"", event_bytes(CLOSE, tag)))
+    return event_put_in(doc, place + 1, new)
+
+
+NIL_DAMAGES = [*[kind_changed] * 3, *[put_in_nil] * 2, *ROOT_DAMAGES]
+NIL_WAYS = [*[whole] * 3, *NIL_DAMAGES]
 
 
 # Values: puts (field, number, index).
@@ -414,6 +442,16 @@ def random_root_put(rng, value):
         return "roots", rng.choice((0, MOST_ROOTS + 1)) if wild else rng.randint(1, MOST_ROOTS), 0
     types = max(1, min(value.held["types"], MOST_TYPES))
     return "root", types if wild else rng.randrange(types), rng.randrange(MOST_ROOTS)
+
+
+def random_nil_put(rng, value):
+    """A random type nillable or not; sometimes one that is not used."""
+    types = max(1, min(value.held["types"], MOST_TYPES))
+    return "nillable", rng.choice((0, 1, 1, BYTE)), rng.choice((*range(types), types))
+
+
+ROOT_PUTS = (random_root_put, random_root_put, random_schema_put)
+NIL_PUTS = (random_nil_put, random_nil_put, random_nil_put, random_root_put, random_schema_put)
 
 
 def random_step(rng, held, types):

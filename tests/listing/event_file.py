@@ -6,7 +6,8 @@ from itertools import accumulate
 from .judged import judge
 from .meaning import Wrong, typed_stream
 from .reading import Reading
-from .tables import CLOSE, EVENTS, FINISH, LAST_QUESTIONS, MOST_LEVELS, NO_EVENT, OPEN, TAKEN
+from .tables import (CLOSE, EVENTS, FINISH, KINDS, LAST_QUESTIONS, MOST_LEVELS, NO_EVENT, OPEN,
+                     OPEN_NIL, TAKEN)
 
 
 def event_at(data, at):
@@ -23,17 +24,17 @@ def event_bytes(event, tag):
 END = event_bytes(FINISH, 0)
 
 
-def opened(*tags):
-    return b"".join(event_bytes(OPEN, tag) for tag in tags)
+def opened(*tags, kind=OPEN):
+    return b"".join(event_bytes(kind, tag) for tag in tags)
 
 
 def closed(*tags):
     return b"".join(event_bytes(CLOSE, tag) for tag in tags)
 
 
-def leaves(*tags):
+def leaves(*tags, kind=OPEN):
     """Elements without children."""
-    return b"".join(opened(tag) + closed(tag) for tag in tags)
+    return b"".join(opened(tag, kind=kind) + closed(tag) for tag in tags)
 
 
 def nested(tags, levels):
@@ -44,9 +45,15 @@ def nested(tags, levels):
 
 
 def route(words):
-    """An event list from words: a tag opened, a tag closed after a slash, f for the finish."""
-    return b"".join(END if word == "f" else closed(int(word[1:])) if word[0] == "/"
-                    else opened(int(word)) for word in words.split())
+    """An event list from words: a tag opened, as nil after an n; a tag closed after a slash; f for
+    the finish."""
+    marks = {"n": OPEN_NIL, "/": CLOSE}
+    return b"".join(END if word == "f" else event_bytes(marks.get(word[0], OPEN), tag_in(word))
+                    for word in words.split())
+
+
+def tag_in(word):
+    return int(word.lstrip("n/"))
 
 
 def events_of(data):
@@ -65,25 +72,23 @@ def calls_of(data):
 
 
 def count_openings(data):
-    return sum(event[0] == OPEN for event in events_of(data))
+    return sum(event[0] in KINDS for event in events_of(data))
 
 
 def document(meaning, tree):
     """The bytes of the tree's document."""
-    out = bytearray()
-    for opening, tag, _ in typed_stream(meaning, tree):
-        out += event_bytes(OPEN if opening else CLOSE, tag)
-    return bytes(out) + END
+    stream = typed_stream(meaning, tree)
+    return b"".join(event_bytes(event, tag) for event, tag, _ in stream) + END
 
 
 def known_events(meaning, tree):
     """The tree's events with their types, the last first, after a look at its typing and its
     levels."""
     stream = typed_stream(meaning, tree)
-    levels = accumulate(1 if opening else -1 for opening, _, _ in stream)
+    levels = accumulate(-1 if event == CLOSE else 1 for event, _, _ in stream)
     if not meaning.is_typing(tree) or max(levels) > MOST_LEVELS:
         raise Wrong("a tree that is said to be valid and is not")
-    return [(OPEN if opening else CLOSE, tag, a) for opening, tag, a in reversed(stream)]
+    return stream[::-1]
 
 
 class Walk:
@@ -123,7 +128,7 @@ class Walk:
             a = self.reading.document.take(*self.known.pop())
         else:
             a = self.reading.take(event, tag)
-        if event == OPEN:
+        if event in KINDS:
             self.openings.append((self.reading.depth(), tag, a))
         self.place += len(event_bytes(event, tag))
 

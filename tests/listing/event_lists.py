@@ -2,7 +2,8 @@
 
 from . import samples, schemas
 from .event_file import document, event_bytes, route
-from .tables import BYTE, CLOSE, EVENTS, FINISH, OPEN
+from .meaning import Tree
+from .tables import BYTE, CLOSE, EVENTS, FINISH, OPEN, OPEN_NIL
 
 # Accepted schemas with a valid document each.
 ROUTES = [(file, route(words)) for file, words in (
@@ -27,6 +28,8 @@ FILES = list(dict.fromkeys(file for file, _ in ROUTES))
 def random_tree(rng, meaning, a, elements, levels):
     """A random tree typed with a at its root. After about so many elements or levels each word
     is ended and each missing element gets a small tree."""
+    if random_kind(rng, meaning, a) == OPEN_NIL:
+        return meaning.borne_by[OPEN_NIL][a]
     word, children = (), []
     while elements > 1 and levels > 1:
         types = meaning.next_types(a, word)
@@ -35,10 +38,17 @@ def random_tree(rng, meaning, a, elements, levels):
         j = rng.choice(types)
         child = random_tree(rng, meaning, j, elements // 2, levels - 1)
         word, children = word + (j,), children + [child]
-        elements -= 1 + len(child[1])
+        elements -= 1 + len(child.children)
     if not meaning.is_word(a, word):
         children += [meaning.borne[j] for j in meaning.completion(a, word)]
-    return (a, tuple(children))
+    return Tree(a, tuple(children))
+
+
+def random_kind(rng, meaning, a):
+    """A kind of which type a bears a tree, more often a plain one; nothing is drawn where there is
+    only one."""
+    kinds = meaning.kinds_of(a)
+    return rng.choice((*kinds, OPEN)) if len(kinds) > 1 else kinds[0]
 
 
 def random_root(rng, meaning):
@@ -62,26 +72,33 @@ def random_document(rng, meaning, trees=(), sizes=(2, 4, 8, 16), most=100):
 
 # Walks.
 
-def random_event(rng, tags):
-    """Any event; its tag is sometimes out of range."""
+def random_event(rng, value):
+    """Any event under this schema value; its tag is sometimes out of range. Where no type is
+    nillable nothing opens as nil."""
+    tags, kinds = value.held["tags"], value.kinds()
     event = rng.choice((OPEN, OPEN, OPEN, CLOSE, CLOSE, CLOSE, FINISH))
     tag = rng.randrange(tags) if rng.random() < 0.9 else rng.choice((tags, BYTE))
+    if event == OPEN and len(kinds) > 1:
+        event = rng.choice(kinds)
     return event, tag if EVENTS[event] else 0
 
 
-def every_event(tags):
-    """Every kind of event with the tags below the count, the count and 255."""
+def every_event(value):
+    """Every kind of event with the tags below the count of this schema value, the count and 255.
+    Where no type is nillable nothing opens as nil."""
+    tags = value.held["tags"]
     for tag in [*range(tags), tags, BYTE]:
-        yield OPEN, tag
-        yield CLOSE, tag
+        for event in (*value.kinds(), CLOSE):
+            yield event, tag
     yield FINISH, 0
 
 
 def next_event(rng, reading, deep):
     """An event that is taken here, or None. Where an element can be closed, another is opened
     with the chance `deep`, in the root nearly always."""
-    openings = [(OPEN, tag) for tag in range(reading.tags())
-                if reading.refusal(OPEN, tag) is None]
+    value = reading.schema_value()
+    openings = [(kind, tag) for kind in value.kinds() for tag in range(value.held["tags"])
+                if reading.refusal(kind, tag) is None]
     inner = reading.innermost_tag()
     closing = inner is not None and reading.refusal(CLOSE, inner) is None
     chance = deep if reading.depth() > 1 else 0.95
@@ -97,7 +114,7 @@ def stray_event(rng, reading):
     inner = reading.innermost_tag()
     if inner is not None and rng.random() < 0.15:
         return CLOSE, inner
-    return random_event(rng, reading.tags())
+    return random_event(rng, reading.schema_value())
 
 
 def walk(rng, reading, events, stray, deep):
@@ -107,7 +124,7 @@ def walk(rng, reading, events, stray, deep):
     for _ in range(events):
         if reading.is_finished():
             for _ in range(3):
-                yield random_event(rng, reading.tags())
+                yield random_event(rng, reading.schema_value())
             return
         event = None if rng.random() < stray else next_event(rng, reading, deep)
         if event is not None:
@@ -125,7 +142,8 @@ def walk_to_refusal(rng, reading, events, stray):
     for event in walk(rng, reading, events, stray, rng.choice((0.3, 0.5, 0.7))):
         out += event_bytes(*event)
         if reading.refusal(*event) is not None:
-            return out + event_bytes(*random_event(rng, reading.tags())) * rng.randrange(3)
+            more = event_bytes(*random_event(rng, reading.schema_value()))
+            return out + more * rng.randrange(3)
         reading.take(*event)
         if reading.is_finished() and rng.random() < 0.8:
             break

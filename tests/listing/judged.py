@@ -4,8 +4,8 @@ from functools import lru_cache
 
 from . import schema_file
 from .meaning import Meaning, Wrong
-from .tables import (COMPETITION, LEAST_WITNESS_ROOM, MOST_STATES, MOST_TYPES, NO_PARENT,
-                     OUTSIDE_LIMITS, SHORT_WITNESS_ROOM, TAKEN)
+from .tables import (COMPETITION, KINDS, LEAST_WITNESS_ROOM, MOST_STATES, MOST_TYPES, NO_PARENT,
+                     OPEN, OPEN_NIL, OUTSIDE_LIMITS, SHORT_WITNESS_ROOM, TAKEN)
 from .value import SchemaValue, as_set
 
 
@@ -69,7 +69,8 @@ def value_line(value, room):
     meaning = value.meaning
     types = range(min(value.held["types"], MOST_TYPES))
     live = [as_set(meaning.live(a)) if meaning else 0 for a in types]
-    bears = sorted(meaning.borne) if meaning else []
+    bears = [part for a in sorted(meaning.borne) for part in (a, *kind_words(meaning, a))] \
+        if meaning else []
     reached = sorted(meaning.reached()) if meaning else []
     rows = rows_text(meaning) if meaning else "rows"
     search, judgement = value_answers(meaning, room)
@@ -82,21 +83,30 @@ def value_line(value, room):
     return line, (f"search {search}", f"judge {judgement}")
 
 
+KIND_WORDS = {(OPEN,): (), (OPEN_NIL,): ("nil",), KINDS: ("both",)}
+
+
+def kind_words(meaning, a):
+    """A word for the kinds of the trees that a type bears, where one is nil."""
+    return KIND_WORDS[meaning.kinds_of(a)]
+
+
 def rows_text(meaning):
     """The rows that have an entry: the number of each, and of each step that counts, in the order
-    of the steps, its states, its type and the type's tag."""
+    of the steps, its states, its type, the type's tag and the word for the kinds of its trees."""
     text = "rows"
     for a, block in enumerate(meaning.schema.blocks):
         live = meaning.live(a)
         counting = [(p, q, j) for p, j, q in block.steps if j in meaning.borne and q in live]
         for p in sorted({p for p, _, _ in counting}):
-            row = [(p, q, j, meaning.tag(j)) for from_, q, j in counting if from_ == p]
-            text += listed(f" row {a * MOST_STATES + p}", sum(row, ()), "")
+            row = [entry for from_, q, j in counting if from_ == p
+                   for entry in (p, q, j, meaning.tag(j), *kind_words(meaning, j))]
+            text += listed(f" row {a * MOST_STATES + p}", row, "")
     return text
 
 
-def listed(name, numbers, none):
-    return name + ("".join(f" {number}" for number in numbers) or none)
+def listed(name, entries, none):
+    return name + ("".join(f" {entry}" for entry in entries) or none)
 
 
 def value_answers(meaning, room):

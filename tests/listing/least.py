@@ -1,7 +1,7 @@
 """How often each kind of case must have each answer at the least, written as documents.py counts;
-`lent` is a lent call that was taken."""
+`lent` is a lent call that was taken, `nil` a nil opening."""
 
-TOTALS = {"S": 8950, "C": 1480, "E": 13200, "J": 28390, "V": 1080, "P": 1024, "Q": 300}
+TOTALS = {"S": 9370, "C": 1620, "E": 13420, "J": 28530, "V": 1280, "P": 1024, "Q": 300}
 
 LEAST = {
     "S samples": "3 0, 1 2, 1 4, 1 8, 1 9, 6 cases",
@@ -43,6 +43,18 @@ LEAST = {
     "S roots, buffers": "4 1, 1 8, 1 9, 6 cases",
     "S roots, damaged": "2 0, 6 2, 4 3, 15 4, 10 6, 1 8, 3 9, 45 cases",
     "S roots, random": "14 0, 3 8, 22 9, 39 cases",
+    "S nil, places": "31 0, 37 3, 68 cases",
+    "S nil, twice": "32 0, 35 6, 67 cases",
+    "S nil, after": "8 0, 26 2, 25 3, 5 4, 64 cases",
+    "S nil, inside": "2 0, 2 2, 15 3, 3 6, 22 cases",
+    "S nil, first number": "4 2, 5 3, 5 6, 1 7, 15 cases",
+    "S nil, limits": "4 0, 1 5, 4 6, 9 cases",
+    "S nil, by hand": "40 0, 36 9, 76 cases",
+    "S nil, long": "1 0, 1 9, 2 cases",
+    "S nil, no tree": "5 0, 5 8, 10 cases",
+    "S nil, buffers": "4 1, 1 8, 1 9, 6 cases",
+    "S nil, damaged": "5 0, 11 2, 9 3, 10 4, 9 6, 1 7, 1 8, 1 9, 1 21, 51 cases",
+    "S nil, random": "24 0, 3 8, 24 9, 51 cases",
     "C samples": "2 13, 1 14, 1 17, 68 lent, 3 lent refused, 14 ok, 46 type, 5 cases",
     "C no schema": "9 10, 2 18, 1 lent, 4 lent refused, 3 ok, 2 type, 2 cases",
     "C every refusal":
@@ -81,6 +93,12 @@ LEAST = {
     "C roots made up":
         "69 10, 8 12, 193 13, 81 15, 12 16, 2 17, 22 18, 94 lent, 214 lent refused, 102 ok, 99 "
         "type, 36 cases",
+    "C nil":
+        "9 10, 381 11, 708 12, 853 13, 10 14, 157 15, 267 16, 26 17, 111 18, 250 lent, 1275 lent "
+        "refused, 63 nil, 791 nil refused, 201 ok, 279 type, 57 cases",
+    "C nil made up":
+        "349 10, 13 11, 19 12, 131 13, 40 15, 40 16, 26 17, 32 18, 80 lent, 314 lent refused, 32 "
+        "nil, 180 nil refused, 76 ok, 77 type, 36 cases",
     "E samples": "3 0, 1 11, 1 13, 1 14, 1 17, 2 19, 1 20, 8 cases",
     "E cut": "7 0, 123 19, 129 cases",
     "E buffers": "46 0, 46 11, 46 12, 46 19, 116 20, 298 cases",
@@ -101,6 +119,7 @@ LEAST = {
         "83 0, 4 10, 38 11, 166 12, 158 13, 2 14, 28 15, 118 16, 22 17, 47 18, 139 19, 66 20, 873 "
         "cases",
     "E roots": "15 0, 7 11, 11 12, 22 13, 1 14, 7 15, 3 16, 2 17, 2 18, 10 19, 1 20, 85 cases",
+    "E nil": "33 0, 2 10, 9 11, 20 12, 39 13, 3 14, 5 15, 1 16, 2 17, 4 18, 21 19, 7 20, 151 cases",
     "J samples": "4 0, 1 2, 1 4, 1 8, 1 9, 2 13, 1 14, 2 17, 10 cases",
     "J random":
         "2819 0, 170 8, 280 9, 595 11, 844 12, 1466 13, 763 15, 733 16, 1063 17, 1117 18, 2363 "
@@ -116,6 +135,7 @@ LEAST = {
         "102 0, 8 2, 10 8, 21 9, 16 11, 31 12, 63 13, 1 14, 25 15, 30 16, 29 17, 30 18, 89 19, "
         "453 cases",
     "J roots": "16 0, 4 8, 21 9, 1 11, 5 12, 10 13, 1 15, 1 16, 1 18, 3 19, 68 cases",
+    "J nil": "29 0, 4 8, 25 9, 1 11, 1 12, 14 13, 1 14, 3 15, 3 16, 3 17, 2 18, 6 19, 96 cases",
     "V samples":
         "7 judge 0, 13 judge 1, 4 judge 10, 1 judge 8, 2 judge 9, 8 search 0, 13 search 1, 4 "
         "search 10, 2 search 9, 27 cases",
@@ -137,6 +157,12 @@ LEAST = {
         "cases",
     "V roots made up":
         "31 judge 0, 13 judge 10, 1 judge 8, 7 judge 9, 31 search 0, 13 search 10, 7 search 9, 52 "
+        "cases",
+    "V nil":
+        "28 judge 0, 2 judge 1, 3 judge 8, 28 judge 9, 31 search 0, 2 search 1, 28 search 9, 62 "
+        "cases",
+    "V nil made up":
+        "32 judge 0, 1 judge 10, 1 judge 8, 30 judge 9, 33 search 0, 1 search 10, 30 search 9, 64 "
         "cases",
     "P pairs": "512 inside, 16 outside, 528 cases",
     "Q sets":

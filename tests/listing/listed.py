@@ -1,23 +1,24 @@
 """The beside-check: an accepted schema's documents, listed up to some size, against the answers.
 
-One way for every schema: no two listed documents agree through an opening, the first among them,
-and differ in its type, and no event that leads on in one is refused. For schemas of finitely many
-trees, if not too many, the list is whole and answers are held to it both ways; so are those to
-schema files in `check_both_ways`.
+One way for every schema: no two listed documents agree through an opening, also in its kind and
+also if it is the first, and differ in its type, and no event that leads on in one is refused. For
+schemas of finitely many trees, if not too many, the list is whole and answers are held to it both
+ways; so are those to schema files in `check_both_ways`.
 """
 
 from .event_file import event_at, event_bytes, events_of
 from .meaning import Wrong, listed_trees, typed_stream
-from .tables import CLOSE, COMPETITION, FINISH, NO_ROOM, OPEN
+from .tables import COMPETITION, FINISH, KINDS, NO_ROOM
 
 
 def check_both_ways(judged):
     """Compare a schema file's answer with the documents: some is listed with each root that bears a
-    tree, and none with another; no two differ under an accepted schema, two do under a competing
-    one; as far as they are listed."""
+    tree, of each kind that it bears, and none with another; no two differ under an accepted schema,
+    two do under a competing one; as far as they are listed."""
     meaning = judged.meaning
     trees, complete = listed_trees(meaning)
-    found, bearing = {tree[0] for tree in trees}, set(meaning.bearing_roots())
+    found = {(tree.type, tree.kind) for tree in trees}
+    bearing = {(root, kind) for kind in KINDS for root in meaning.bearing_roots(kind)}
     if not found <= bearing or (complete and found != bearing):
         raise Wrong("other roots bear a tree than documents have")
     if two_differ(meaning, trees) != (judged.number == COMPETITION) and (
@@ -30,8 +31,8 @@ def two_differ(meaning, trees):
     types = {}
     for tree in trees:
         taken = b""
-        for opening, tag, a in typed_stream(meaning, tree):
-            taken += event_bytes(OPEN if opening else CLOSE, tag)
+        for event, tag, a in typed_stream(meaning, tree):
+            taken += event_bytes(event, tag)
             if types.setdefault(taken, a) != a:
                 return True
     return False
@@ -51,8 +52,8 @@ class Listed:
         """Enters a document; it may not agree through an opening with one that differs in its
         type."""
         taken = b""
-        for opening, tag, a in typed_stream(meaning, tree):
-            taken += event_bytes(OPEN if opening else CLOSE, tag)
+        for event, tag, a in typed_stream(meaning, tree):
+            taken += event_bytes(event, tag)
             if self.beginnings.setdefault(taken, a) != a:
                 raise Wrong("two listed documents differ under an accepted schema")
         self.beginnings[taken + event_bytes(FINISH, 0)] = None
@@ -65,7 +66,7 @@ class Listed:
         event, given, taken = event_at(events, place), iter(walk.openings), b""
         for one in events_of(events[:place]):
             taken += one
-            if one[0] == OPEN:
+            if one[0] in KINDS:
                 self.check_type(taken, next(given)[-1])
         if number and number != NO_ROOM and event:
             self.check_refused(events[:place], *event)

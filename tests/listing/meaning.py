@@ -1,17 +1,23 @@
 """Trees, words and competition, decided by listing.
 
-A typed tree is (type, (child, child, ..)). Three facts make the listings whole.
+An element is opened plainly or as nil; its kind is the event that opens it, and a tree's kind that
+of its root. A nil element has a nillable type and no children. A type bears a tree if it bears one
+of either kind; where one kind alone is meant it is named. Three facts make the listings whole.
 
- 1. A type that bears a tree of h levels has a word over types that bear trees of fewer levels. So
-    building trees of one level, then of two and so on comes to every type that bears one. And
-    where some word leads from a state to another, a path without any state twice reads one (leave
-    out what lies between), so a search that comes to each state once finds it.
+ 1. A type that bears a plain tree of h levels has a word over types that bear trees, of either
+    kind, of fewer levels. So building trees of one level, then of two and so on comes to every type
+    that bears one; the nil ones are there from the beginning. And where some word leads from a
+    state to another, a path without any state twice reads one (leave out what lies between), so a
+    search that comes to each state once finds it.
  2. A type stands in a word of A over tree-bearing types exactly if a step by it leads from a state
     that such types come to from 0 to one from which they come to an accepting state.
  3. How a beginning of a word can go on depends on the states in which its paths end, and on
     nothing else. So of beginnings whose paths end in the same states one is listed, a shortest:
     two types compete after it if they do after any of the others. And the first listed after which
     two compete is a shortest of all after which two do.
+
+Two types of one tag that may follow a beginning compete if both bear a tree of one kind: then the
+same event opens the one and the other. Where they share no kind, no event opens both.
 
 The listing of 3 can grow beyond reason: `Meaning` counts the beginnings that it lists and raises
 TooMany above a limit, and a schema that does so is never made a case. The listings of whole trees,
@@ -20,9 +26,11 @@ which are compared with the answers beside that, end at a limit too.
 
 from functools import lru_cache
 from itertools import islice, product
+from typing import NamedTuple
 
-from .tables import (MOST_BEGINNINGS, MOST_ELEMENTS, MOST_FORESTS, MOST_LAYER, MOST_LISTED_TREES,
-                     MOST_OF_A_LENGTH, MOST_TREES, MOST_WORD, NO_PARENT, SCHEMA_QUESTIONS, TAKEN)
+from .tables import (CLOSE, KINDS, MOST_BEGINNINGS, MOST_ELEMENTS, MOST_FORESTS, MOST_LAYER,
+                     MOST_LISTED_TREES, MOST_OF_A_LENGTH, MOST_TREES, MOST_WORD, NO_PARENT, OPEN,
+                     OPEN_NIL, SCHEMA_QUESTIONS, TAKEN)
 
 
 class TooMany(Exception):
@@ -31,6 +39,14 @@ class TooMany(Exception):
 
 class Wrong(Exception):
     """The model contradicts itself, or is handed a wrong choice."""
+
+
+class Tree(NamedTuple):
+    """A typed tree: the type of its root element, the trees below it, and the root's kind."""
+
+    type: int
+    children: tuple = ()
+    kind: int = OPEN
 
 
 class Meaning:
@@ -42,7 +58,8 @@ class Meaning:
         self.steps = [steps_by_type(block) for block in schema.blocks]
         self.leaving = [steps_by_state(block) for block in schema.blocks]
         self.accepting = [frozenset(block.accepting) for block in schema.blocks]
-        self.borne = self.trees_by_levels()
+        self.borne_by = self.trees_by_levels()
+        self.borne = self.borne_by[OPEN_NIL] | self.borne_by[OPEN]
         for name in ("ending", "live", "is_word", "completion", "next_types", "types_in_words",
                      "bearing_roots", "first_competition", "trees", "forests"):
             setattr(self, name, lru_cache(None)(getattr(self, name)))
@@ -87,31 +104,50 @@ class Meaning:
     # Trees.
 
     def trees_by_levels(self):
-        """A tree for each type that bears one (fact 1)."""
-        built = {}
+        """For each kind, a tree of each type that bears one (fact 1)."""
+        plain, nil = {}, {a: Tree(a, (), OPEN_NIL) for a in self.types if self.is_nillable(a)}
         while True:
-            new = {}
+            built, new = nil | plain, {}
             for a in self.types:
-                word = None if a in built else self.word_over(a, 0, built)
+                word = None if a in plain else self.word_over(a, 0, built)
                 if word is not None:
-                    new[a] = (a, tuple(built[j] for j in word))
+                    new[a] = Tree(a, tuple(built[j] for j in word))
             if not new:
-                return built
-            built.update(new)
+                return {OPEN: plain, OPEN_NIL: nil}
+            plain |= new
+
+    def is_nillable(self, a):
+        return self.schema.blocks[a].nillable
+
+    def kinds_of(self, *types):
+        """The kinds of which each of these types bears a tree."""
+        return tuple(kind for kind in KINDS if all(a in self.borne_by[kind] for a in types))
 
     def is_typing(self, tree):
-        """Is the typed tree's root of a root type, and do the children's types of each element
-        form a word of its automaton?"""
+        """Is the typed tree's root of a root type, and may each element have its children?"""
         elements = [tree]
-        for a, children in elements:
-            if not self.is_word(a, tuple(child[0] for child in children)):
+        for a, children, kind in elements:
+            if not self.is_content(kind, a, tuple(child.type for child in children)):
                 return False
             elements.extend(children)
-        return tree[0] in self.schema.roots
+        return tree.type in self.schema.roots
+
+    def is_content(self, kind, a, word):
+        """May an element of this kind and of type a have children of these types? They form a word
+        of its automaton; of a nil element no word is asked: its type is nillable, and it has
+        none."""
+        if kind == OPEN_NIL:
+            return self.is_nillable(a) and not word
+        return self.is_word(a, word)
 
     def trees(self, a, size):
         """All trees of so many elements typed with a at their root."""
-        return [(a, children) for children in self.forests(a, 0, size - 1)]
+        plain = [Tree(a, children) for children in self.forests(a, 0, size - 1)]
+        return plain + self.nil_trees(a) if size == 1 else plain
+
+    def nil_trees(self, a):
+        """The nil tree of type a, if it bears one."""
+        return [self.borne_by[OPEN_NIL][a]] if self.is_nillable(a) else []
 
     def forests(self, a, p, size):
         """All children, of so many elements in all, that lead from state p to an accepting
@@ -194,9 +230,10 @@ class Meaning:
 
     # Reached types and competition.
 
-    def bearing_roots(self):
-        """The root types that bear a tree, the smallest first."""
-        return sorted(self.borne.keys() & set(self.schema.roots))
+    def bearing_roots(self, kind=None):
+        """The root types that bear a tree, of this kind if one is given, the smallest first."""
+        borne = self.borne_by.get(kind, self.borne)
+        return sorted(borne.keys() & set(self.schema.roots))
 
     def reached(self):
         """The reached types; each but the roots with the type and the beginning after which it
@@ -211,15 +248,18 @@ class Meaning:
         return found
 
     def pairs_after(self, a, w):
-        """The pairs J < K of one tag that compete in a after w."""
-        return self.pairs_of_one_tag(self.next_types(a, w))
+        """The pairs J < K that compete in a after w."""
+        return self.pairs_opened_alike(self.next_types(a, w))
 
     def competing_roots(self):
         """The pairs J < K of root types that compete."""
-        return self.pairs_of_one_tag(self.bearing_roots())
+        return self.pairs_opened_alike(self.bearing_roots())
 
-    def pairs_of_one_tag(self, types):
-        return [(j, k) for j in types for k in types if j < k and self.tag(j) == self.tag(k)]
+    def pairs_opened_alike(self, types):
+        """The pairs J < K of these types of which one event may open either: they have one tag and
+        share a kind."""
+        return [(j, k) for j in types for k in types
+                if j < k and self.tag(j) == self.tag(k) and self.kinds_of(j, k)]
 
     def competition(self, a):
         """Two types that compete in a and a shortest beginning after which two do, or None: each
@@ -238,7 +278,7 @@ class Meaning:
         do; None if there is none."""
         of_roots = self.competing_roots()
         for j, k in of_roots:
-            self.show_two_documents(self.borne[j], self.borne[k])
+            self.show_documents(j, k, lambda tree: tree)
         if of_roots:
             return (NO_PARENT, *of_roots[0], ())
         reached = self.reached()
@@ -246,8 +286,7 @@ class Meaning:
             found = self.competition(a)
             if found:
                 j, k, w = found
-                self.show_two_documents(*(self.document_tree(reached, a, w + (i,))
-                                          for i in (j, k)))
+                self.show_documents(j, k, lambda tree: self.document_tree(reached, a, w, tree))
                 self.show_shortest(a, w)
                 return (a, *found)
         return None
@@ -262,12 +301,15 @@ class Meaning:
                 raise Wrong("too many beginnings to confirm a witness")
         return any((j, k) in self.pairs_after(a, w) for w in layer)
 
-    def show_two_documents(self, one, other):
-        """Demand 3's two documents for a competition, given as trees, are looked at. Where no root
-        bears a tree there is no document, and nothing competes."""
-        if not (self.is_typing(one) and self.is_typing(other)
-                and agree_and_differ(self, one, other)):
-            raise Wrong("a competition without two such documents")
+    def show_documents(self, j, k, around):
+        """Demand 3's two documents for a competition of J and K are looked at, for each kind that
+        they share: `around` makes a document of an element's tree. Where no root bears a tree there
+        is no document, and nothing competes."""
+        for kind in self.kinds_of(j, k):
+            one, other = (around(self.borne_by[kind][i]) for i in (j, k))
+            if not (self.is_typing(one) and self.is_typing(other)
+                    and agree_and_differ(self, one, other)):
+                raise Wrong("a competition without two such documents")
 
     def show_shortest(self, a, w):
         """No two compete in a after a beginning of fewer types: all of these are looked at, as
@@ -276,17 +318,12 @@ class Meaning:
         if len(w) > MOST_WORD or any(self.pairs_after(a, v) for words in shorter for v in words):
             raise Wrong("a competition after a beginning that is not shortest")
 
-    def document_tree(self, reached, a, beginning):
-        """A valid typed tree that has, in an element of type a, children that begin so."""
-        word = beginning + self.completion(a, beginning)
-        tree = (a, tuple(self.borne[i] for i in word))
-        while reached[a] is not None:
-            parent, before = reached[a]
-            after = self.completion(parent, before + (a,))
-            tree = (parent, (*(self.borne[i] for i in before), tree,
-                             *(self.borne[i] for i in after)))
-            a = parent
-        return tree
+    def document_tree(self, reached, a, before, tree):
+        """A valid typed tree that has, in an element of type a after children of the types
+        `before`, this tree."""
+        after = self.completion(a, before + (tree.type,))
+        above = Tree(a, (*(self.borne[i] for i in before), tree, *(self.borne[i] for i in after)))
+        return above if reached[a] is None else self.document_tree(reached, *reached[a], above)
 
     # The schema's questions: the place where it is answered no, or None.
 
@@ -322,24 +359,24 @@ def steps_by_state(block):
 
 
 def typed_stream(meaning, tree):
-    """The tree's tag stream without the finish: (is it an opening, tag, type) for each event."""
-    out, todo = [], [(True, tree)]
+    """The tree's tag stream without the finish: (event, tag, type) for each event."""
+    out, todo = [], [(tree.kind, tree)]
     while todo:
-        opening, (a, children) = todo.pop()
-        out.append((opening, meaning.tag(a), a))
-        if opening:
-            todo.append((False, (a, children)))
-            todo += [(True, child) for child in reversed(children)]
+        event, tree = todo.pop()
+        out.append((event, meaning.tag(tree.type), tree.type))
+        if event != CLOSE:
+            todo.append((CLOSE, tree))
+            todo += [(child.kind, child) for child in reversed(tree.children)]
     return out
 
 
 def agree_and_differ(meaning, one, other):
-    """Do the documents agree through some opening and differ in its type?"""
+    """Do the documents agree through some opening, its kind too, and differ in its type?"""
     pairs = zip(typed_stream(meaning, one), typed_stream(meaning, other))
-    for (opening, tag, a), (opening2, tag2, b) in pairs:
-        if (opening, tag) != (opening2, tag2):
+    for (event, tag, a), (event2, tag2, b) in pairs:
+        if (event, tag) != (event2, tag2):
             return False
-        if opening and a != b:
+        if event in KINDS and a != b:
             return True
     return False
 
@@ -372,10 +409,10 @@ def small_trees(meaning):
 def all_trees(meaning, a):
     """All trees typed with a at their root, or TooMany. Only for a schema that `finitely_many`
     passes: no path comes to a state twice, and no type stands below itself."""
-    found = []
+    found = meaning.nil_trees(a)
     for word in sorted(set(all_words(meaning, a, 0))):
         for children in product(*(all_trees(meaning, j) for j in word)):
-            found.append((a, children))
+            found.append(Tree(a, children))
             if len(found) > MOST_LISTED_TREES:
                 raise TooMany
     return found

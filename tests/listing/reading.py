@@ -2,12 +2,14 @@
 
 By the document, under an accepted schema from a fresh reading. Question 13, whether some valid
 document of any depth begins with the events taken and this opening, is searched straight: the
-elements opened so far have types; a closed element's children form a word; an open element's
-children so far, with its open child, must begin a word over tree-bearing types. Each such
-condition speaks of one element alone, and a beginning that meets them all is completed by ending
-each open element's word and giving every missing element a tree that its type bears. So a new
-opening needs the last condition only of the innermost element; the others are as they were. The
-first opening needs a root type that bears a tree.
+elements opened so far have types, each of which bears a tree of its element's kind; a nil element
+has no children; of the others a closed element's children form a word, and an open element's
+children so far, with its open child, must begin a word over tree-bearing types. Each such condition
+speaks of one element alone, and a beginning that meets them all is completed by ending the word of
+each open element that is not nil and giving every missing element a tree that its type bears. So a
+new opening needs a type that bears a tree of its kind, and the conditions on children only of the
+innermost element; the others are as they were. The first opening needs a root type that bears a
+tree of its kind.
 
 More than one type of the tag may not be possible there: the schema has no competition, so two
 would contradict question 9, and the model stops. Hence one typing of the events taken is kept,
@@ -16,30 +18,34 @@ and it is the only one.
 By the value, as value.py says, also where a schema or a reading is made up.
 """
 
-from .meaning import Wrong
-from .tables import CLOSE, FINISH, MOST_LEVELS
+from .meaning import Tree, Wrong
+from .tables import CLOSE, FINISH, MOST_LEVELS, OPEN_NIL
 from .value import Asked, ReadingValue
 
 
 class Taken(Asked):
-    """The events taken so far, with their typing; an element is (type, its children)."""
+    """The events taken so far, with their typing; an element's children are a list."""
 
     def __init__(self, meaning):
         self.meaning, self.root, self.open, self.finished = meaning, None, [], False
 
     def children(self):
         """The innermost element's type and the types of its children."""
-        a, children = self.open[-1]
-        return a, tuple(child[0] for child in children)
+        a, children, _ = self.open[-1]
+        return a, tuple(child.type for child in children)
 
-    def possible_types(self, tag):
-        """The types of the tag with which an element may open here."""
+    def in_nil(self):
+        """Is the innermost element nil?"""
+        return self.open[-1].kind == OPEN_NIL
+
+    def possible_types(self, kind, tag):
+        """The types with which an element of this kind and tag may open here."""
         meaning = self.meaning
         if self.open:
-            types = meaning.next_types(*self.children())
+            types = [] if self.in_nil() else meaning.next_types(*self.children())
         else:
             types = [] if self.root else meaning.bearing_roots()
-        types = [j for j in types if meaning.tag(j) == tag]
+        types = [j for j in types if meaning.tag(j) == tag and j in meaning.borne_by[kind]]
         if len(types) > 1:
             raise Wrong("two types possible under an accepted schema")
         return types
@@ -48,7 +54,7 @@ class Taken(Asked):
         return len(self.open)
 
     def innermost_tag(self):
-        return self.meaning.tag(self.open[-1][0]) if self.open else None
+        return self.meaning.tag(self.open[-1].type) if self.open else None
 
     # The questions.
 
@@ -61,8 +67,8 @@ class Taken(Asked):
     def knows_tag(self, tag):
         return tag < self.meaning.schema.tags
 
-    def may_open(self, tag):
-        return bool(self.possible_types(tag))
+    def may_open_by(self, kind, tag):
+        return bool(self.possible_types(kind, tag))
 
     def has_level(self, tag):
         return self.depth() < MOST_LEVELS
@@ -74,7 +80,7 @@ class Taken(Asked):
         return self.innermost_tag() == tag
 
     def is_complete(self, tag):
-        return self.meaning.is_word(*self.children())
+        return self.meaning.is_content(self.open[-1].kind, *self.children())
 
     def is_whole(self, tag):
         return self.root is not None and not self.open
@@ -87,10 +93,10 @@ class Taken(Asked):
             self.open.pop()
         else:
             if a is None:
-                [a] = self.possible_types(tag)
-            element = (a, [])
+                [a] = self.possible_types(event, tag)
+            element = Tree(a, [], event)
             if self.open:
-                self.open[-1][1].append(element)
+                self.open[-1].children.append(element)
             self.root = self.root or element
             self.open.append(element)
         return a
@@ -101,8 +107,8 @@ class Taken(Asked):
         if self.root is None:
             return
         while self.open:
-            rest = self.meaning.completion(*self.children())
-            self.open.pop()[1].extend(self.meaning.borne[j] for j in rest)
+            rest = () if self.in_nil() else self.meaning.completion(*self.children())
+            self.open.pop().children.extend(self.meaning.borne[j] for j in rest)
         if not self.meaning.is_typing(self.root):
             raise Wrong("events taken that begin no valid document")
 
@@ -143,8 +149,8 @@ class Reading:
         """The tag of the innermost element, or None."""
         return self.agreed([way.innermost_tag() for way in self.ways])
 
-    def tags(self):
-        return self.value.schema_value.held["tags"]
+    def schema_value(self):
+        return self.value.schema_value
 
     def put(self, field, index, number):
         """Puts an entry; from here on only the value answers."""

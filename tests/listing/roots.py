@@ -184,6 +184,18 @@ SMALL, LEVELS, DENSE, BY_TEXT = ([with_roots(shape) for shape in shapes] for sha
 IN_ORDER = ((SMALL, True), (LEVELS, None), (DENSE, None), (LEVELS, True), (SMALL, None))
 
 
+def random_schema(rng, number, shapes=SMALL):
+    """A random file of these shapes, every fourth by expressions, and its answer; None where the
+    listing would be too long."""
+    if number % 4 == 0:
+        return expressions.random_schema(rng, BY_TEXT)
+    return schemas.random_schema(rng, shapes)
+
+
+def is_wanted(judged):
+    return len(judged.meaning.schema.roots) > 1
+
+
 def random_accepted(rng, number):
     """An accepted random schema file of which two roots at least bear a tree, its shape by its
     number, and its answer."""

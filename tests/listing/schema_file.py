@@ -7,7 +7,7 @@ from dataclasses import dataclass, field
 from .expression import automaton
 from .tables import (CLOSE_BRACKET, COMMAND_QUESTIONS, COMMANDS, DONE, END_EXPRESSION, EXPRESSION,
                      EXPRESSION_COMMANDS, FILE_QUESTIONS, FINAL, MOST_BRACKETS, MOST_COMMANDS,
-                     MOST_STATES, MOST_STEPS, MOST_TAGS, MOST_TYPES, MOST_USES, NO_COMMAND,
+                     MOST_STATES, MOST_STEPS, MOST_TAGS, MOST_TYPES, MOST_USES, NIL, NO_COMMAND,
                      NOT_TWICE, OPEN_BRACKET, REPEAT, ROOT, STEP, TAGS, TYPE, USE)
 
 
@@ -27,6 +27,7 @@ class Block:
     states: int
     accepting: list = field(default_factory=list)
     steps: list = field(default_factory=list)
+    nillable: bool = False
 
 
 @dataclass
@@ -35,6 +36,7 @@ class Content:
 
     tag: int
     text: bytes
+    nillable: bool = False
 
 
 @dataclass
@@ -61,7 +63,7 @@ class Reader:
     """A schema file as far as it is read: the command at `at` is in question."""
 
     def __init__(self, data):
-        self.data, self.at, self.last = data, 0, None
+        self.data, self.at, self.last = data, 0, None   # the last command that is no NIL
         self.schema, self.counts, self.given = Schema(roots=()), Counter(), set()
         self.text, self.in_text = [], Counter()     # of the expression, as far as it is read
         self.named = []         # the types that STEPs and uses name, each with the place
@@ -152,14 +154,18 @@ class Reader:
             self.named.append((operands[1], self.at))
         elif self.command == ROOT:
             schema.roots += operands
+        elif self.command == NIL:
+            schema.blocks[-1].nillable = True
         elif self.command == END_EXPRESSION:
             self.enter_content(*automaton(tuple(self.text)))
         elif self.command in EXPRESSION_COMMANDS:
             self.text.append((self.command, operands))
             self.in_text[self.command] += 1
             self.named += [(by, self.at) for by in operands]
-        begun = self.command == TYPE and operands[1] == 0
-        self.at, self.last = self.at + 1 + len(operands), EXPRESSION if begun else self.command
+        self.at += 1 + len(operands)
+        if self.command != NIL:
+            begun = self.command == TYPE and operands[1] == 0
+            self.last = EXPRESSION if begun else self.command
 
     def enter_content(self, states, accepting, steps):
         """The automaton that the expression becomes is the content of the last type."""
@@ -191,12 +197,13 @@ def write(schema, shuffle=lambda commands: None):
     """A file that states the schema; `shuffle` may reorder a block's commands."""
     out = bytearray([TAGS, schema.tags])
     for block in schema.blocks:
+        nil = [[NIL]] if block.nillable else []
         if isinstance(block, Content):
-            out += bytes([TYPE, block.tag, 0, *block.text, END_EXPRESSION])
+            out += bytes([TYPE, block.tag, 0, *block.text, END_EXPRESSION, *sum(nil, [])])
             continue
         out += bytes([TYPE, block.tag, block.states])
         commands = [[FINAL, state] for state in block.accepting]
-        commands += [[STEP, *step] for step in block.steps]
+        commands += [[STEP, *step] for step in block.steps] + nil
         shuffle(commands)
         for command in commands:
             out += bytes(command)

@@ -1,5 +1,7 @@
 """Schemas: those made by hand, random ones small enough to list, and those at the limits."""
 
+from dataclasses import replace
+
 from .judged import judge
 from .meaning import Meaning, TooMany
 from .schema_file import Block, Schema, leaf, once, write
@@ -314,8 +316,7 @@ def renumbered(rng, schema):
     number = rng.sample(range(len(schema.blocks)), len(schema.blocks))
     blocks = [None] * len(number)
     for a, block in enumerate(schema.blocks):
-        steps = [(p, number[j], q) for p, j, q in block.steps]
-        blocks[number[a]] = Block(block.tag, block.states, block.accepting, steps)
+        blocks[number[a]] = replace(block, steps=[(p, number[j], q) for p, j, q in block.steps])
     return Schema(schema.tags, blocks, tuple(number[root] for root in schema.roots))
 
 

@@ -12,7 +12,7 @@ from typing import NamedTuple
 MOST_TAGS, MOST_TYPES, MOST_STATES, MOST_STEPS, MOST_LEVELS = 32, 64, 32, 1024, 64
 MOST_ROOTS = 8
 MOST_USES, MOST_BRACKETS = 31, 16       # of one expression
-LONGEST_FILE = 8389         # of the accepted schema files with one ROOT and no expression
+LONGEST_FILE = 8389         # of the accepted schema files with one ROOT and only STATE_COMMANDS
 ORDERED_PAIRS, MOST_PAIRS = 1024, 528   # of states
 MOST_WORD, LEAST_WITNESS_ROOM = 527, 532
 NO_PARENT = 255         # A of a witness where roots compete
@@ -57,13 +57,14 @@ TOO_MANY_BRACKETS = 23
 
 class Command(NamedTuple):
     """The kinds of its operands (their ranges stand in schema_file.RANGES), and what it may
-    follow: commands, None at the file's beginning, EXPRESSION after a TYPE of state count 0."""
+    follow: commands, None at the file's beginning, EXPRESSION after a TYPE of state count 0. A NIL
+    before it is passed over."""
 
     operands: tuple
     follows: tuple
 
 
-TAGS, TYPE, FINAL, STEP, ROOT, DONE = 0x10, 0x11, 0x12, 0x13, 0x14, 0x1F
+TAGS, TYPE, FINAL, STEP, ROOT, NIL, DONE = 0x10, 0x11, 0x12, 0x13, 0x14, 0x15, 0x1F
 OPEN_BRACKET, CLOSE_BRACKET, USE, NEXT_SEQUENCE, REPEAT = 0x30, 0x31, 0x32, 0x33, 0x34
 END_EXPRESSION, EXPRESSION = 0x3F, "expression"
 IN_BLOCK = (TYPE, FINAL, STEP)
@@ -84,9 +85,10 @@ EXPRESSION_COMMANDS = {
     REPEAT: Command((), IN_EXPRESSION),
     END_EXPRESSION: Command((), IN_EXPRESSION),
 }
-COMMANDS = {**STATE_COMMANDS, **EXPRESSION_COMMANDS}
+NIL_COMMAND = {NIL: Command((), (*IN_BLOCK, END_EXPRESSION))}
+COMMANDS = {**STATE_COMMANDS, **EXPRESSION_COMMANDS, **NIL_COMMAND}
 MOST_COMMANDS = {TYPE: MOST_TYPES, STEP: MOST_STEPS, ROOT: MOST_ROOTS}
-NOT_TWICE = (FINAL, STEP, ROOT)     # in a block; ROOTs, which stand together, in the file
+NOT_TWICE = (FINAL, STEP, ROOT, NIL)    # in a block; ROOTs, which stand together, in the file
 
 # Of each command; the place is the command's.
 COMMAND_QUESTIONS = (
@@ -107,21 +109,25 @@ SCHEMA_QUESTIONS = ((NO_TREE, "roots_without_tree"), (COMPETITION, "competition_
 
 # Events and calls.
 
-OPEN, CLOSE, FINISH = 0x21, 0x22, 0x2F
-EVENTS = {OPEN: 1, CLOSE: 1, FINISH: 0}     # with the number of their operands
-CALLS = (OPEN, CLOSE, FINISH)               # a call's byte; a lent one's is so many more:
-LENT = len(CALLS)
+OPEN, CLOSE, OPEN_NIL, FINISH = 0x21, 0x22, 0x23, 0x2F
+EVENTS = {OPEN: 1, CLOSE: 1, OPEN_NIL: 1, FINISH: 0}    # with the number of their operands
+KINDS = (OPEN, OPEN_NIL)                # of openings: plain and nil
+PLAIN_EVENTS = (OPEN, CLOSE, FINISH)    # those of documents without nil elements
+# By a call's byte: its event, and whether it is lent.
+CALLS = (*((event, lent) for lent in (False, True) for event in PLAIN_EVENTS),
+         *((OPEN_NIL, lent) for lent in (False, True)))
 
 FIRST_QUESTIONS = ((OUTSIDE_LIMITS, "is_inside"), (FINISHED, "is_unfinished"))
+TAG_QUESTIONS = (*FIRST_QUESTIONS, (NO_SUCH_TAG, "knows_tag"))
 CALL_QUESTIONS = {
-    OPEN: (*FIRST_QUESTIONS, (NO_SUCH_TAG, "knows_tag"), (NO_DOCUMENT, "may_open"),
-           (TOO_DEEP, "has_level")),
-    CLOSE: (*FIRST_QUESTIONS, (NO_SUCH_TAG, "knows_tag"), (NONE_OPEN, "has_open"),
-            (OTHER_TAG, "is_innermost"), (NO_WORD, "is_complete")),
+    OPEN: (*TAG_QUESTIONS, (NO_DOCUMENT, "may_open"), (TOO_DEEP, "has_level")),
+    OPEN_NIL: (*TAG_QUESTIONS, (NO_DOCUMENT, "may_open_nil"), (TOO_DEEP, "has_level")),
+    CLOSE: (*TAG_QUESTIONS, (NONE_OPEN, "has_open"), (OTHER_TAG, "is_innermost"),
+            (NO_WORD, "is_complete")),
     FINISH: (*FIRST_QUESTIONS, (NOT_WHOLE, "is_whole")),
 }
 # Of an event file: 19 before the call's questions, and these after them.
-LAST_QUESTIONS = {OPEN: ((NO_ROOM, "has_room"),), CLOSE: (), FINISH: ()}
+LAST_QUESTIONS = {**dict.fromkeys(KINDS, ((NO_ROOM, "has_room"),)), CLOSE: (), FINISH: ()}
 
 
 # Values.
@@ -148,7 +154,8 @@ SCHEMA_FIELDS = {
     "from": Field(0x17, MOST_STEPS, BYTE),
     "by": Field(0x18, MOST_STEPS, BYTE),
     "to": Field(0x19, MOST_STEPS, BYTE),
-    "roots": Field(0x1A, 0, BYTE),       # how many entries of "root" are used
+    "roots": Field(0x1A, 0, BYTE),          # how many entries of "root" are used
+    "nillable": Field(0x1B, MOST_TYPES, BYTE),      # 0 for no, any other number for yes
 }
 READING_FIELDS = {
     "depth": Field(0x20, 0, BYTE, "d"),

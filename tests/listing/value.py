@@ -1,22 +1,24 @@
 """A schema and a reading as values, made up or not, by document 01's words on such values.
 
 What a reading holds, where document 01 leaves it open: a fresh one has no level open, every type
-0 and every set empty. An opening at depth d sets the type at index d, the set at index d to {0},
-the set at d - 1 to the states kept, the depth and `rooted`; a closing lowers the depth; a finish
-sets `finished`; all else stays, entries of levels that are not open included. 18 is answered yes
-where `rooted` is set and no level is open. Beside a refused file stands the schema of no tag, no
-type and no root, and every entry that no file stated is 0. An entry put past the end of a table
-changes nothing.
+0 and every set empty. An opening at depth d sets the type at index d, the set at index d to {0}, a
+nil one to the empty set, the set at d - 1 to the states kept, the depth and `rooted`; a closing
+lowers the depth; a finish sets `finished`; all else stays, entries of levels that are not open
+included. 17 is not asked where the innermost type is nillable and its set is empty. 18 is answered
+yes where `rooted` is set and no level is open. Beside a refused file stands the schema of no tag,
+no type and no root, and every entry that no file stated is 0. An entry put past the end of a table
+changes nothing. A type is nillable where its entry is not 0.
 """
 
 from functools import cached_property
 
 from .meaning import Meaning
 from .schema_file import Block, Schema
-from .tables import (CALL_QUESTIONS, CLOSE, MOST_LEVELS, MOST_ROOTS, MOST_STATES, MOST_STEPS,
-                     MOST_TAGS, MOST_TYPES, OPEN, READING_FIELDS, SCHEMA_FIELDS)
+from .tables import (CALL_QUESTIONS, CLOSE, KINDS, MOST_LEVELS, MOST_ROOTS, MOST_STATES,
+                     MOST_STEPS, MOST_TAGS, MOST_TYPES, OPEN, OPEN_NIL, READING_FIELDS,
+                     SCHEMA_FIELDS)
 
-START = 1       # the set of only state 0
+NONE, START = 0, 1      # the set of no states, and that of only state 0
 
 
 def blank(fields):
@@ -92,7 +94,8 @@ class SchemaValue:
             if steps is None or not self.is_inside(a, steps):
                 return None
             schema.blocks.append(Block(held["tag"][a], held["states"][a],
-                                       states_of(held["accepting"][a]), steps))
+                                       states_of(held["accepting"][a]), steps,
+                                       bool(held["nillable"][a])))
             at += len(steps)
         return schema
 
@@ -113,11 +116,16 @@ class SchemaValue:
                 and held["accepting"][a] < 1 << states
                 and all(p < states and j < held["types"] and q < states for p, j, q in steps))
 
+    def kinds(self):
+        """The kinds of openings that are tried: nil ones where some type is nillable."""
+        return KINDS if any(self.held["nillable"]) else (OPEN,)
+
     def text(self):
         """The value of an accepted schema, or that of none."""
         held, types = self.held, range(self.held["types"])
         fields = ("tag", "states", "accepting", "steps")
-        rows = [[held[field][a] for field in fields] for a in types]
+        rows = [[held[field][a] for field in fields] + ["nil"] * bool(held["nillable"][a])
+                for a in types]
         rows += self.steps_between(0, sum(held["steps"][a] for a in types))
         roots = self.used_roots() or held["root"][:1]
         parts = [f"tags {held['tags']} types {held['types']} root {' '.join(map(str, roots))}"]
@@ -136,6 +144,8 @@ def entries_of(schema):
         yield "states", a, block.states
         yield "accepting", a, as_set(block.accepting)
         yield "steps", a, len(block.steps)
+        if block.nillable:
+            yield "nillable", a, 1
     for n, step in enumerate(step for block in schema.blocks for step in block.steps):
         yield from zip(("from", "by", "to"), (n, n, n), step)
     yield "roots", 0, len(schema.roots)
@@ -150,6 +160,12 @@ class Asked:
             if not getattr(self, asks)(tag):
                 return number
         return None
+
+    def may_open(self, tag):
+        return self.may_open_by(OPEN, tag)
+
+    def may_open_nil(self, tag):
+        return self.may_open_by(OPEN_NIL, tag)
 
 
 class ReadingValue(Asked):
@@ -191,8 +207,8 @@ class ReadingValue(Asked):
     def knows_tag(self, tag):
         return tag < self.meaning.schema.tags
 
-    def may_open(self, tag):
-        return self.opened(tag) is not None
+    def may_open_by(self, kind, tag):
+        return self.opened(kind, tag) is not None
 
     def has_level(self, tag):
         return self.depth() < MOST_LEVELS
@@ -205,24 +221,25 @@ class ReadingValue(Asked):
 
     def is_complete(self, tag):
         a, states = self.innermost()
-        return any(states >> q & 1 for q in self.meaning.accepting[a])
+        nil = self.meaning.is_nillable(a) and states == NONE
+        return nil or any(states >> q & 1 for q in self.meaning.accepting[a])
 
     def is_whole(self, tag):
         return self.held["rooted"] and not self.depth()
 
     # What a call changes.
 
-    def opened(self, tag):
-        """The smallest type that 13 looks for and the set of the live states that it leads to,
-        or None."""
+    def opened(self, kind, tag):
+        """The smallest type that 13 looks for, which bears a tree of this kind, and the set of the
+        live states that it leads to, or None."""
         meaning = self.meaning
         if not self.depth():
-            roots = [] if self.held["rooted"] else meaning.bearing_roots()
+            roots = [] if self.held["rooted"] else meaning.bearing_roots(kind)
             return next(((root, ()) for root in roots if meaning.tag(root) == tag), None)
         a, states = self.innermost()
         ends = {}
         for p, j, q in meaning.schema.blocks[a].steps:
-            if (states >> p & 1 and meaning.tag(j) == tag and j in meaning.borne
+            if (states >> p & 1 and meaning.tag(j) == tag and j in meaning.borne_by[kind]
                     and q in meaning.live(a)):
                 ends.setdefault(j, set()).add(q)
         return min(ends.items(), default=None, key=lambda found: found[0])
@@ -230,12 +247,12 @@ class ReadingValue(Asked):
     def changes(self, event, tag):
         """The entries that a taken call sets."""
         depth = self.depth()
-        if event == OPEN:
-            j, kept = self.opened(tag)
+        if event in KINDS:
+            j, kept = self.opened(event, tag)
             yield "depth", 0, depth + 1
             yield "rooted", 0, 1
             yield "level type", depth, j
-            yield "level set", depth, START
+            yield "level set", depth, START if event == OPEN else NONE
             if depth:
                 yield "level set", depth - 1, as_set(kept)
         elif event == CLOSE:
@@ -246,7 +263,7 @@ class ReadingValue(Asked):
     def take(self, event, tag):
         """Sets what the call, which is taken, changes; gives an opening's type."""
         self.set(list(self.changes(event, tag)))
-        return self.innermost()[0] if event == OPEN else None
+        return self.innermost()[0] if event in KINDS else None
 
     def set(self, entries):
         """Sets the entries; `changed` is what is held now and was not before, as text."""

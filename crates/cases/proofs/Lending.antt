@@ -1,4 +1,4 @@
--- The body of a function that lends its reading to a call and hands back what the call leaves, walked once for the three calls: the reading
+-- The body of a function that lends its reading to a call and hands back what the call leaves, walked once for the four calls: the reading
 -- is copied into a local, which is lent for a lifetime made for the call; the lifetime ends, and the local is as the call left it.
 --     Lent      the contract of the lent call, over the parameters that follow the reference, which are plain data: as ψ says
 --     body      the code.        moves    the walk of it, from a lent call that meets `Lent`

@@ -1,5 +1,5 @@
--- A function that lends its reading to a call with a schema and a tag, over the event that the tag makes and the lent call: what `open_lending`
--- and `close_lending` share.
+-- A function that lends its reading to a call with a schema and a tag, over the event that the tag makes and the lent call: what `open_lending`,
+-- `open_nil_lending` and `close_lending` share.
 use mathlib.Core.Path.{refl}
 use Prim.Native.Nat.{ℕ}
 use mathlib.Core.List.{[], _∷_, List}

@@ -1,20 +1,23 @@
 // Kind C: the first string is a schema file, the second a list of items, from a fresh reading on. Beside a refused schema file stands the value of
-// no schema. An item of two bytes is a call: by value 00 opening, 01 closing, 02 finish, on a lent reading 03, 04 and 05; then the tag. An item of
-// seven puts an entry (see `made_up`). The line has the schema file's answer and for each item its answer, tN for the type N, ok for taken, rN
-// for a refusal, put for an entry, and what the reading holds now and did not before.
+// no schema. An item of two bytes is a call: by value 00 opening, 01 closing, 02 finish, 06 nil opening, on a lent reading 03, 04, 05 and 07; then
+// the tag. An item of seven puts an entry (see `made_up`). The line has the schema file's answer and for each item its answer, tN for the type N,
+// ok for taken, rN for a refusal, put for an entry, and what the reading holds now and did not before.
 use crate::buffer::byte_at;
 use crate::changes::blank;
 use crate::changes::show_changes;
 use crate::items::CLOSING;
 use crate::items::CLOSING_LENT;
 use crate::items::FINISH;
+use crate::items::FINISH_LENT;
 use crate::items::OPENING;
 use crate::items::OPENING_LENT;
+use crate::items::OPENING_NIL;
 use crate::items::is_call;
 use crate::items::past;
 use crate::lent::close_lending;
 use crate::lent::finish_lending;
 use crate::lent::open_lending;
+use crate::lent::open_nil_lending;
 use crate::made_up::Held;
 use crate::made_up::make_up;
 use crate::schema_files::read_schema;
@@ -36,7 +39,9 @@ fn call(schema: Schema, reading: Reading, which: u8, tag: Tag) -> Next {
         FINISH => reading.finish(schema),
         OPENING_LENT => open_lending(reading, schema, tag),
         CLOSING_LENT => close_lending(reading, schema, tag),
-        _ => finish_lending(reading, schema),
+        FINISH_LENT => finish_lending(reading, schema),
+        OPENING_NIL => reading.open_nil(schema, tag),
+        _ => open_nil_lending(reading, schema, tag),
     }
 }
 

@@ -14,6 +14,10 @@ pub(crate) const CLOSING_LENT: u8 = 4;
 
 pub(crate) const FINISH_LENT: u8 = 5;
 
+pub(crate) const OPENING_NIL: u8 = 6;
+
+pub(crate) const OPENING_NIL_LENT: u8 = 7;
+
 // The bytes of a call.
 const CALL: usize = 2;
 
@@ -22,7 +26,7 @@ const PUT: usize = 7;
 
 // Is it the first byte of a call?
 pub(crate) fn is_call(first: u8) -> bool {
-    first <= FINISH_LENT
+    first <= OPENING_NIL_LENT
 }
 
 // The bytes of an item that begins with this byte.

@@ -4,17 +4,27 @@ use reading::Reading;
 use reading::close_lent;
 use reading::finish_lent;
 use reading::open_lent;
+use reading::open_nil_lent;
 use schema::Schema;
 use sdtd::Tag;
+ghost use Rattle.sdtd.specs.Tree.{plain, nil};
 ghost use Rattle.sdtd.specs.Document.{opening, closing, finish};
 ghost use Rattle.schema.specs.Value.{meaning};
 ghost use Rattle.reading.specs.Questions.{CallMeans};
 
-// An opening of the tag.
+// An opening of the tag, plainly.
 pub(crate) fn open_lending(mut reading: Reading, schema: Schema, tag: Tag) -> Next
-    ensures { λ n. ⌜ CallMeans (meaning schema) reading (opening (tag .0)) n ⌝ }
+    ensures { λ n. ⌜ CallMeans (meaning schema) reading (opening plain (tag .0)) n ⌝ }
 {
     let answer = open_lent(&mut reading, schema, tag);
+    Next { answer, reading }
+}
+
+// An opening of the tag as nil.
+pub(crate) fn open_nil_lending(mut reading: Reading, schema: Schema, tag: Tag) -> Next
+    ensures { λ n. ⌜ CallMeans (meaning schema) reading (opening nil (tag .0)) n ⌝ }
+{
+    let answer = open_nil_lent(&mut reading, schema, tag);
     Next { answer, reading }
 }
 

@@ -36,6 +36,8 @@ const TO: u8 = 0x19;
 
 const ROOTS_COUNT: u8 = 0x1a;
 
+const NILLABLE: u8 = 0x1b;
+
 const DEPTH: u8 = 0x20;
 
 const ROOTED: u8 = 0x21;
@@ -107,6 +109,9 @@ fn with_type(schema: Schema, field: u8, a: usize, value: u32) -> Schema {
     }
     if field == ACCEPTING {
         s.accepting[a] = value;
+    }
+    if field == NILLABLE {
+        s.nillable[a] = value != 0;
     }
     if field == STEPS_COUNT {
         s.steps[a] = half(value);

@@ -1,6 +1,6 @@
 // Kind S: the first string is a schema file, and the buffer takes the witness. The line has the answer; the schema value beside it, with its
-// counts, its roots, for each type its tag, states, accepting states and number of steps, and each step, and `rest 0` where every other entry
-// is 0; and the buffer.
+// counts, its roots, for each type its tag, states, accepting states and number of steps and `nil` if it is nillable, and each step, and `rest 0`
+// where every other entry is 0; and the buffer.
 use crate::buffer::show_witness;
 use crate::show::next_number;
 use crate::show::number_of;
@@ -45,16 +45,19 @@ fn show_roots(schema: Schema) -> bool {
 }
 
 // The entries of one type; false where it is no type of the schema and one is not 0.
-fn show_type(used: bool, tag: u8, states: u8, accepting: u32, steps: u16) -> bool {
+fn show_type(used: bool, tag: u8, states: u8, accepting: u32, nillable: bool, steps: u16) -> bool {
     if used {
         text(b";");
         next_number(wide(tag));
         next_number(wide(states));
         next_number(accepting as u64);
         next_number(steps as u64);
+        if nillable {
+            text(b" nil");
+        }
         return true;
     }
-    tag == 0 && states == 0 && accepting == 0 && steps == 0
+    tag == 0 && states == 0 && accepting == 0 && !nillable && steps == 0
 }
 
 // The entries of each type; false where one past the types is not 0.
@@ -62,12 +65,20 @@ fn show_types(schema: Schema) -> bool {
     let tag = schema.tag;
     let states = schema.states;
     let accepting = schema.accepting;
+    let nillable = schema.nillable;
     let steps = schema.steps;
     let types = schema.types as usize;
     let mut rest = true;
     let mut a = 0;
     while a < TYPES {
-        let fine = show_type(a < types, tag[a], states[a], accepting[a], steps[a]);
+        let fine = show_type(
+            a < types,
+            tag[a],
+            states[a],
+            accepting[a],
+            nillable[a],
+            steps[a],
+        );
         rest = rest && fine;
         a += 1;
     }

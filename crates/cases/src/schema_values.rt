@@ -1,7 +1,7 @@
 // Kind V: the first string is a schema file, the second items that put entries of the schema value (see `made_up`), and the buffer takes the
-// witness. The line has whether the value is inside the limits; of its trimming the live states of each type, which types bear a tree, which
-// are reached, and the rows; of `live_rows` the live states and the rows; and what the search for competition and the verdict on the schema
-// answer, each with the buffer.
+// witness. The line has whether the value is inside the limits; of its trimming the live states of each type, which types bear a tree, `nil`
+// after one that bears only a nil tree and `both` after one that bears trees of both kinds, which are reached, and the rows; of `live_rows` the
+// live states and the rows; and what the search for competition and the verdict on the schema answer, each with the buffer.
 use crate::buffer::COMPETES;
 use crate::buffer::fill;
 use crate::buffer::show_witness;
@@ -25,6 +25,8 @@ use schema::STEPS;
 use schema::Schema;
 use schema::TYPES;
 use schema::live_rows;
+use schema::opens_as_nil;
+use schema::opens_plainly;
 use schema::trim;
 use schema::within;
 
@@ -73,7 +75,35 @@ fn show_marked(marked: [bool; TYPES]) {
     }
 }
 
-// An entry's two states, its type and the type's tag.
+// How a type bears trees, where not only plainly.
+fn show_kinds(ways: u8) {
+    if opens_as_nil(ways) {
+        if opens_plainly(ways) {
+            text(b" both");
+        } else {
+            text(b" nil");
+        }
+    }
+}
+
+// The numbers of the types that bear a tree.
+fn show_bearing(ways: [u8; TYPES]) {
+    let mut none = true;
+    let mut a = 0;
+    while a < TYPES {
+        if 0 < ways[a] {
+            next_number(long(a));
+            show_kinds(ways[a]);
+            none = false;
+        }
+        a += 1;
+    }
+    if none {
+        text(b" none");
+    }
+}
+
+// An entry's two states, its type, the type's tag, and how it bears trees.
 fn show_entry(entry: Entry) {
     let by = entry.by();
     let tag = entry.tag();
@@ -81,6 +111,7 @@ fn show_entry(entry: Entry) {
     next_number(wide(entry.to()));
     next_number(wide(by.0));
     next_number(wide(tag.0));
+    show_kinds(entry.ways());
 }
 
 // The entries of a row.
@@ -128,12 +159,12 @@ fn show_trimming(schema: Schema) {
     let mut begins = [LEFT_BEGIN; BEGINS];
     let trimming = trim(schema, &mut entries, &mut begins);
     let live = trimming.live;
-    let bears = trimming.bears;
+    let ways = trimming.ways;
     let reached = trimming.reached;
     text(b"; live");
     show_live(live, schema.types as usize);
     text(b"; bears");
-    show_marked(bears);
+    show_bearing(ways);
     text(b"; reached");
     show_marked(reached);
     show_rows(entries, begins);

@@ -9,9 +9,9 @@ use lib.Dec.{T, eqb, leb, leb→le}
 use lib.ListN.{length, getD, length-append}
 use lib.Seq.{getD-append-add}
 use Rattle.sdtd.proofs.Basics.{cond-both, cond-either}
-use Rattle.command.specs.Command.{isCommand, partBytes, partSize, bytesOf, fileOf, size, expressionCommand, commandOf, commandAt}
+use Rattle.command.specs.Command.{isCommand, partBytes, partSize, bytesOf, fileOf, size, addedCommand, commandOf, commandAt}
 use Rattle.command.specs.declared.Command.{Command}
-use Rattle.command.specs.declared.Command.the-variants.{Tags, TypeBlock, Final, Step, Root, Done, Expression, NoCommand}
+use Rattle.command.specs.declared.Command.the-variants.{Tags, TypeBlock, Final, Step, Root, Nil, Done, Expression, NoCommand}
 use Rattle.command.specs.declared.Part.{Part}
 use Rattle.command.specs.declared.Part.the-variants.{OpenBracket, CloseBracket, Use, Or, Repeat, End}
 
@@ -28,15 +28,16 @@ module _ (file : List ℕ) (i : ℕ) where
       cond-either (EndsInFile file i) (leb (i + size c) (length file)) (λ t. record { ends = λ k. leb→le (i + size c) (length file) t })
       (λ n. none)
 
-  of-expression : (b : ℕ) → EndsInFile file i (expressionCommand file i b)
-  unfolding expressionCommand
-  of-expression b =
-      cond-both (EndsInFile file i) (eqb b 0x30) _ _ (whole (Expression OpenBracket))
+  of-added : (b : ℕ) → EndsInFile file i (addedCommand file i b)
+  unfolding addedCommand
+  of-added b =
+      cond-both (EndsInFile file i) (eqb b 0x15) _ _ (whole Nil)
+      (cond-both (EndsInFile file i) (eqb b 0x30) _ _ (whole (Expression OpenBracket))
       (cond-both (EndsInFile file i) (eqb b 0x31) _ _ (whole (Expression CloseBracket))
       (cond-both (EndsInFile file i) (eqb b 0x32) _ _ (whole (Expression (Use _)))
       (cond-both (EndsInFile file i) (eqb b 0x33) _ _ (whole (Expression Or))
       (cond-both (EndsInFile file i) (eqb b 0x34) _ _ (whole (Expression Repeat))
-      (cond-both (EndsInFile file i) (eqb b 0x3f) _ _ (whole (Expression End)) none)))))
+      (cond-both (EndsInFile file i) (eqb b 0x3f) _ _ (whole (Expression End)) none))))))
 
   of-byte : (b : ℕ) → EndsInFile file i (commandOf file i b)
   unfolding commandOf
@@ -46,7 +47,7 @@ module _ (file : List ℕ) (i : ℕ) where
       (cond-both (EndsInFile file i) (eqb b 0x12) _ _ (whole (Final _))
       (cond-both (EndsInFile file i) (eqb b 0x13) _ _ (whole (Step _ _ _))
       (cond-both (EndsInFile file i) (eqb b 0x14) _ _ (whole (Root _))
-      (cond-both (EndsInFile file i) (eqb b 0x1f) _ _ (whole Done) (of-expression b))))))
+      (cond-both (EndsInFile file i) (eqb b 0x1f) _ _ (whole Done) (of-added b))))))
 
   pub command-in-file : T (isCommand (commandAt file i)) → i + size (commandAt file i) ≤ length file
   command-in-file = cond-both (EndsInFile file i) (leb (i + 1) (length file)) _ _ (of-byte (getD file i 0)) none .ends
@@ -66,6 +67,7 @@ size-some (TypeBlock g s) k = omega arith
 size-some (Final q) k = omega arith
 size-some (Step p j q) k = omega arith
 size-some (Root a) k = omega arith
+size-some Nil k = omega arith
 size-some Done k = omega arith
 size-some (Expression x) k = part-some x
 size-some NoCommand k = absurd k
@@ -88,7 +90,7 @@ length-more cs c = rw (file-more cs c, length-append)
 stands-part : (file rest : List ℕ) (i : ℕ) (x : Part) → i + partSize x ≤ length file
     → getD file i 0 ≡ getD (partBytes x ++ rest) 0 0 → ((k : ℕ) → getD file (i + k) 0 ≡ getD (partBytes x ++ rest) k 0)
     → commandAt file i ≡ Expression x
-unfolding commandOf expressionCommand
+unfolding commandOf addedCommand
 stands-part file rest i OpenBracket l b h = simp (le-leb (i + 1) (length file) l, b)
 stands-part file rest i CloseBracket l b h = simp (le-leb (i + 1) (length file) l, b)
 stands-part file rest i (Use j) l b h = simp (le-leb (i + 1) (length file) (omega arith), b, le-leb (i + 2) (length file) l, h 1)
@@ -99,7 +101,7 @@ stands-part file rest i End l b h = simp (le-leb (i + 1) (length file) l, b)
 stands : (file rest : List ℕ) (i : ℕ) (c : Command) → T (isCommand c) → i + size c ≤ length file
     → getD file i 0 ≡ getD (bytesOf c ++ rest) 0 0 → ((k : ℕ) → getD file (i + k) 0 ≡ getD (bytesOf c ++ rest) k 0)
     → commandAt file i ≡ c
-unfolding commandOf
+unfolding commandOf addedCommand
 stands file rest i (Tags n) t l b h = simp (le-leb (i + 1) (length file) (omega arith), b, le-leb (i + 2) (length file) l, h 1)
 stands file rest i (TypeBlock g s) t l b h =
     simp (le-leb (i + 1) (length file) (omega arith), b, le-leb (i + 3) (length file) l, h 1, h 2)
@@ -107,6 +109,7 @@ stands file rest i (Final q) t l b h = simp (le-leb (i + 1) (length file) (omega
 stands file rest i (Step p j q) t l b h =
     simp (le-leb (i + 1) (length file) (omega arith), b, le-leb (i + 4) (length file) l, h 1, h 2, h 3)
 stands file rest i (Root a) t l b h = simp (le-leb (i + 1) (length file) (omega arith), b, le-leb (i + 2) (length file) l, h 1)
+stands file rest i Nil t l b h = simp (le-leb (i + 1) (length file) l, b)
 stands file rest i Done t l b h = simp (le-leb (i + 1) (length file) l, b)
 stands file rest i (Expression x) t l b h = stands-part file rest i x l b h
 stands file rest i NoCommand t l b h = absurd t

@@ -6,7 +6,7 @@ use lib.Dec.{eqb, leb}
 use lib.ListN.{length, getD}
 use Rattle.sdtd.specs.Numbered.{tagNo, typeNo}
 use Rattle.command.specs.declared.Command.{Command}
-use Rattle.command.specs.declared.Command.the-variants.{Tags, TypeBlock, Final, Step, Root, Done, Expression, NoCommand}
+use Rattle.command.specs.declared.Command.the-variants.{Tags, TypeBlock, Final, Step, Root, Nil, Done, Expression, NoCommand}
 use Rattle.command.specs.declared.Part.{Part}
 use Rattle.command.specs.declared.Part.the-variants.{OpenBracket, CloseBracket, Use, Or, Repeat, End}
 
@@ -17,6 +17,7 @@ isCommand (TypeBlock g s) = true
 isCommand (Final q) = true
 isCommand (Step p j q) = true
 isCommand (Root a) = true
+isCommand Nil = true
 isCommand Done = true
 isCommand (Expression x) = true
 isCommand NoCommand = false
@@ -28,6 +29,7 @@ isOld (TypeBlock g s) = true
 isOld (Final q) = true
 isOld (Step p j q) = true
 isOld (Root a) = true
+isOld Nil = false
 isOld Done = true
 isOld (Expression x) = false
 isOld NoCommand = false
@@ -43,13 +45,14 @@ partBytes Repeat = 0x34 ∷ []
 partBytes End = 0x3f ∷ []
 
 -- "10 TAGS (count); 11 TYPE (tag, state count), which starts the next type's block; 12 FINAL (state); 13 STEP (from, type, to);
--- 14 ROOT (type); 1F DONE": a command's bytes; where there is no command, none.
+-- 14 ROOT (type); 1F DONE"; "Command 15 NIL": a command's bytes; where there is no command, none.
 abbrev pub bytesOf : Command → List ℕ
 bytesOf (Tags n) = 0x10 ∷ n ∷ []
 bytesOf (TypeBlock g s) = 0x11 ∷ g .0 ∷ s ∷ []
 bytesOf (Final q) = 0x12 ∷ q ∷ []
 bytesOf (Step p j q) = 0x13 ∷ p ∷ j .0 ∷ q ∷ []
 bytesOf (Root a) = 0x14 ∷ a .0 ∷ []
+bytesOf Nil = 0x15 ∷ []
 bytesOf Done = 0x1f ∷ []
 bytesOf (Expression x) = partBytes x
 bytesOf NoCommand = []
@@ -74,15 +77,16 @@ operand file i k = getD file (i + k) 0
 abbrev whole : List ℕ → ℕ → Command → Command
 whole file i c = cond (leb (i + size c) (length file)) c NoCommand
 
--- the command of an expression that begins with the byte b at the place i
-unfoldable pub expressionCommand : List ℕ → ℕ → ℕ → Command
-expressionCommand file i b =
-    cond (eqb b 0x30) (whole file i (Expression OpenBracket))
+-- the command of document 02 that begins with the byte b at the place i: NIL, or one of an expression
+unfoldable pub addedCommand : List ℕ → ℕ → ℕ → Command
+addedCommand file i b =
+    cond (eqb b 0x15) (whole file i Nil)
+    (cond (eqb b 0x30) (whole file i (Expression OpenBracket))
     (cond (eqb b 0x31) (whole file i (Expression CloseBracket))
     (cond (eqb b 0x32) (whole file i (Expression (Use (typeNo (operand file i 1)))))
     (cond (eqb b 0x33) (whole file i (Expression Or))
     (cond (eqb b 0x34) (whole file i (Expression Repeat))
-    (cond (eqb b 0x3f) (whole file i (Expression End)) NoCommand)))))
+    (cond (eqb b 0x3f) (whole file i (Expression End)) NoCommand))))))
 
 -- the command that begins with the byte b at the place i
 unfoldable pub commandOf : List ℕ → ℕ → ℕ → Command
@@ -92,7 +96,7 @@ commandOf file i b =
     (cond (eqb b 0x12) (whole file i (Final (operand file i 1)))
     (cond (eqb b 0x13) (whole file i (Step (operand file i 1) (typeNo (operand file i 2)) (operand file i 3)))
     (cond (eqb b 0x14) (whole file i (Root (typeNo (operand file i 1))))
-    (cond (eqb b 0x1f) (whole file i Done) (expressionCommand file i b))))))
+    (cond (eqb b 0x1f) (whole file i Done) (addedCommand file i b))))))
 
 -- The command at the place i: none where the file ends, where the byte begins none, or where its operands run past the end.
 abbrev pub commandAt : List ℕ → ℕ → Command

@@ -4,7 +4,7 @@ use sdtd::TypeNo;
 ghost use mathlib.Core.Path.{_≡_};
 ghost use Prim.Native.Nat.{_<_};
 ghost use lib.ListN.{length, getD};
-ghost use Rattle.command.specs.Command.{expressionCommand, commandAt, partSize, size};
+ghost use Rattle.command.specs.Command.{addedCommand, commandAt, partSize, size};
 
 // the bytes of a command with no operand, with one, with two, with three
 const ALONE: usize = 1;
@@ -32,16 +32,20 @@ pub enum Command {
     Final(u8),
     Step(u8, TypeNo, u8),
     Root(TypeNo),
+    Nil,
     Done,
     Expression(Part),
     NoCommand,
 }
 
-// The command of an expression that begins with the byte b at a place of the file.
-fn expression_command(file: &[u8], at: usize, b: u8) -> Command
+// The command of document 02 that begins with the byte b at a place of the file: NIL, or one of an expression.
+fn added_command(file: &[u8], at: usize, b: u8) -> Command
     requires { ⌜ at < length (now file) ⌝ }
-    ensures { λ r. ⌜ r ≡ expressionCommand (now (file .entry)) at b ⌝ }
+    ensures { λ r. ⌜ r ≡ addedCommand (now (file .entry)) at b ⌝ }
 {
+    if b == 0x15 {
+        return Command::Nil;
+    }
     if b == 0x30 {
         return Command::Expression(Part::OpenBracket);
     }
@@ -108,7 +112,7 @@ pub fn command_at(file: &[u8], at: usize) -> Command
     if b == 0x1f {
         return Command::Done;
     }
-    expression_command(file, at, b)
+    added_command(file, at, b)
 }
 
 // How many bytes a command of an expression has.
@@ -135,6 +139,7 @@ pub fn size_of(command: Command) -> usize
         Command::Final(_) => WITH_ONE,
         Command::Step(_, _, _) => WITH_THREE,
         Command::Root(_) => WITH_ONE,
+        Command::Nil => ALONE,
         Command::Done => ALONE,
         Command::Expression(part) => size_of_part(part),
         Command::NoCommand => 0,

@@ -14,9 +14,10 @@ use Rattle.sdtd.specs.Schema.{step}
 use Rattle.sdtd.specs.declared.Tag.{Tag}
 use Rattle.sdtd.specs.declared.TypeNo.{TypeNo}
 use Rattle.schema.specs.Value.{upFrom, offset, blockAt, rootsOf, meaning}
+use Rattle.command.specs.Cases.{onNil}
 use Rattle.command.specs.Command.{commandAt, size}
 use Rattle.command.specs.declared.Command.{Command}
-use Rattle.command.specs.declared.Command.the-variants.{Tags, TypeBlock, Final, Step, Root, Done, Expression, NoCommand}
+use Rattle.command.specs.declared.Command.the-variants.{Tags, TypeBlock, Final, Step, Root, Nil, Done, Expression, NoCommand}
 use Rattle.command.proofs.CommandLaws.{command-in-file, size-some}
 use Rattle.command.proofs.CaseLaws.{step-same, root-same}
 use Rattle.expression.specs.Expression.{Expression as Exp}
@@ -24,9 +25,8 @@ use Rattle.expression.specs.Tests.{allSteps}
 use Rattle.expression.specs.Content.{Name, Content, broken, whole, contentAt}
 use Rattle.expression.proofs.WholeContents.{rise-most, whole-content}
 use Rattle.commands.specs.Questions.{rank, samePhase, failed}
-use Rattle.commands.specs.File.{Stated, nothingStated, current, stepCount, hasStep, hasRoot, seenOf, after, afterExpression, Commands, stopped, states}
-use Rattle.commands.specs.File.{byContent, commandsFrom}
-use Rattle.commands.specs.File.{schemaBy}
+use Rattle.commands.specs.File.{Stated, nothingStated, current, stepCount, hasStep, hasRoot, seenOf, withFinal, withStep, withNil}
+use Rattle.commands.specs.File.{after, withAutomaton, afterExpression, Commands, stopped, states, byContent, commandsFrom, schemaBy}
 use Rattle.commands.specs.Value.{EmptyFrom, StatedValue}
 use Rattle.commands.specs.Progress.{nothingRead, givenLast, rootAmong, lastType, progressAfter, progressWith}
 use Rattle.commands.proofs.SchemaTables.{SchemaTables}
@@ -36,10 +36,12 @@ use Rattle.commands.specs.declared.progress.Progress.{Progress}
 use Rattle.commands.proofs.Passing.{passed, passed-command}
 use Rattle.commands.proofs.Holding.{seenIn, tablesAfter, DraftHolds, Sized, EmptyPast, Holds}
 use Rattle.commands.proofs.RootTables.{RootTable, roots-back, given-back, root-more, no-roots}
-use Rattle.commands.proofs.TableLaws.{current-holds, current-count, given-holds, type-sized, type-blocks, type-empty}
-use Rattle.commands.proofs.TableLaws.{accepting-sized, final-blocks, final-count, final-steps, accepting-empty}
-use Rattle.commands.proofs.TableLaws.{step-sized, step-blocks, step-count, step-steps, step-empty}
-use Rattle.commands.proofs.ExpressionTables.{tablesWith, automaton-sized, automaton-blocks, automaton-empty, automaton-count, automaton-total}
+use Rattle.commands.proofs.Standing.{none-stands}
+use Rattle.commands.proofs.NilTables.{flags-count, nil-same, nil-type, current-nil, nil-more}
+use Rattle.commands.proofs.TableLaws.{current-holds, current-count, same-count, same-steps, given-holds, type-sized, type-blocks, type-empty}
+use Rattle.commands.proofs.TableLaws.{accepting-sized, final-blocks, accepting-empty, nil-blocks}
+use Rattle.commands.proofs.TableLaws.{step-sized, step-blocks, step-steps, step-empty}
+use Rattle.commands.proofs.ExpressionTables.{tablesWith, automaton-sized, automaton-blocks, automaton-empty, automaton-total}
 use Rattle.commands.proofs.StatedLaws.{offset-back, valueIn, blocks-back}
 
 -- before any command: tables of zeros hold that nothing is stated
@@ -51,6 +53,7 @@ first-holds k e =
       tags = refl;
       roots = refl;
       root = no-roots;
+      nillable = none-stands false mostTypes;
       types = refl;
       steps = refl;
       types-most = omega arith;
@@ -87,6 +90,10 @@ module _ {g : Stated} {s : Progress} {t : SchemaTables} (h : Holds g s t) where
   given-root : (a : ℕ) → rootAmong (s .root) (s .roots) a ≡ hasRoot a (g .roots)
   given-root a = rw (h .roots) (given-back (h .root) a)
 
+  -- whether the NIL is given already is whether that block has one
+  given-nil : getD (s .nillable) (lastType (s .types)) false ≡ current (g .blocks) .nillable
+  given-nil = current-nil (s .nillable) (g .blocks) (h .types) (h .types-most) (h .nillable)
+
   -- what is seen by the progress and the tables is what is seen of what is stated
   pub seen-holds : (c : Command) → seenIn s t c ≡ seenOf g c
   seen-holds c i =
@@ -98,7 +105,7 @@ module _ {g : Stated} {s : Progress} {t : SchemaTables} (h : Holds g s t) where
         steps = h .steps i;
         states = own-holds .states i;
         accepting = record { 0 = own-holds .accepting i };
-        given = step-same false given-step c i || root-same false given-root c i;
+        given = step-same false given-step c i || (root-same false given-root c i || onNil (given-nil i) false c);
       }
 
   -- a command that changes neither the blocks nor the tables, and after which the file is in no block
@@ -106,7 +113,7 @@ module _ {g : Stated} {s : Progress} {t : SchemaTables} (h : Holds g s t) where
       → (rank InBlock ≤ rank phase → 0 < s .types) → rank phase ≢ rank InExpression
       → Holds
       (record { phase = phase; tags = tags; blocks = g .blocks; names = g .names; roots = roots })
-      (record { phase = phase; tags = tags; types = s .types; roots = n; root = table; steps = s .steps })
+      (record { phase = phase; tags = tags; types = s .types; roots = n; root = table; nillable = s .nillable; steps = s .steps })
       t
   stays phase tags n table roots e k some o =
       record {
@@ -115,6 +122,7 @@ module _ {g : Stated} {s : Progress} {t : SchemaTables} (h : Holds g s t) where
         tags = refl;
         roots = e;
         root = k;
+        nillable = h .nillable;
         types = h .types;
         steps = h .steps;
         types-most = h .types-most;
@@ -138,6 +146,7 @@ module _ {g : Stated} {s : Progress} {t : SchemaTables} (h : Holds g s t) where
         tags = h .tags;
         roots = h .roots;
         root = h .root;
+        nillable = nil-type (s .nillable) (g .blocks) l (h .nillable);
         types = omega (arith, h .types);
         steps = omega (arith, h .steps);
         types-most = omega (arith, h .types);
@@ -148,13 +157,36 @@ module _ {g : Stated} {s : Progress} {t : SchemaTables} (h : Holds g s t) where
         empty = type-empty (h .empty) (s .types % mostTypes) (a .0) k (omega (arith, h .types));
       }
 
-  -- in a block
-  module _ (in-block : rank (g .phase) ≡ rank InBlock) where
-    some-blocks : 0 < length (g .blocks)
-    some-blocks = omega (arith, h .some (omega arith), h .types)
+  -- where there is a block
+  last-block : rank InBlock ≤ rank (g .phase) → suc (lastType (s .types)) ≡ length (g .blocks)
+  last-block l = omega (arith, h .some l, h .types, h .types-most)
 
-    last-block : suc (lastType (s .types)) ≡ length (g .blocks)
-    last-block = omega (arith, h .some (omega arith), h .types, h .types-most)
+  -- a NIL in a type's block
+  after-nil : (i : ℕ) → rank InBlock ≤ rank (g .phase) → rank (g .phase) ≢ rank InExpression
+      → Holds (after g i Nil) (progressAfter s Nil) (tablesAfter s t Nil)
+  unfolding after progressAfter
+  after-nil i l outside =
+      record {
+        sized = h .sized;
+        phase = h .phase;
+        tags = h .tags;
+        roots = h .roots;
+        root = h .root;
+        nillable = nil-more (s .nillable) (lastType (s .types)) (g .blocks) (last-block l) (h .nillable);
+        types = h .types ∙ same-count withNil (g .blocks);
+        steps = h .steps ∙ same-steps withNil (g .blocks) (λ d. refl);
+        types-most = h .types-most;
+        steps-most = h .steps-most;
+        some = h .some;
+        fresh = λ p. absurd (outside p);
+        blocks = nil-blocks t (g .blocks) (h .blocks);
+        empty = h .empty;
+      }
+
+  -- in a block by states
+  module _ (in-block : rank (g .phase) ≡ rank InBlock) where
+    own-block : suc (lastType (s .types)) ≡ length (g .blocks)
+    own-block = last-block (omega arith)
 
     phase-block : s .phase ≡ InBlock
     phase-block = h .phase ∙ only (g .phase) in-block
@@ -178,14 +210,15 @@ module _ {g : Stated} {s : Progress} {t : SchemaTables} (h : Holds g s t) where
           tags = h .tags;
           roots = h .roots;
           root = h .root;
-          types = h .types ∙ final-count q (g .blocks);
-          steps = h .steps ∙ final-steps q (g .blocks);
+          nillable = nil-same (s .nillable) (withFinal q) (g .blocks) (λ d. refl) (h .nillable);
+          types = h .types ∙ same-count (withFinal q) (g .blocks);
+          steps = h .steps ∙ same-steps (withFinal q) (g .blocks) (λ d. refl);
           types-most = h .types-most;
           steps-most = h .steps-most;
           some = λ p. h .some (omega arith);
           fresh = λ p. absurd (omega arith);
-          blocks = final-blocks t (h .sized) (g .blocks) a q last-block (omega arith) (h .blocks);
-          empty = accepting-empty (h .empty) a q (omega (arith, h .types, last-block));
+          blocks = final-blocks t (h .sized) (g .blocks) a q own-block (omega arith) (h .blocks);
+          empty = accepting-empty (h .empty) a q (omega (arith, h .types, own-block));
         }
 
     after-step : (i p : ℕ) (j : TypeNo) (q : ℕ) → stepCount (g .blocks) < mostSteps
@@ -202,14 +235,15 @@ module _ {g : Stated} {s : Progress} {t : SchemaTables} (h : Holds g s t) where
           tags = h .tags;
           roots = h .roots;
           root = h .root;
-          types = h .types ∙ step-count y (g .blocks);
-          steps = omega (arith, h .steps, step-steps y (g .blocks) some-blocks);
+          nillable = nil-same (s .nillable) (withStep y) (g .blocks) (λ d. refl) (h .nillable);
+          types = h .types ∙ same-count (withStep y) (g .blocks);
+          steps = omega (arith, h .steps, step-steps y (g .blocks) (omega (arith, own-block)));
           types-most = h .types-most;
           steps-most = omega (arith, h .steps);
           some = λ p. h .some (omega arith);
           fresh = λ p. absurd (omega arith);
-          blocks = step-blocks t (h .sized) (g .blocks) a m p (j .0) q last-block (omega arith) n (omega arith) (h .blocks);
-          empty = step-empty (h .empty) a m p (j .0) q (omega (arith, h .types, last-block)) (omega (arith, h .steps));
+          blocks = step-blocks t (h .sized) (g .blocks) a m p (j .0) q own-block (omega arith) n (omega arith) (h .blocks);
+          empty = step-empty (h .empty) a m p (j .0) q (omega (arith, h .types, own-block)) (omega (arith, h .steps));
         }
 
   -- after a command that passed its questions, they hold what is stated then
@@ -226,6 +260,7 @@ module _ {g : Stated} {s : Progress} {t : SchemaTables} (h : Holds g s t) where
       rw (n, ← h .tags)
       (stays AfterRoot (s .tags) (length (g .roots) + 1) (set (s .root) (length (g .roots)) (a .0)) (a .0 ∷ g .roots) (omega arith) more
       (λ l. h .some (r .0)) (omega arith))
+  after-holds i Nil e = let r = passed g Nil e in after-nil i (r .0) (r .2)
   after-holds i Done e =
       let r = passed g Done e in
       rw (← h .tags)
@@ -246,7 +281,8 @@ module _ {g : Stated} {s : Progress} {t : SchemaTables} (h : Holds g s t) where
         tags = h .tags;
         roots = h .roots;
         root = h .root;
-        types = h .types ∙ automaton-count e (g .blocks);
+        nillable = nil-same (s .nillable) (withAutomaton e) (g .blocks) (λ d. refl) (h .nillable);
+        types = h .types ∙ same-count (withAutomaton e) (g .blocks);
         steps = automaton-total e (g .blocks) (h .fresh inside) (omega arith) (h .steps);
         types-most = h .types-most;
         steps-most = fits;
@@ -267,15 +303,17 @@ module _ {g : Stated} {s : Progress} {t : SchemaTables} (h : Holds g s t) where
             record {
               tags = h .tags i;
               blocks =
-                  (ap (λ (n : ℕ). map (blockAt (valueIn s t)) (upFrom 0 n)) (h .types) ∙ blocks-back s t (g .blocks) (h .blocks)) i;
+                  (ap (λ (n : ℕ). map (blockAt (valueIn s t)) (upFrom 0 n)) (h .types)
+                  ∙ blocks-back s t (g .blocks) (h .nillable .holds) (h .blocks)) i;
               roots = (ap (rootsOf (s .root)) (h .roots) ∙ roots-back (h .root)) i;
             };
         unused =
             record {
-              root = rw (h .roots) (h .root .empty);
+              root = rw (h .roots) (h .root .standing .empty);
               tag = empty .tag;
               states = empty .states;
               accepting = empty .accepting;
+              nillable = rw (h .types, ← flags-count (g .blocks)) (h .nillable .empty);
               steps = empty .counts;
               from = empty .from;
               by = empty .by;

@@ -14,7 +14,7 @@ use Rattle.expression.specs.Expression.{Expression as Exp}
 use Rattle.expression.specs.Automaton.{uses}
 use Rattle.expression.specs.Tests.{accepts, allSteps}
 use Rattle.expression.specs.Answer.{setOf}
-use Rattle.commands.specs.File.{Draft, current, stepCount, withAutomaton}
+use Rattle.commands.specs.File.{Draft, current, stepCount, withAutomaton, inCurrent}
 use Rattle.commands.specs.Value.{EmptyFrom}
 use Rattle.commands.proofs.SchemaTables.{SchemaTables}
 use Rattle.commands.proofs.Holding.{StepsHold, DraftHolds, BlocksHold, Sized, EmptyPast}
@@ -50,13 +50,9 @@ withParts t a states accepting count =
 abbrev pub tablesWith : SchemaTables → ℕ → ℕ → Exp → SchemaTables
 tablesWith t a n e = withSteps (withParts t a (suc (uses e)) (setOf (accepts e) mostStates) (length (allSteps e))) n (allSteps e)
 
--- the number of blocks stays, and the steps are as many more
-pub automaton-count : (e : Exp) (ds : List Draft) → length ds ≡ length (withAutomaton e ds)
-automaton-count e [] = refl
-automaton-count e (d ∷ ds) = refl
-
+-- the steps are as many more
 pub automaton-total : (e : Exp) (ds : List Draft) {n : ℕ} → current ds .steps ≡ [] → 0 < length ds → n ≡ stepCount ds
-    → n + length (allSteps e) ≡ stepCount (withAutomaton e ds)
+    → n + length (allSteps e) ≡ stepCount (inCurrent (withAutomaton e) ds)
 automaton-total e [] f l q = absurd (omega arith)
 automaton-total e (d ∷ ds) f l q =
     let z : length (d .steps) ≡ 0 = ap length f in
@@ -138,7 +134,7 @@ module _ (t : SchemaTables) (k : Sized t) (a n : ℕ) (e : Exp) where
 
   -- the automaton is the block that the file is in, which has no step yet
   pub automaton-blocks : (bs : List Draft) → suc a ≡ length bs → a < mostTypes → n ≡ stepCount bs → current bs .steps ≡ []
-      → n + length (allSteps e) ≤ mostSteps → BlocksHold t bs → BlocksHold (tablesWith t a n e) (withAutomaton e bs)
+      → n + length (allSteps e) ≤ mostSteps → BlocksHold t bs → BlocksHold (tablesWith t a n e) (inCurrent (withAutomaton e) bs)
   automaton-blocks [] p l q f m h = absurd (omega arith)
   automaton-blocks (d ∷ ds) p l q f m h =
       let c : length ds ≡ a = omega arith in

@@ -11,9 +11,10 @@ use Rattle.commands.specs.Questions.{rank}
 use Rattle.sdtd.specs.Schema.{Step}
 use Rattle.commands.specs.File.{Draft, Stated, current, stepCount}
 use Rattle.commands.specs.Value.{EmptyFrom}
-use Rattle.commands.specs.Progress.{seenBy, lastType, givenAlready, rootGiven, tagAfter, statesAfter, acceptingAfter}
+use Rattle.commands.specs.Progress.{seenBy, lastType, givenAlready, rootGiven, nilGiven, tagAfter, statesAfter, acceptingAfter}
 use Rattle.commands.proofs.SchemaTables.{SchemaTables}
 use Rattle.commands.proofs.RootTables.{RootTable}
+use Rattle.commands.proofs.NilTables.{NilTable}
 use Rattle.commands.specs.Progress.{countsAfter, fromAfter, byAfter, toAfter}
 use Rattle.commands.specs.declared.progress.Phase.the-variants.{InBlock, InExpression}
 use Rattle.commands.specs.declared.progress.Progress.{Progress}
@@ -24,7 +25,7 @@ abbrev pub seenIn : Progress → SchemaTables → Command → Seen
 seenIn s t c =
     let a = lastType (s .types) in
     seenBy s (getD (t .states) a 0) (record { 0 = getD (t .accepting) a 0 })
-    (givenAlready (t .from) (t .by) (t .to) (s .steps) (getD (t .counts) a 0) c || rootGiven s c)
+    (givenAlready (t .from) (t .by) (t .to) (s .steps) (getD (t .counts) a 0) c || (rootGiven s c || nilGiven s c))
 
 -- the tables after a command that passed its questions
 abbrev pub tablesAfter : Progress → SchemaTables → Command → SchemaTables
@@ -85,6 +86,7 @@ pub record Holds (g : Stated) (s : Progress) (t : SchemaTables) : Type 0 where
   pub tags : s .tags ≡ g .tags
   pub roots : s .roots ≡ length (g .roots)
   pub root : RootTable (s .root) (g .roots)
+  pub nillable : NilTable (s .nillable) (g .blocks)
   pub types : s .types ≡ length (g .blocks)
   pub steps : s .steps ≡ stepCount (g .blocks)
   pub types-most : s .types ≤ mostTypes

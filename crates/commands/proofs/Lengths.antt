@@ -19,9 +19,10 @@ use Rattle.expression.proofs.WholeContents.{first-command}
 use Rattle.sdtd.specs.Limits.{mostStates}
 use Rattle.commands.specs.Questions.{rank}
 use Rattle.commands.specs.declared.progress.Phase.the-variants.{BeforeTypes, InBlock, InExpression, AfterRoot}
-use Rattle.commands.specs.File.{Draft, Stated, current, stepCount, withFinal, withStep, after, states, commands, rootCount, OldWithOneRoot, mostBytes}
+use Rattle.commands.specs.File.{Draft, Stated, current, stepCount, withFinal, withStep, inCurrent, after, states, commands, rootCount}
+use Rattle.commands.specs.File.{OldWithOneRoot, mostBytes}
 use Rattle.command.specs.declared.Command.{Command}
-use Rattle.command.specs.declared.Command.the-variants.{Tags, TypeBlock, Final, Step, Root, Done, Expression, NoCommand}
+use Rattle.command.specs.declared.Command.the-variants.{Tags, TypeBlock, Final, Step, Root, Nil, Done, Expression, NoCommand}
 use Rattle.commands.proofs.Passing.{Passed, Kept, kept-to-end}
 use Rattle.commands.proofs.StatedLimits.{Each, DraftWithin, StatedWithin, nothing-within, type-phase, within-kept}
 
@@ -32,6 +33,7 @@ old-command (TypeBlock g s) t = tt
 old-command (Final q) t = tt
 old-command (Step p j q) t = tt
 old-command (Root a) t = tt
+old-command Nil t = absurd t
 old-command Done t = tt
 old-command (Expression x) t = tt
 old-command NoCommand t = t
@@ -77,22 +79,23 @@ record Between (cs : List Command) (i r : ℕ) : Type 0 where
 
 -- a FINAL that is new counts 2, a STEP 4
 final-bytes : {tags : ℕ} (q : ℕ) (ds : List Draft) → Each (DraftWithin tags) ds → q < current ds .states
-    → ¬ T (member q (current ds .accepting)) → bytesIn ds + 2 ≤ bytesIn (withFinal q ds)
+    → ¬ T (member q (current ds .accepting)) → bytesIn ds + 2 ≤ bytesIn (inCurrent (withFinal q) ds)
 final-bytes q [] every l new = absurd (omega arith)
 final-bytes q (d ∷ ds) every l new =
     let h = every d (List·Memᴰ·head refl) in
     omega (arith, more-members q (d .accepting) (omega arith) (h .below) new)
 
-step-bytes : (s : StepOf) (ds : List Draft) → s .from < current ds .states → bytesIn ds + 4 ≤ bytesIn (withStep s ds)
+step-bytes : (s : StepOf) (ds : List Draft) → s .from < current ds .states → bytesIn ds + 4 ≤ bytesIn (inCurrent (withStep s) ds)
 step-bytes s [] l = absurd (omega arith)
 step-bytes s (d ∷ ds) l = omega arith
 
--- each command that passes its questions counts its bytes
-counted : (i : ℕ) (g : Stated) (c : Command) → Passed g c → StatedWithin g → i ≤ otherBytes (rank (g .phase)) (length (g .roots)) + bytesIn (g .blocks)
+-- each old command that passes its questions counts its bytes
+counted : (i : ℕ) (g : Stated) (c : Command) → T (isOld c) → Passed g c → StatedWithin g
+    → i ≤ otherBytes (rank (g .phase)) (length (g .roots)) + bytesIn (g .blocks)
     → i + size c ≤ otherBytes (rank (after g i c .phase)) (length (after g i c .roots)) + bytesIn (after g i c .blocks)
 unfolding after
-counted i g (Tags n) p h l = omega arith
-counted i g (TypeBlock t s) p h l =
+counted i g (Tags n) old p h l = omega arith
+counted i g (TypeBlock t s) old p h l =
     let o = type-phase s in
     let r = length (g .roots) in
     let before = before-done (rank (g .phase)) r (p .0) (omega arith) in
@@ -101,12 +104,13 @@ counted i g (TypeBlock t s) p h l =
   where
     one-more : (r n : ℕ) → i ≤ 2 + 2 * r + n → i + 3 ≤ 2 + 2 * r + (n + (3 + 2 * length (members noStates) + 4 * 0))
     one-more r n l = omega arith
-counted i g (Final q) p h l = omega (arith, final-bytes q (g .blocks) (h .blocks) (p .1) (p .2))
-counted i g (Step x j y) p h l = omega (arith, step-bytes (step x (j .0) y) (g .blocks) (p .1))
-counted i g (Root a) p h l = omega arith
-counted i g Done p h l = omega arith
-counted i g (Expression x) p h l = absurd p
-counted i g NoCommand p h l = absurd p
+counted i g (Final q) old p h l = omega (arith, final-bytes q (g .blocks) (h .blocks) (p .1) (p .2))
+counted i g (Step x j y) old p h l = omega (arith, step-bytes (step x (j .0) y) (g .blocks) (p .1))
+counted i g (Root a) old p h l = omega arith
+counted i g Nil old p h l = absurd old
+counted i g Done old p h l = omega arith
+counted i g (Expression x) old p h l = absurd p
+counted i g NoCommand old p h l = absurd p
 
 -- where no command is left there is none
 none-at-end : (file : List ℕ) (i : ℕ) → length file ≤ i → commandAt file i ≡ NoCommand
@@ -120,6 +124,7 @@ roots-after i g (TypeBlock t s) = omega arith
 roots-after i g (Final q) = omega arith
 roots-after i g (Step p j q) = omega arith
 roots-after i g (Root a) = omega arith
+roots-after i g Nil = omega arith
 roots-after i g Done = omega arith
 roots-after i g (Expression x) = omega arith
 roots-after i g NoCommand = omega arith
@@ -158,10 +163,16 @@ module _ (cs : List Command) (every : (c : Command) → List·Memᴰ c cs → T 
   counted-kept : Kept (fileOf cs) (λ i g. Counted i g × Between cs i (length (g .roots)))
   counted-kept =
       record {
-        by-command = λ i g c e p h. (
-          record { within = within-kept i g c p (h .0 .within); bytes = counted i g c p (h .0 .within) (h .0 .bytes) },
-          ⊎-elim (λ n. rw (roots-after i g c) (rw e at (n .1))) (λ n. absurd (subst (Passed g) (sym e ∙ n) p)) (next-command i (length (g .roots)) (h .1)),
-        );
+        by-command = λ i g c e p h.
+            let w = h .0 .within in
+            ⊎-elim
+            (λ n.
+            let o : Onward i (length (g .roots)) c = rw e at n in (
+              record { within = within-kept i g c p w; bytes = counted i g c (o .0) p w (h .0 .bytes) },
+              rw (roots-after i g c) (o .1),
+            ))
+            (λ n. absurd (subst (Passed g) (sym e ∙ n) p))
+            (next-command i (length (g .roots)) (h .1));
         by-expression = λ i g e ns p r h.
             let f = first-command (fileOf cs) i (r .content) in
             ⊎-elim (λ n. absurd (rw (f .is) at (n .0))) (λ n. absurd (let z : _≡_ {A = ℕ} 0 1 = cc in omega arith))

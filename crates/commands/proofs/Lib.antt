@@ -2,7 +2,9 @@
 pub mod LayingLaws
 pub mod GroupLaws
 pub mod SchemaTables
+pub mod Standing
 pub mod RootTables
+pub mod NilTables
 pub mod Passing
 pub mod Holding
 pub mod TableLaws

@@ -12,10 +12,11 @@ use lib.ListN.{length, getD}
 use borrow.Author.Tests.{lt-ltb, eq-eqb, ne-eqb}
 use Rattle.sdtd.specs.Schema.{Schema, Block, step, noBlock, blockOf, stay}
 use Rattle.sdtd.specs.Schema.{Step as StepOf}
+use Rattle.sdtd.specs.Tree.{plain as opened-plainly}
 use Rattle.sdtd.specs.Trim.{SomeRootBears, none}
 use Rattle.sdtd.specs.Competition.{Competition, of-roots, in-type}
 use Rattle.sdtd.proofs.Basics.{is-false}
-use Rattle.sdtd.proofs.Bearing.{word-bears}
+use Rattle.sdtd.proofs.Bearing.{by-bears, word-bears}
 use Rattle.sdtd.proofs.Rivals.{compete-rivals}
 use Rattle.schema.specs.States.{member, insert}
 use Rattle.schema.proofs.Bits.{mem-members}
@@ -189,7 +190,7 @@ first-new n l = is-false (member n (firstStates n)) (λ m. omega (arith, member-
 
 -- a block with n FINALs whose TYPE is at the place i, and what is stated with these blocks
 abbrev plain : ℕ → ℕ → Draft
-plain i n = record { place = i; tag = 0; states = mostStates; accepting = firstStates n; steps = [] }
+plain i n = record { place = i; tag = 0; nillable = false; states = mostStates; accepting = firstStates n; steps = [] }
 
 abbrev stated : Phase → List Draft → List Name → Stated
 stated phase ds ns = record { phase = phase; tags = mostTags; blocks = ds; names = ns; roots = [] }
@@ -237,7 +238,8 @@ step-new (suc n) m l = rw (pair-differs n m l, step-new n m (omega arith))
 
 -- the first block with n steps
 abbrev stepped : ℕ → ℕ → Draft
-stepped i n = record { place = i; tag = 0; states = mostStates; accepting = firstStates mostStates; steps = stepsGiven n }
+stepped i n =
+    record { place = i; tag = 0; nillable = false; states = mostStates; accepting = firstStates mostStates; steps = stepsGiven n }
 
 -- a run of STEPs
 steps-pass : {cs : List Command} (i n : ℕ) → n ≤ mostSteps → CommandsPass cs (stated InBlock (plain i mostStates ∷ []) [])
@@ -322,7 +324,11 @@ root-bears : SomeRootBears (schemaBy allStated)
 unfolding allBlocks schemaBy
 root-bears =
     let m = subst (λ (b : Block). List·Memᴰ 0 (b .accepting)) (sym (first-block firstCommands firstBlock (mostTypes - 1) [])) start-accepts in
-    record { type = 0; is-root = List·Memᴰ·head refl; bears = word-bears 0 (record { last = 0; leads = stay; accepting = m }) none }
+    record {
+      type = 0;
+      is-root = List·Memᴰ·head refl;
+      bears = by-bears opened-plainly (word-bears 0 (record { last = 0; leads = stay; accepting = m }) none);
+    }
 
 -- all the steps carry the type 1
 abbrev OneType : List StepOf → Type 0

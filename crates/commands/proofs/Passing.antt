@@ -14,15 +14,16 @@ use Rattle.sdtd.specs.Limits.{mostTags, mostTypes, mostRoots, mostStates, mostS
 use Rattle.schema.specs.States.{member}
 use Rattle.command.specs.Command.{commandAt, isCommand, size}
 use Rattle.command.specs.declared.Command.{Command}
-use Rattle.command.specs.declared.Command.the-variants.{Tags, TypeBlock, Final, Step, Root, Done, Expression, NoCommand}
+use Rattle.command.specs.declared.Command.the-variants.{Tags, TypeBlock, Final, Step, Root, Nil, Done, Expression, NoCommand}
 use Rattle.command.proofs.AskedLaws.{Numbered, all-yes, first-number}
 use Rattle.expression.specs.Expression.{Expression as Exp}
 use Rattle.expression.specs.Tests.{allSteps}
 use Rattle.expression.specs.Content.{Name, Content, broken, whole, contentAt}
 use Rattle.expression.proofs.WholeContents.{NumberInside, broken-number}
-use Rattle.commands.specs.Questions.{rank, samePhase, inOrder, inRange, withinCounts, notGiven, questions, failed}
+use Rattle.commands.specs.Questions.{rank, samePhase, inTypeBlock, inOrder, inRange, withinCounts, notGiven, questions, failed}
 use Rattle.commands.specs.File.{Stated, nothingStated, current, stepCount, seenOf, after, afterExpression}
 use Rattle.commands.specs.File.{Commands, stopped, states, byContent, commandsFrom, commands}
+use Rattle.commands.specs.declared.progress.Phase.{Phase}
 use Rattle.commands.specs.declared.progress.Phase.the-variants.{BeforeTags, BeforeTypes, InBlock, InExpression, AfterExpression, AfterRoot}
 use Rattle.commands.specs.declared.progress.Phase.the-variants.{AfterDone}
 
@@ -40,6 +41,8 @@ Passed g (Step p j q) =
 Passed g (Root a) =
     (rank InBlock ≤ rank (g .phase)) × (rank (g .phase) ≤ rank AfterRoot) × (rank (g .phase) ≢ rank InExpression)
     × (a .0 < length (g .blocks)) × (length (g .roots) < mostRoots)
+Passed g Nil =
+    (rank InBlock ≤ rank (g .phase)) × (rank (g .phase) ≤ rank AfterExpression) × (rank (g .phase) ≢ rank InExpression)
 Passed g Done = rank (g .phase) ≡ rank AfterRoot
 Passed g (Expression x) = ⊥
 Passed g NoCommand = ⊥
@@ -53,22 +56,21 @@ or-parts false b t = inr t
 either-is : (n a b : ℕ) → T (eqb n a || eqb n b) → (n ≡ a) ⊎ (n ≡ b)
 either-is n a b t = ⊎-elim (λ h. inl (eqb→eq n a h)) (λ h. inr (eqb→eq n b h)) (or-parts (eqb n a) (eqb n b) t)
 
--- where a block has ended or can end; where a ROOT can stand, and where a TYPE
-block-ends : (n : ℕ) → T (eqb n (rank InBlock) || eqb n (rank AfterExpression))
-    → (rank InBlock ≤ n) × (n ≤ rank AfterExpression) × (n ≢ rank InExpression)
-block-ends n t = ⊎-elim (λ e. omega arith) (λ e. omega arith) (either-is n (rank InBlock) (rank AfterExpression) t)
+-- in a type's block, where a NIL can stand; where a ROOT can stand, and where a TYPE
+in-type-block : (p : Phase) → T (inTypeBlock p) → (rank InBlock ≤ rank p) × (rank p ≤ rank AfterExpression) × (rank p ≢ rank InExpression)
+in-type-block p t = ⊎-elim (λ e. omega arith) (λ e. omega arith) (either-is (rank p) (rank InBlock) (rank AfterExpression) t)
 
-before-root : (n : ℕ) → T (eqb n (rank AfterRoot) || (eqb n (rank InBlock) || eqb n (rank AfterExpression)))
-    → (rank InBlock ≤ n) × (n ≤ rank AfterRoot) × (n ≢ rank InExpression)
-before-root n t =
-    ⊎-elim (λ h. omega (arith, eqb→eq n (rank AfterRoot) h)) (λ h. omega (arith, block-ends n h))
-    (or-parts (eqb n (rank AfterRoot)) (eqb n (rank InBlock) || eqb n (rank AfterExpression)) t)
+before-root : (p : Phase) → T (samePhase p AfterRoot || inTypeBlock p)
+    → (rank InBlock ≤ rank p) × (rank p ≤ rank AfterRoot) × (rank p ≢ rank InExpression)
+before-root p t =
+    ⊎-elim (λ h. omega (arith, eqb→eq (rank p) (rank AfterRoot) h)) (λ h. omega (arith, in-type-block p h))
+    (or-parts (samePhase p AfterRoot) (inTypeBlock p) t)
 
-before-type : (n : ℕ) → T (eqb n (rank BeforeTypes) || (eqb n (rank InBlock) || eqb n (rank AfterExpression)))
-    → (rank BeforeTypes ≤ n) × (n ≤ rank AfterExpression) × (n ≢ rank InExpression)
-before-type n t =
-    ⊎-elim (λ h. omega (arith, eqb→eq n (rank BeforeTypes) h)) (λ h. omega (arith, block-ends n h))
-    (or-parts (eqb n (rank BeforeTypes)) (eqb n (rank InBlock) || eqb n (rank AfterExpression)) t)
+before-type : (p : Phase) → T (samePhase p BeforeTypes || inTypeBlock p)
+    → (rank BeforeTypes ≤ rank p) × (rank p ≤ rank AfterExpression) × (rank p ≢ rank InExpression)
+before-type p t =
+    ⊎-elim (λ h. omega (arith, eqb→eq (rank p) (rank BeforeTypes) h)) (λ h. omega (arith, in-type-block p h))
+    (or-parts (samePhase p BeforeTypes) (inTypeBlock p) t)
 
 answered : (g : Stated) (c : Command) → let s = seenOf g c in failed s c ≡ 0
     → T (isCommand c) × T (inOrder s c) × T (inRange s c) × T (withinCounts s c) × T (notGiven s c)
@@ -84,7 +86,7 @@ passed g (Tags n) z =
 passed g (TypeBlock t s) z =
     let h = answered g (TypeBlock t s) z in
     let r = and-parts (ltb (t .0) (g .tags)) (leb s mostStates) (h .2) in
-    let o = before-type (rank (g .phase)) (h .1) in
+    let o = before-type (g .phase) (h .1) in
     let few = ltb→lt (length (g .blocks)) mostTypes (h .3) in
     (o .0, o .1, o .2, ltb→lt (t .0) (g .tags) (r .0), leb→le s mostStates (r .1), few)
 passed g (Final q) z =
@@ -99,8 +101,9 @@ passed g (Step p j q) z =
     omega (arith, eqb→eq, ltb→lt)
 passed g (Root a) z =
     let h = answered g (Root a) z in
-    let o = before-root (rank (g .phase)) (h .1) in
+    let o = before-root (g .phase) (h .1) in
     (o .0, o .1, o .2, ltb→lt (a .0) (length (g .blocks)) (h .2), ltb→lt (length (g .roots)) mostRoots (h .3))
+passed g Nil z = in-type-block (g .phase) (answered g Nil z .1)
 passed g Done z = let h = answered g Done z in omega (arith, eqb→eq)
 passed g (Expression x) z = absurd (omega arith)
 passed g NoCommand z = absurd (omega arith)

@@ -12,7 +12,7 @@ use lib.ListN.{length, getD, set, length-set, replicate, length-replicate, getD-
 use lib.Seq.{getD-set-same, getD-set-other}
 use Rattle.sdtd.specs.Limits.{mostTypes}
 use Rattle.command.specs.declared.Command.{Command}
-use Rattle.command.specs.declared.Command.the-variants.{Tags, TypeBlock, Final, Step, Root, Done, Expression, NoCommand}
+use Rattle.command.specs.declared.Command.the-variants.{Tags, TypeBlock, Final, Step, Root, Nil, Done, Expression, NoCommand}
 use Rattle.expression.specs.Content.{Name}
 use Rattle.expression.proofs.WholeContents.{Rise, rise-most, TypesBelow}
 use Rattle.commands.specs.File.{Stated, after, unknownIn}
@@ -140,6 +140,7 @@ places-after g h l b (TypeBlock t s) p = same-places h (omega arith)
 places-after g h l b (Final q) p = same-places h (omega arith)
 places-after g {i = i} h l b (Step x j y) p = name-places h (j .0) i (p .4) (omega arith) b l
 places-after g h l b (Root a) p = same-places h (omega arith)
+places-after g h l b Nil p = same-places h (omega arith)
 places-after g h l b Done p = same-places h (omega arith)
 places-after g h l b (Expression x) p = absurd p
 places-after g h l b NoCommand p = absurd p

@@ -2,20 +2,19 @@
 use mathlib.Core.Path.{_≡_, refl, sym, ap, _∙_}
 use mathlib.Core.Bool.{Bool, true, false, _&&_, _||_, or-comm, or-assoc}
 use mathlib.Core.List.{List, [], _∷_, _++_, reverse, reverse-cons, List·Memᴰ, List·Memᴰ·head, List·Memᴰ·tail}
-use Prim.Native.Nat.{ℕ, _+_, _≤_, _<_}
+use Prim.Native.Nat.{ℕ, _+_, _<_}
 use native.Mathlib.Omega.{arith}
 use borrow.Author.Tests.{lt-ltb, eq-eqb}
 use lib.Dec.{T, eqb, ltb, eqb→eq}
-use lib.ListN.{length, getD, set, replicate, length-set, length-replicate}
-use lib.Seq.{getD-set-same, getD-set-other}
+use lib.ListN.{length, getD, set, replicate}
 use Rattle.sdtd.specs.Limits.{mostTypes, mostRoots}
 use Rattle.schema.specs.Value.{upFrom, rootsOf}
 use Rattle.schema.specs.Trimming.{MarksExactly}
-use Rattle.schema.proofs.Values.{same-everywhere, up-last}
+use Rattle.schema.proofs.Values.{up-last}
 use Rattle.expression.proofs.SetLaws.{same-test}
 use Rattle.commands.specs.File.{hasRoot}
-use Rattle.commands.specs.Value.{EmptyFrom}
 use Rattle.commands.specs.Progress.{rootAmong}
+use Rattle.commands.proofs.Standing.{StandsIn, Standing, none-stands, set-stands}
 
 -- the test says whether the type is one of them
 pub has-says : (a : ℕ) (xs : List ℕ) → T (hasRoot a xs) → List·Memᴰ a xs
@@ -56,21 +55,13 @@ marked-given table n a marked marks l =
     rw (lt-ltb a mostTypes l)
     (same-test (getD marked a false) (hasRoot a roots) (λ t. has-passes a roots (marks a .0 t .1)) (λ t. marks a .1 (l, has-says a roots t)))
 
--- the roots, the last first, stand in the table from its start on
-abbrev RootsHold : List ℕ → List ℕ → Type 0
-RootsHold table [] = Unit
-RootsHold table (a ∷ rs) = (getD table (length rs) 0 ≡ a) × RootsHold table rs
-
 -- The table holds the roots, each of them below the limit, and past them 0.
 pub record RootTable (table roots : List ℕ) : Type 0 where
-  pub long : length table ≡ mostRoots
-  pub most : length roots ≤ mostRoots
-  pub holds : RootsHold table roots
-  pub empty : EmptyFrom (length roots) table
+  pub standing : Standing 0 mostRoots table roots
   pub below : (a : ℕ) → List·Memᴰ a roots → a < mostTypes
 
 -- the first entries of the table are the roots in file order
-roots-held : (table roots : List ℕ) → RootsHold table roots → rootsOf table (length roots) ≡ reverse roots
+roots-held : (table roots : List ℕ) → StandsIn 0 table roots → rootsOf table (length roots) ≡ reverse roots
 unfolding rootsOf upFrom
 roots-held table [] h = refl
 roots-held table (a ∷ rs) h =
@@ -81,7 +72,7 @@ roots-held table (a ∷ rs) h =
 
 module _ {table roots : List ℕ} (t : RootTable table roots) where
   pub roots-back : rootsOf table (length roots) ≡ reverse roots
-  roots-back = roots-held table roots (t .holds)
+  roots-back = roots-held table roots (t .standing .holds)
 
   -- a type is found in the table exactly where it is one of the roots
   pub given-back : (a : ℕ) → rootAmong table (length roots) a ≡ hasRoot a roots
@@ -98,29 +89,13 @@ module _ {table roots : List ℕ} (t : RootTable table roots) where
   -- one root more
   pub root-more : (a : ℕ) → length roots < mostRoots → a < mostTypes → RootTable (set table (length roots) a) (a ∷ roots)
   root-more a few l =
-      record {
-        long = length-set table (length roots) a ∙ t .long;
-        most = few;
-        holds = (getD-set-same table (length roots) a 0 (omega (arith, t .long)), keep roots (omega arith) (t .holds));
-        empty = λ i h. getD-set-other table (length roots) i a 0 (omega arith) ∙ t .empty i (omega arith);
-        below = λ b m. own b m;
-      }
+      let h = t .standing in
+      record { standing = set-stands table roots a (h .long) few (h .holds) (λ i k. h .empty i (omega arith)); below = own }
     where
-      keep : (rs : List ℕ) → length rs ≤ length roots → RootsHold table rs → RootsHold (set table (length roots) a) rs
-      keep [] h k = tt
-      keep (r ∷ rs) h k = (getD-set-other table (length roots) (length rs) a 0 (omega arith) ∙ k .0, keep rs (omega arith) (k .1))
-
       own : (b : ℕ) → List·Memᴰ b (a ∷ roots) → b < mostTypes
       own b (List·Memᴰ·head e) = rw e l
       own b (List·Memᴰ·tail m) = t .below b m
 
 -- no roots
 pub no-roots : RootTable (replicate mostRoots 0) []
-no-roots =
-    record {
-      long = length-replicate {A = ℕ} mostRoots 0;
-      most = omega arith;
-      holds = tt;
-      empty = λ i l. same-everywhere {A = ℕ} 0 mostRoots i;
-      below = λ a m. absurd (has-passes a [] m);
-    }
+no-roots = record { standing = none-stands 0 mostRoots; below = λ a m. absurd (has-passes a [] m) }

@@ -8,7 +8,7 @@ use borrow.Author.Tests.{ne-eqb}
 use lib.ListN.{length, length-append}
 use Rattle.command.specs.Command.{bytesOf, fileOf, size}
 use Rattle.command.specs.declared.Command.{Command}
-use Rattle.command.specs.declared.Command.the-variants.{Tags, TypeBlock, Final, Step, Root, Done, Expression, NoCommand}
+use Rattle.command.specs.declared.Command.the-variants.{Tags, TypeBlock, Final, Step, Root, Nil, Done, Expression, NoCommand}
 use Rattle.command.proofs.CommandLaws.{size-some, file-more, length-more, read-back}
 use Rattle.commands.specs.Questions.{rank, samePhase, failed}
 use Rattle.commands.specs.File.{Stated, nothingStated, seenOf, after, states, commandsFrom, commands}
@@ -24,6 +24,7 @@ not-done g (TypeBlock t s) p = ne-eqb (rank (g .phase)) (rank AfterDone) (λ e. 
 not-done g (Final q) p = ne-eqb (rank (g .phase)) (rank AfterDone) (λ e. omega arith)
 not-done g (Step x j y) p = ne-eqb (rank (g .phase)) (rank AfterDone) (λ e. omega arith)
 not-done g (Root a) p = ne-eqb (rank (g .phase)) (rank AfterDone) (λ e. omega arith)
+not-done g Nil p = ne-eqb (rank (g .phase)) (rank AfterDone) (λ e. omega arith)
 not-done g Done p = ne-eqb (rank (g .phase)) (rank AfterDone) (λ e. omega arith)
 not-done g (Expression x) p = absurd p
 not-done g NoCommand p = absurd p
@@ -35,6 +36,7 @@ not-inside g (TypeBlock t s) p = ne-eqb (rank (g .phase)) (rank InExpression) (p
 not-inside g (Final q) p = ne-eqb (rank (g .phase)) (rank InExpression) (λ e. omega arith)
 not-inside g (Step x j y) p = ne-eqb (rank (g .phase)) (rank InExpression) (λ e. omega arith)
 not-inside g (Root a) p = ne-eqb (rank (g .phase)) (rank InExpression) (p .2)
+not-inside g Nil p = ne-eqb (rank (g .phase)) (rank InExpression) (p .2)
 not-inside g Done p = ne-eqb (rank (g .phase)) (rank InExpression) (λ e. omega arith)
 not-inside g (Expression x) p = absurd p
 not-inside g NoCommand p = absurd p

@@ -20,21 +20,21 @@ use Rattle.expression.specs.Answer.{setOf}
 use Rattle.expression.proofs.SetLaws.{same-test}
 use Rattle.expression.proofs.TestSets.{member-set}
 use Rattle.expression.proofs.TestLaws.{accepts-below}
-use Rattle.expression.proofs.AutomatonLaws.{automaton-of}
+use Rattle.expression.proofs.AutomatonLaws.{automaton-of, automaton-flag}
 use Rattle.sdtd.specs.Schema.{Block, Schema}
 use Rattle.sdtd.specs.declared.Tag.{Tag}
 use Rattle.command.specs.Command.{commandAt, size}
 use Rattle.command.specs.declared.Command.{Command}
-use Rattle.command.specs.declared.Command.the-variants.{Tags, TypeBlock, Final, Step as StepCommand, Root, Done, Expression, NoCommand}
-use Rattle.sdtd.specs.Schema.{Step, step}
+use Rattle.command.specs.declared.Command.the-variants.{Tags, TypeBlock, Final, Step as StepCommand, Root, Nil, Done, Expression, NoCommand}
+use Rattle.sdtd.specs.Schema.{step}
 use Rattle.commands.specs.Written.{ByExpression, Written}
 use Rattle.commands.specs.Questions.{rank}
 use Rattle.commands.specs.declared.progress.Phase.the-variants.{InBlock, InExpression}
 use Rattle.expression.proofs.WholeContents.{typesOf, TypesBelow, whole-content}
-use Rattle.commands.proofs.StatedLimits.{Each, each-none, each-more, each-turned, others, final-others, step-others, automaton-others, type-phase}
+use Rattle.commands.proofs.StatedLimits.{Each, each-none, each-more, each-turned, each-current, others, same-others, type-phase}
 use Rattle.commands.proofs.Passing.{Passed, ExpressionRead, kept-to-end}
 use Rattle.expression.proofs.UseTypes.{named-uses}
-use Rattle.commands.specs.File.{Draft, Stated, withFinal, withStep, after, withAutomaton, afterExpression, current}
+use Rattle.commands.specs.File.{Draft, Stated, current, withFinal, withStep, withNil, inCurrent, after, withAutomaton, afterExpression}
 use Rattle.commands.specs.File.{states, commands, blockBy, schemaBy, StatesSchema}
 use Rattle.expression.proofs.EachLaws.{each-last, each-same}
 
@@ -58,8 +58,8 @@ members-each x (suc n) =
     ap (λ (l : List ℕ). l ++ f n) (members-each x n) ∙ sym (rw z at (each-last f 0 n))
 
 -- the accepting states of an automaton
-accepting-same : (tag : ℕ) (e : Exp) → uses e < mostStates → members (setOf (accepts e) mostStates) ≡ automaton tag e .accepting
-accepting-same tag e l =
+accepting-same : (e : Exp) → uses e < mostStates → members (setOf (accepts e) mostStates) ≡ automaton 0 false e .accepting
+accepting-same e l =
     let f : ℕ → List ℕ = λ q. cond (accepts e q) (q ∷ []) [] in
     members-each (setOf (accepts e) mostStates) mostStates
     ∙ each-same (λ q. cond (member q (setOf (accepts e) mostStates)) (q ∷ []) []) f 0 mostStates (λ q a b.
@@ -69,13 +69,13 @@ accepting-same tag e l =
     (λ k a. rw (is-false (accepts e k) (λ t. omega (arith, accepts-below e k t))))
 
 -- the block that an expression leaves is its automaton
-pub automaton-block : (e : Exp) → uses e < mostStates → (d : Draft) (ds : List Draft)
-    → blockBy (current (withAutomaton e (d ∷ ds))) ≡ automaton (d .tag) e
-automaton-block e l d ds i =
+pub automaton-block : (e : Exp) → uses e < mostStates → (d : Draft) → blockBy (withAutomaton e d) ≡ automaton (d .tag) (d .nillable) e
+automaton-block e l d i =
     record {
       tag = d .tag;
+      nillable = d .nillable;
       states = suc (uses e);
-      accepting = accepting-same (d .tag) e l i;
+      accepting = accepting-same e l i;
       steps = reverse-reverse (allSteps e) i;
     }
 
@@ -92,6 +92,25 @@ record Begun (file : List ℕ) (d : Draft) (states : ℕ) : Type 0 where
   tag : Tag
   begins : commandAt file (d .place) ≡ TypeBlock tag states
   same-tag : d .tag ≡ tag .0
+
+-- a NIL more
+nil-written : {file : List ℕ} (d : Draft) → DraftWritten file d → DraftWritten file (withNil d)
+nil-written d w =
+    record {
+      tag = w .tag;
+      states = w .states;
+      begins = w .begins;
+      same-tag = w .same-tag;
+      stands = λ z.
+          let x = w .stands z in
+          record {
+            expression = x .expression;
+            names = x .names;
+            end = x .end;
+            read = x .read;
+            automaton = automaton-flag (x .expression) (blockBy d) true (x .automaton);
+          };
+    }
 
 -- a block by states, whatever its accepting states and steps
 by-states : {file : List ℕ} {d : Draft} {k : ℕ} → Begun file d (suc k) → DraftWritten file d
@@ -110,20 +129,34 @@ types-below : (xs : List Name) → TypesBelow xs → Each (λ j. j < mostTypes) 
 types-below [] h = each-none (λ j. j < mostTypes) [] refl
 types-below (x ∷ xs) h = each-more (λ j. j < mostTypes) (h .0) (types-below xs (h .1))
 
--- the block that the file is in, with an accepting state or a step more
-module _ (file : List ℕ) where
-  final-begun : (q : ℕ) (ds : List Draft) (k : ℕ) → Begun file (current ds) k → Begun file (current (withFinal q ds)) k
-  final-begun q [] k b = b
-  final-begun q (d ∷ ds) k b = record { tag = b .tag; begins = b .begins; same-tag = b .same-tag }
+-- what is done to a block leaves the place and the tag of its TYPE
+record LeavesType (f : Draft → Draft) : Type 0 where
+  place : (d : Draft) → f d .place ≡ d .place
+  tag : (d : Draft) → f d .tag ≡ d .tag
 
-  step-begun : (s : Step) (ds : List Draft) (k : ℕ) → Begun file (current ds) k → Begun file (current (withStep s ds)) k
-  step-begun s [] k b = b
-  step-begun s (d ∷ ds) k b = record { tag = b .tag; begins = b .begins; same-tag = b .same-tag }
+module _ (file : List ℕ) where
+  same-begun : {f : Draft → Draft} → LeavesType f → (ds : List Draft) (k : ℕ) → Begun file (current ds) k → Begun file (current (inCurrent f ds)) k
+  same-begun l [] k b = b
+  same-begun l (d ∷ ds) k b = record { tag = b .tag; begins = rw (l .place d) (b .begins); same-tag = l .tag d ∙ b .same-tag }
 
   -- the blocks, the first of them by states
   one-written : (ds : List Draft) {k : ℕ} → Begun file (current ds) (suc k) → Each (DraftWritten file) (others ds) → Each (DraftWritten file) ds
   one-written [] b h = each-none (DraftWritten file) [] refl
   one-written (d ∷ ds) b h = each-more (DraftWritten file) (by-states b) h
+
+  -- what is done to a block by states, and leaves its TYPE
+  in-block : {i j : ℕ} {g : Stated} (f : Draft → Draft) → LeavesType f → (ns : List Name) → rank (g .phase) ≡ rank InBlock → AllWritten file i g
+      → AllWritten file j (record { phase = InBlock; tags = g .tags; blocks = inCurrent f (g .blocks); names = ns; roots = g .roots })
+  in-block {g = g} f l ns q h =
+      let b = h .block q in
+      let begun = same-begun l (g .blocks) (suc (b .0)) (b .1) in
+      let older : Each (DraftWritten file) (others (inCurrent f (g .blocks))) = rw (same-others f (g .blocks)) (h .older) in
+      record {
+        older = older;
+        whole = λ d. one-written (inCurrent f (g .blocks)) begun older;
+        block = λ z. (b .0, begun);
+        waits = λ z. absurd (omega arith);
+      }
 
   by-command : (i : ℕ) (g : Stated) (c : Command) → commandAt file i ≡ c → Passed g c → AllWritten file i g
       → AllWritten file (i + size c) (after g i c)
@@ -142,7 +175,7 @@ module _ (file : List ℕ) where
       }
     where
       d : Draft
-      d = record { place = i; tag = t .0; states = s; accepting = noStates; steps = [] }
+      d = record { place = i; tag = t .0; nillable = false; states = s; accepting = noStates; steps = [] }
 
       some-states : (n : ℕ) → 1 ≤ n → Begun file d n → (k : ℕ) × Begun file d (suc k)
       some-states zero l b = absurd (omega arith)
@@ -158,26 +191,21 @@ module _ (file : List ℕ) where
               go true f q = f refl
               go false f q = absurd (omega arith)
   by-command i g (Final q) e p h =
-      let b = h .block (p .0) in
-      let older : Each (DraftWritten file) (others (withFinal q (g .blocks))) = rw (final-others q (g .blocks)) (h .older) in
-      record {
-        older = older;
-        whole = λ d. one-written (withFinal q (g .blocks)) (final-begun q (g .blocks) (suc (b .0)) (b .1)) older;
-        block = λ z. (b .0, final-begun q (g .blocks) (suc (b .0)) (b .1));
-        waits = λ z. absurd (omega arith);
-      }
+      in-block (withFinal q) (record { place = λ d. refl; tag = λ d. refl }) (g .names) (p .0) h
   by-command i g (StepCommand x j y) e p h =
-      let s = step x (j .0) y in
-      let b = h .block (p .0) in
-      let older : Each (DraftWritten file) (others (withStep s (g .blocks))) = rw (step-others s (g .blocks)) (h .older) in
-      record {
-        older = older;
-        whole = λ d. one-written (withStep s (g .blocks)) (step-begun s (g .blocks) (suc (b .0)) (b .1)) older;
-        block = λ z. (b .0, step-begun s (g .blocks) (suc (b .0)) (b .1));
-        waits = λ z. absurd (omega arith);
-      }
+      let name : Name = record { type = j .0; place = i } in
+      in-block (withStep (step x (j .0) y)) (record { place = λ d. refl; tag = λ d. refl }) (name ∷ g .names) (p .0) h
   by-command i g (Root a) e p h =
       record { older = h .older; whole = λ d. h .whole (p .2); block = λ q. absurd (omega arith); waits = λ q. absurd (omega arith) }
+  by-command i g Nil e p h =
+      record {
+        older = rw (same-others withNil (g .blocks)) (h .older);
+        whole = λ d. each-current (DraftWritten file) withNil (g .blocks) (nil-written (current (g .blocks))) (h .whole (p .2));
+        block = λ q.
+            let b = h .block q in
+            (b .0, same-begun (record { place = λ d. refl; tag = λ d. refl }) (g .blocks) (suc (b .0)) (b .1));
+        waits = λ q. absurd (p .2 q);
+      }
   by-command i g Done e p h =
       record { older = h .older; whole = λ d. h .whole (omega arith); block = λ q. absurd (omega arith); waits = λ q. absurd (omega arith) }
   by-command i g (Expression x) e p h = absurd p
@@ -185,7 +213,7 @@ module _ (file : List ℕ) where
 
   -- the automaton in place of the block that waited for it
   expression-written : (e : Exp) (ns : List Name) (p : ℕ) (ds : List Draft) → contentAt file (current ds .place + 3) ≡ whole e ns p
-      → Begun file (current ds) 0 → Each (DraftWritten file) (others ds) → Each (DraftWritten file) (withAutomaton e ds)
+      → Begun file (current ds) 0 → Each (DraftWritten file) (others ds) → Each (DraftWritten file) (inCurrent (withAutomaton e) ds)
   expression-written e ns p [] q b h = each-none (DraftWritten file) [] refl
   expression-written e ns p (d ∷ ds) q b h =
       let w = whole-content file (d .place + 3) q in
@@ -204,7 +232,7 @@ module _ (file : List ℕ) where
               names = ns;
               end = p;
               read = q;
-              automaton = subst (AutomatonOf e) (sym (automaton-block e few d ds)) (automaton-of (d .tag) e below);
+              automaton = subst (AutomatonOf e) (sym (automaton-block e few d)) (automaton-of (d .tag) (d .nillable) e below);
             };
       })
       h
@@ -215,7 +243,7 @@ module _ (file : List ℕ) where
       let w = h .waits (r .phase) in
       let content : contentAt file (current (g .blocks) .place + 3) ≡ whole e ns p = rw (w .1) at (r .content) in
       record {
-        older = rw (automaton-others e (g .blocks)) (h .older);
+        older = rw (same-others (withAutomaton e) (g .blocks)) (h .older);
         whole = λ d. expression-written e ns p (g .blocks) content (w .0) (h .older);
         block = λ q. absurd (omega arith);
         waits = λ q. absurd (omega arith);

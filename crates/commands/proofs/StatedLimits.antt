@@ -26,12 +26,11 @@ use Rattle.expression.proofs.AutomatonLimits.{steps-inside}
 use Rattle.expression.proofs.WholeContents.{typesOf, types-more, whole-content}
 use Rattle.commands.specs.Questions.{rank}
 use Rattle.commands.specs.declared.progress.Phase.the-variants.{BeforeTypes, InBlock, InExpression, AfterRoot}
-use Rattle.commands.specs.File.{Draft, Stated, nothingStated, current, stepCount, withFinal, withStep, after, withAutomaton}
+use Rattle.commands.specs.File.{Draft, Stated, nothingStated, current, stepCount, withFinal, withStep, withNil, inCurrent, after, withAutomaton}
 use Rattle.commands.specs.File.{afterExpression, states, commands, blockBy, schemaBy, unknownIn, unknown}
 use Rattle.command.specs.declared.Command.{Command}
-use Rattle.command.specs.declared.Command.the-variants.{Tags, TypeBlock, Final, Step as StepCommand, Root, Done, Expression, NoCommand}
-use Rattle.commands.proofs.ExpressionTables.{automaton-count}
-use Rattle.commands.proofs.TableLaws.{final-count, final-steps, step-count, step-steps}
+use Rattle.command.specs.declared.Command.the-variants.{Tags, TypeBlock, Final, Step as StepCommand, Root, Nil, Done, Expression, NoCommand}
+use Rattle.commands.proofs.TableLaws.{same-count, same-steps, step-steps}
 use Rattle.commands.proofs.Passing.{Passed, ExpressionRead, HoldsAtEnd, kept-to-end}
 
 -- each member of a list has the property
@@ -111,59 +110,44 @@ nothing-within =
       roots = each-none (λ a. a < 0) [] refl;
     }
 
--- an accepting state more, and a step more, in the block that the file is in
-final-within : {tags : ℕ} (q : ℕ) (ds : List Draft) → q < current ds .states → Each (DraftWithin tags) ds
-    → Each (DraftWithin tags) (withFinal q ds)
-final-within q [] l every = every
-final-within {tags} q (d ∷ ds) l every =
-    let h = every d (List·Memᴰ·head refl) in
-    each-more (DraftWithin tags)
-    (record {
+-- what is done to the block that the file is in keeps a property of each block, if it keeps that of this one
+pub each-current : (P : Draft → Type 0) (f : Draft → Draft) (ds : List Draft) → (P (current ds) → P (f (current ds))) → Each P ds
+    → Each P (inCurrent f ds)
+each-current P f [] k every = every
+each-current P f (d ∷ ds) k every = each-more P (k (every d (List·Memᴰ·head refl))) (λ x m. every x (List·Memᴰ·tail m))
+
+pub same-others : (f : Draft → Draft) (ds : List Draft) → others (inCurrent f ds) ≡ others ds
+same-others f [] = refl
+same-others f (d ∷ ds) = refl
+
+-- an accepting state more, a step more, and a NIL
+final-within : {tags : ℕ} (q : ℕ) (d : Draft) → q < d .states → DraftWithin tags d → DraftWithin tags (withFinal q d)
+final-within q d l h =
+    record {
       tag = h .tag;
       states-most = h .states-most;
       below = insert-below q (d .accepting) (h .below);
       accepting = λ t m. ⊎-elim (h .accepting t) (λ p. rw (p .0) l) (member-insert q t (d .accepting) (h .below) .0 m);
       steps = h .steps;
-    })
-    (λ x m. every x (List·Memᴰ·tail m))
+    }
 
-step-within : {tags : ℕ} (s : Step) (ds : List Draft) → EndsWithin (current ds .states) s → Each (DraftWithin tags) ds
-    → Each (DraftWithin tags) (withStep s ds)
-step-within s [] l every = every
-step-within {tags} s (d ∷ ds) l every =
-    let h = every d (List·Memᴰ·head refl) in
-    each-more (DraftWithin tags)
-    (record {
+step-within : {tags : ℕ} (s : Step) (d : Draft) → EndsWithin (d .states) s → DraftWithin tags d → DraftWithin tags (withStep s d)
+step-within s d l h =
+    record {
       tag = h .tag;
       states-most = h .states-most;
       below = h .below;
       accepting = h .accepting;
       steps = each-more (EndsWithin (d .states)) l (h .steps);
-    })
-    (λ x m. every x (List·Memᴰ·tail m))
+    }
 
--- a property of a block that an accepting state more keeps, or a step more
-final-each : (P : Draft → Type 0) (q : ℕ) (ds : List Draft) → ((d : Draft) → P d → P (current (withFinal q (d ∷ [])))) → Each P ds
-    → Each P (withFinal q ds)
-final-each P q [] f every = every
-final-each P q (d ∷ ds) f every = each-more P (f d (every d (List·Memᴰ·head refl))) (λ x m. every x (List·Memᴰ·tail m))
-
-step-each : (P : Draft → Type 0) (s : Step) (ds : List Draft) → ((d : Draft) → P d → P (current (withStep s (d ∷ [])))) → Each P ds
-    → Each P (withStep s ds)
-step-each P s [] f every = every
-step-each P s (d ∷ ds) f every = each-more P (f d (every d (List·Memᴰ·head refl))) (λ x m. every x (List·Memᴰ·tail m))
-
-pub final-others : (q : ℕ) (ds : List Draft) → others (withFinal q ds) ≡ others ds
-final-others q [] = refl
-final-others q (d ∷ ds) = refl
-
-pub step-others : (s : Step) (ds : List Draft) → others (withStep s ds) ≡ others ds
-step-others s [] = refl
-step-others s (d ∷ ds) = refl
+nil-within : {tags : ℕ} (d : Draft) → DraftWithin tags d → DraftWithin tags (withNil d)
+nil-within d h =
+    record { tag = h .tag; states-most = h .states-most; below = h .below; accepting = h .accepting; steps = h .steps }
 
 -- a block that has only its TYPE
 draft-within : {tags t s : ℕ} (i : ℕ) → t < tags → s ≤ mostStates
-    → DraftWithin tags (record { place = i; tag = t; states = s; accepting = noStates; steps = [] })
+    → DraftWithin tags (record { place = i; tag = t; nillable = false; states = s; accepting = noStates; steps = [] })
 draft-within {s = s} i a c =
     record {
       tag = a;
@@ -203,7 +187,6 @@ within-kept i g (Tags n) p h =
 within-kept i g (TypeBlock t s) p h =
     let o = type-phase s in
     let tags = h .counts .tags-least (p .0) in
-    let d : Draft = record { place = i; tag = t .0; states = s; accepting = noStates; steps = [] } in
     record {
       counts =
           record {
@@ -223,33 +206,35 @@ within-kept i g (TypeBlock t s) p h =
       roots = λ a m. omega (arith, h .roots a m);
     }
 within-kept i g (Final q) p h =
-    let n = final-count q (g .blocks) in
-    let m = final-steps q (g .blocks) in
+    let f = withFinal q in
+    let n = same-count f (g .blocks) in
+    let m = same-steps f (g .blocks) (λ d. refl) in
     let t = h .counts .tags-least (omega arith) in
     let l = h .counts .types-least (omega arith) in
     record {
       counts = omega arith;
-      blocks = final-within q (g .blocks) (p .1) (h .blocks);
-      whole = λ d. final-each HasStates q (g .blocks) (λ d k. k) (h .whole (omega arith));
-      older = rw (final-others q (g .blocks)) (h .older);
-      named = final-each (NamedIn (g .names)) q (g .blocks) (λ d k. k) (h .named);
+      blocks = each-current (DraftWithin (g .tags)) f (g .blocks) (final-within q (current (g .blocks)) (p .1)) (h .blocks);
+      whole = λ d. each-current HasStates f (g .blocks) (λ k. k) (h .whole (omega arith));
+      older = rw (same-others f (g .blocks)) (h .older);
+      named = each-current (NamedIn (g .names)) f (g .blocks) (λ k. k) (h .named);
       roots = λ a m. omega (arith, h .roots a m);
     }
 within-kept i g (StepCommand x j y) p h =
     let s = step x (j .0) y in
+    let f = withStep s in
     let t = h .counts .tags-least (omega arith) in
     let l = h .counts .types-least (omega arith) in
-    let n = step-count s (g .blocks) in
+    let n = same-count f (g .blocks) in
     let m = step-steps s (g .blocks) l in
     let name : Name = record { type = j .0; place = i } in
     record {
       counts = omega arith;
-      blocks = step-within s (g .blocks) (p .1, p .2) (h .blocks);
-      whole = λ d. step-each HasStates s (g .blocks) (λ d k. k) (h .whole (omega arith));
-      older = rw (step-others s (g .blocks)) (h .older);
+      blocks = each-current (DraftWithin (g .tags)) f (g .blocks) (step-within s (current (g .blocks)) (p .1, p .2)) (h .blocks);
+      whole = λ d. each-current HasStates f (g .blocks) (λ k. k) (h .whole (omega arith));
+      older = rw (same-others f (g .blocks)) (h .older);
       named =
-          step-each (NamedIn (name ∷ g .names)) s (g .blocks)
-          (λ d k. each-more (λ s. List·Memᴰ (s .by) (typesOf (name ∷ g .names))) (List·Memᴰ·head refl) k)
+          each-current (NamedIn (name ∷ g .names)) f (g .blocks)
+          (λ k. each-more (λ s. List·Memᴰ (s .by) (typesOf (name ∷ g .names))) (List·Memᴰ·head refl) k)
           (λ d m. named-onto (name ∷ []) (g .names) d (h .named d m));
       roots = λ a m. omega (arith, h .roots a m);
     }
@@ -263,6 +248,19 @@ within-kept i g (Root a) p h =
       named = h .named;
       roots = each-more (λ b. b < length (g .blocks)) (p .3) (h .roots);
     }
+within-kept i g Nil p h =
+    let n = same-count withNil (g .blocks) in
+    let m = same-steps withNil (g .blocks) (λ d. refl) in
+    let t = h .counts .tags-least (omega arith) in
+    let l = h .counts .types-least (p .0) in
+    record {
+      counts = omega arith;
+      blocks = each-current (DraftWithin (g .tags)) withNil (g .blocks) (nil-within (current (g .blocks))) (h .blocks);
+      whole = λ d. each-current HasStates withNil (g .blocks) (λ k. k) (h .whole (p .2));
+      older = rw (same-others withNil (g .blocks)) (h .older);
+      named = each-current (NamedIn (g .names)) withNil (g .blocks) (λ k. k) (h .named);
+      roots = λ a m. omega (arith, h .roots a m);
+    }
 within-kept i g Done p h =
     let t = h .counts .tags-least (omega arith) in
     let l = h .counts .types-least (omega arith) in
@@ -272,36 +270,22 @@ within-kept i g (Expression x) p h = absurd p
 within-kept i g NoCommand p h = absurd p
 
 -- the automaton of an expression in the block that the file is in
-automaton-within : {tags : ℕ} (e : Exp) (ds : List Draft) → uses e ≤ mostUses → Each (DraftWithin tags) ds
-    → Each (DraftWithin tags) (withAutomaton e ds)
-automaton-within e [] l every = every
-automaton-within {tags} e (d ∷ ds) l every =
-    each-more (DraftWithin tags)
-    (record {
-      tag = every d (List·Memᴰ·head refl) .tag;
+automaton-within : {tags : ℕ} (e : Exp) (d : Draft) → uses e ≤ mostUses → DraftWithin tags d → DraftWithin tags (withAutomaton e d)
+automaton-within e d l h =
+    record {
+      tag = h .tag;
       states-most = omega arith;
       below = set-below (accepts e) mostStates;
       accepting = λ q m. accepts-below e q (member-set (accepts e) mostStates q (omega arith) .0 m .0);
       steps = λ s m. let h = steps-inside e s (mem-reverse (allSteps e) m) in (h .0, h .2);
-    })
-    (λ x m. every x (List·Memᴰ·tail m))
+    }
 
-automaton-states : (e : Exp) (ds : List Draft) → Each HasStates (others ds) → Each HasStates (withAutomaton e ds)
+automaton-states : (e : Exp) (ds : List Draft) → Each HasStates (others ds) → Each HasStates (inCurrent (withAutomaton e) ds)
 automaton-states e [] h = h
 automaton-states e (d ∷ ds) h = each-more HasStates (omega arith) h
 
-automaton-named : (e : Exp) (ns : List Name) (ds : List Draft) → Each (λ j. List·Memᴰ j (typesOf ns)) (named e) → Each (NamedIn ns) ds
-    → Each (NamedIn ns) (withAutomaton e ds)
-automaton-named e ns [] h every = every
-automaton-named e ns (d ∷ ds) h every =
-    each-more (NamedIn ns) (λ s m. h (s .by) (steps-inside e s (mem-reverse (allSteps e) m) .3)) (λ x m. every x (List·Memᴰ·tail m))
-
-pub automaton-others : (e : Exp) (ds : List Draft) → others (withAutomaton e ds) ≡ others ds
-automaton-others e [] = refl
-automaton-others e (d ∷ ds) = refl
-
 -- the block had no more steps than there were
-automaton-steps : (e : Exp) (ds : List Draft) → stepCount (withAutomaton e ds) ≤ stepCount ds + length (allSteps e)
+automaton-steps : (e : Exp) (ds : List Draft) → stepCount (inCurrent (withAutomaton e) ds) ≤ stepCount ds + length (allSteps e)
 automaton-steps e [] = omega arith
 automaton-steps e (d ∷ ds) = omega (arith, length-reverse (allSteps e))
 
@@ -319,7 +303,8 @@ expression-kept file i g e ns p r h =
     let w = whole-content file i (r .content) in
     let c = h .counts in
     let q = r .phase in
-    let n = automaton-count e (g .blocks) in
+    let f = withAutomaton e in
+    let n = same-count f (g .blocks) in
     let few : uses e ≤ mostUses = omega (arith, w .few, named-uses e, ap length (w .names), length-map ns (λ (x : Name). x .type)) in
     let own : Each (λ j. List·Memᴰ j (typesOf (reverse ns ++ g .names))) (named e) = λ j m.
     rw (map-append (λ (x : Name). x .type) (reverse ns) (g .names))
@@ -336,10 +321,13 @@ expression-kept file i g e ns p r h =
             roots-least = λ l. absurd (omega arith);
             roots-most = c .roots-most;
           };
-      blocks = automaton-within e (g .blocks) few (h .blocks);
+      blocks = each-current (DraftWithin (g .tags)) f (g .blocks) (automaton-within e (current (g .blocks)) few) (h .blocks);
       whole = λ d. automaton-states e (g .blocks) (h .older);
-      older = rw (automaton-others e (g .blocks)) (h .older);
-      named = automaton-named e (reverse ns ++ g .names) (g .blocks) own (λ d m. named-onto (reverse ns) (g .names) d (h .named d m));
+      older = rw (same-others f (g .blocks)) (h .older);
+      named =
+          each-current (NamedIn (reverse ns ++ g .names)) f (g .blocks)
+          (λ k s m. own (s .by) (steps-inside e s (mem-reverse (allSteps e) m) .3))
+          (λ d m. named-onto (reverse ns) (g .names) d (h .named d m));
       roots = λ a m. omega (arith, n, h .roots a m);
     }
 

@@ -1,6 +1,6 @@
 -- What the tables hold of the blocks, and how they grow.
 use mathlib.Core.Path.{_≡_, refl, sym, ap, _∙_}
-use mathlib.Core.Bool.{Bool, _||_, or-assoc, or-comm}
+use mathlib.Core.Bool.{Bool, false, _||_, or-assoc, or-comm}
 use mathlib.Core.List.{List, [], _∷_}
 use Prim.Native.Nat.{ℕ, zero, suc, _+_, _-_, _%_, _≤_, _<_}
 use native.Mathlib.Omega.{arith}
@@ -10,7 +10,7 @@ use Rattle.sdtd.specs.Schema.{Step, step}
 use Rattle.sdtd.specs.Limits.{mostTypes, mostSteps}
 use Rattle.schema.specs.States.{insert, noStates}
 use Rattle.schema.specs.Value.{stepAt}
-use Rattle.commands.specs.File.{sameStep, hasStep, Draft, current, stepCount, withFinal, withStep}
+use Rattle.commands.specs.File.{sameStep, hasStep, Draft, current, stepCount, withFinal, withStep, withNil, inCurrent}
 use Rattle.commands.specs.Value.{EmptyFrom}
 use Rattle.commands.specs.Progress.{lastType, givenIn}
 use Rattle.commands.proofs.SchemaTables.{SchemaTables}
@@ -77,21 +77,17 @@ pub current-count : (bs : List Draft) → length (current bs .steps) ≤ stepCou
 current-count [] = omega arith
 current-count (d ∷ ds) = omega arith
 
--- one accepting state or step more leaves the number of blocks, and an accepting state that of steps
-pub final-count : (q : ℕ) (bs : List Draft) → length bs ≡ length (withFinal q bs)
-final-count q [] = refl
-final-count q (d ∷ ds) = refl
+-- what is done to the block that the file is in leaves the number of blocks, and that of steps if it leaves the steps
+pub same-count : (f : Draft → Draft) (bs : List Draft) → length bs ≡ length (inCurrent f bs)
+same-count f [] = refl
+same-count f (d ∷ ds) = refl
 
-pub final-steps : (q : ℕ) (bs : List Draft) → stepCount bs ≡ stepCount (withFinal q bs)
-final-steps q [] = refl
-final-steps q (d ∷ ds) = refl
-
-pub step-count : (x : Step) (bs : List Draft) → length bs ≡ length (withStep x bs)
-step-count x [] = refl
-step-count x (d ∷ ds) = refl
+pub same-steps : (f : Draft → Draft) (bs : List Draft) → ((d : Draft) → f d .steps ≡ d .steps) → stepCount bs ≡ stepCount (inCurrent f bs)
+same-steps f [] e = refl
+same-steps f (d ∷ ds) e = rw (e d)
 
 -- one step more is one more in the count
-pub step-steps : (x : Step) (bs : List Draft) → 0 < length bs → stepCount (withStep x bs) ≡ stepCount bs + 1
+pub step-steps : (x : Step) (bs : List Draft) → 0 < length bs → stepCount (inCurrent (withStep x) bs) ≡ stepCount bs + 1
 step-steps x [] l = absurd (omega arith)
 step-steps x (d ∷ ds) l = omega arith
 
@@ -196,6 +192,13 @@ module _ {t : SchemaTables} {a n : ℕ} (e : EmptyPast t a n) where
         to = set-empty (t .to) m q (m + 1) (omega arith) (omega arith) (e .to);
       }
 
+-- a NIL leaves the tables
+pub nil-blocks : (t : SchemaTables) (bs : List Draft) → BlocksHold t bs → BlocksHold t (inCurrent withNil bs)
+nil-blocks t [] h = h
+nil-blocks t (d ∷ ds) h =
+    let x = h .0 in
+    (record { tag = x .tag; states = x .states; accepting = x .accepting; count = x .count; steps = x .steps }, h .1)
+
 module _ (t : SchemaTables) (k : Sized t) where
   pub type-sized : (a g n : ℕ) → Sized (withType t a g n)
   type-sized a g n =
@@ -235,7 +238,7 @@ module _ (t : SchemaTables) (k : Sized t) where
 
   -- one type more
   pub type-blocks : {m : ℕ} (bs : List Draft) (a g n i : ℕ) → a ≡ length bs → a < mostTypes → EmptyPast t a m → BlocksHold t bs
-      → BlocksHold (withType t a g n) (record { place = i; tag = g; states = n; accepting = noStates; steps = [] } ∷ bs)
+      → BlocksHold (withType t a g n) (record { place = i; tag = g; nillable = false; states = n; accepting = noStates; steps = [] } ∷ bs)
   type-blocks bs a g n i e l z h =
       rw (← e) (
         record {
@@ -260,7 +263,7 @@ module _ (t : SchemaTables) (k : Sized t) where
 
   -- one accepting state more
   pub final-blocks : (bs : List Draft) (a q : ℕ) → suc a ≡ length bs → a < mostTypes → BlocksHold t bs
-      → BlocksHold (withAccepting t a q) (withFinal q bs)
+      → BlocksHold (withAccepting t a q) (inCurrent (withFinal q) bs)
   final-blocks [] a q e l h = absurd (omega arith)
   final-blocks (d ∷ ds) a q e l h =
       let c : length ds ≡ a = omega arith in
@@ -310,7 +313,7 @@ module _ (t : SchemaTables) (k : Sized t) where
 
   -- one step more
   pub step-blocks : (bs : List Draft) (a n p j q : ℕ) → suc a ≡ length bs → a < mostTypes → n ≡ stepCount bs → n < mostSteps → BlocksHold t bs
-      → BlocksHold (withOneStep t a n p j q) (withStep (step p j q) bs)
+      → BlocksHold (withOneStep t a n p j q) (inCurrent (withStep (step p j q)) bs)
   step-blocks [] a n p j q e l f m h = absurd (omega arith)
   step-blocks (d ∷ ds) a n p j q e l f m h =
       let c : length ds ≡ a = omega arith in

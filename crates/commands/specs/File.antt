@@ -1,6 +1,6 @@
 -- "The schema file": what its commands state, command by command, up to a refusal or the end.
 use mathlib.Core.Path.{_≡_}
-use mathlib.Core.Bool.{Bool, false, cond, _&&_, _||_}
+use mathlib.Core.Bool.{Bool, true, false, cond, _&&_, _||_}
 use mathlib.Core.List.{List, [], _∷_, _++_, map, reverse, List·Memᴰ}
 use Prim.Native.Nat.{ℕ, zero, suc, _+_}
 use lib.Dec.{T, eqb, leb, ltb}
@@ -11,9 +11,9 @@ use Rattle.sdtd.specs.Answer.{Question, ask}
 use Rattle.schema.specs.States.{insert, members, noStates}
 use Rattle.sdtd.specs.Limits.{mostStates, mostSteps}
 use Rattle.command.specs.Command.{isOld, fileOf, commandAt, size}
-use Rattle.command.specs.Cases.{onStep, onRoot}
+use Rattle.command.specs.Cases.{onStep, onRoot, onNil}
 use Rattle.command.specs.declared.Command.{Command}
-use Rattle.command.specs.declared.Command.the-variants.{Tags, TypeBlock, Final, Step, Root, Done, Expression, NoCommand}
+use Rattle.command.specs.declared.Command.the-variants.{Tags, TypeBlock, Final, Step, Root, Nil, Done, Expression, NoCommand}
 use Rattle.expression.specs.Expression.{Expression as Exp}
 use Rattle.expression.specs.Automaton.{uses}
 use Rattle.expression.specs.Tests.{accepts, allSteps}
@@ -24,10 +24,11 @@ use Rattle.commands.specs.declared.progress.Phase.{Phase}
 use Rattle.commands.specs.declared.progress.Phase.the-variants.{BeforeTags, BeforeTypes, InBlock, InExpression, AfterExpression, AfterRoot, AfterDone}
 use Rattle.commands.specs.declared.questions.Seen.{Seen}
 
--- a type's block so far: the place of its TYPE, its accepting states as a set, its steps the last first
+-- a type's block so far: the place of its TYPE, whether it has a NIL, its accepting states as a set, its steps the last first
 pub record Draft : Type 0 where
   pub place : ℕ
   pub tag : ℕ
+  pub nillable : Bool
   pub states : ℕ
   pub accepting : ℕ
   pub steps : List StepOf
@@ -45,7 +46,7 @@ nothingStated = record { phase = BeforeTags; tags = 0; blocks = []; names = []; 
 
 -- the block that the file is in
 abbrev pub current : List Draft → Draft
-current [] = record { place = 0; tag = 0; states = 0; accepting = noStates; steps = [] }
+current [] = record { place = 0; tag = 0; nillable = false; states = 0; accepting = noStates; steps = [] }
 current (d ∷ ds) = d
 
 -- the number of steps so far
@@ -79,23 +80,56 @@ seenOf g c =
       steps = stepCount (g .blocks);
       states = d .states;
       accepting = record { 0 = d .accepting };
-      given = onStep (λ p j q. hasStep p j q (d .steps)) false c || onRoot (λ a. hasRoot a (g .roots)) false c;
+      given =
+          onStep (λ p j q. hasStep p j q (d .steps)) false c
+          || (onRoot (λ a. hasRoot a (g .roots)) false c || onNil (d .nillable) false c);
     }
 
--- the blocks with one accepting state more, or one step more, in the block that the file is in
-abbrev pub withFinal : ℕ → List Draft → List Draft
-withFinal q [] = []
-withFinal q (d ∷ ds) = record { place = d .place; tag = d .tag; states = d .states; accepting = insert q (d .accepting); steps = d .steps } ∷ ds
+-- a block with one accepting state more, with one step more, and with a NIL
+abbrev pub withFinal : ℕ → Draft → Draft
+withFinal q d =
+    record {
+      place = d .place;
+      tag = d .tag;
+      nillable = d .nillable;
+      states = d .states;
+      accepting = insert q (d .accepting);
+      steps = d .steps;
+    }
 
-abbrev pub withStep : StepOf → List Draft → List Draft
-withStep s [] = []
-withStep s (d ∷ ds) = record { place = d .place; tag = d .tag; states = d .states; accepting = d .accepting; steps = s ∷ d .steps } ∷ ds
+abbrev pub withStep : StepOf → Draft → Draft
+withStep s d =
+    record {
+      place = d .place;
+      tag = d .tag;
+      nillable = d .nillable;
+      states = d .states;
+      accepting = d .accepting;
+      steps = s ∷ d .steps;
+    }
 
--- what is stated after the command at the place i; "A TYPE with state count 0 is followed by an expression"
+abbrev pub withNil : Draft → Draft
+withNil d =
+    record {
+      place = d .place;
+      tag = d .tag;
+      nillable = true;
+      states = d .states;
+      accepting = d .accepting;
+      steps = d .steps;
+    }
+
+-- the blocks, with this done to the one that the file is in
+abbrev pub inCurrent : (Draft → Draft) → List Draft → List Draft
+inCurrent f [] = []
+inCurrent f (d ∷ ds) = f d ∷ ds
+
+-- what is stated after the command at the place i; "A TYPE with state count 0 is followed by an expression"; "NIL in a type's block [..] makes it
+-- nillable"
 unfoldable pub after : Stated → ℕ → Command → Stated
 after g i (Tags n) = record { phase = BeforeTypes; tags = n; blocks = g .blocks; names = g .names; roots = g .roots }
 after g i (TypeBlock t s) =
-    let d : Draft = record { place = i; tag = t .0; states = s; accepting = noStates; steps = [] } in
+    let d : Draft = record { place = i; tag = t .0; nillable = false; states = s; accepting = noStates; steps = [] } in
     record {
       phase = cond (eqb s 0) InExpression InBlock;
       tags = g .tags;
@@ -103,32 +137,33 @@ after g i (TypeBlock t s) =
       names = g .names;
       roots = g .roots;
     }
-after g i (Final q) = record { phase = InBlock; tags = g .tags; blocks = withFinal q (g .blocks); names = g .names; roots = g .roots }
+after g i (Final q) =
+    record { phase = InBlock; tags = g .tags; blocks = inCurrent (withFinal q) (g .blocks); names = g .names; roots = g .roots }
 after g i (Step p j q) =
     record {
       phase = InBlock;
       tags = g .tags;
-      blocks = withStep (step p (j .0) q) (g .blocks);
+      blocks = inCurrent (withStep (step p (j .0) q)) (g .blocks);
       names = record { type = j .0; place = i } ∷ g .names;
       roots = g .roots;
     }
 after g i (Root a) = record { phase = AfterRoot; tags = g .tags; blocks = g .blocks; names = g .names; roots = a .0 ∷ g .roots }
+after g i Nil = record { phase = g .phase; tags = g .tags; blocks = inCurrent withNil (g .blocks); names = g .names; roots = g .roots }
 after g i Done = record { phase = AfterDone; tags = g .tags; blocks = g .blocks; names = g .names; roots = g .roots }
 after g i (Expression x) = g
 after g i NoCommand = g
 
--- "It becomes an automaton": the block that the file is in has the expression's automaton (`automaton-block`)
-abbrev pub withAutomaton : Exp → List Draft → List Draft
-withAutomaton e [] = []
-withAutomaton e (d ∷ ds) =
+-- "It becomes an automaton": the block has the expression's automaton (`automaton-block`)
+abbrev pub withAutomaton : Exp → Draft → Draft
+withAutomaton e d =
     record {
       place = d .place;
       tag = d .tag;
+      nillable = d .nillable;
       states = suc (uses e);
       accepting = setOf (accepts e) mostStates;
       steps = reverse (allSteps e);
     }
-    ∷ ds
 
 -- what is stated after an expression whose 32s name these types
 abbrev pub afterExpression : Stated → Exp → List Name → Stated
@@ -136,7 +171,7 @@ afterExpression g e ns =
     record {
       phase = AfterExpression;
       tags = g .tags;
-      blocks = withAutomaton e (g .blocks);
+      blocks = inCurrent (withAutomaton e) (g .blocks);
       names = reverse ns ++ g .names;
       roots = g .roots;
     }
@@ -174,6 +209,7 @@ abbrev pub blockBy : Draft → Block
 blockBy d =
     record {
       tag = d .tag;
+      nillable = d .nillable;
       states = d .states;
       accepting = members (d .accepting);
       steps = reverse (d .steps);

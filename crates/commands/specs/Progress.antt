@@ -1,5 +1,5 @@
 -- What the private steps over the commands compute: the progress and the tables after each command, and what is read from them.
-use mathlib.Core.Bool.{Bool, false, cond, _&&_, _||_}
+use mathlib.Core.Bool.{Bool, true, false, cond, _&&_, _||_}
 use mathlib.Core.List.{List, [], _∷_}
 use Prim.Native.Nat.{ℕ, zero, suc, _+_, _-_, _%_, min, max}
 use lib.Dec.{eqb, leb, ltb}
@@ -10,9 +10,9 @@ use Rattle.schema.specs.States.{insert}
 use Rattle.schema.specs.Value.{stepAt, rootsOf}
 use Rattle.schema.specs.declared.state_set.StateSet.{StateSet}
 use Rattle.schema.specs.declared.value.Schema.{Schema}
-use Rattle.command.specs.Cases.{onType, onFinal, onStep, onRoot}
+use Rattle.command.specs.Cases.{onType, onFinal, onStep, onRoot, onNil}
 use Rattle.command.specs.declared.Command.{Command}
-use Rattle.command.specs.declared.Command.the-variants.{Tags, TypeBlock, Final, Step, Root, Done, Expression, NoCommand}
+use Rattle.command.specs.declared.Command.the-variants.{Tags, TypeBlock, Final, Step, Root, Nil, Done, Expression, NoCommand}
 use Rattle.expression.specs.Content.{Name}
 use Rattle.commands.specs.Questions.{failed}
 use Rattle.commands.specs.File.{sameStep, hasRoot}
@@ -24,12 +24,33 @@ use Rattle.commands.specs.declared.progress.Progress.{Progress}
 use Rattle.commands.specs.declared.questions.Seen.{Seen}
 
 abbrev pub nothingRead : Progress
-nothingRead = record { phase = BeforeTags; tags = 0; types = 0; roots = 0; root = replicate mostRoots 0; steps = 0 }
+nothingRead =
+    record {
+      phase = BeforeTags;
+      tags = 0;
+      types = 0;
+      roots = 0;
+      root = replicate mostRoots 0;
+      nillable = replicate mostTypes false;
+      steps = 0;
+    }
 
--- the progress in a phase, with so many tags, types and steps; the roots stay
+-- the place of the block that the file is in
+abbrev pub lastType : ℕ → ℕ
+lastType types = (types % mostTypes + (mostTypes - 1)) % mostTypes
+
+-- the progress in a phase, with so many tags, types and steps; the roots and the nillable types stay
 abbrev pub withCounts : Progress → Phase → ℕ → ℕ → ℕ → Progress
 withCounts s phase tags types steps =
-    record { phase = phase; tags = tags; types = types; roots = s .roots; root = s .root; steps = steps }
+    record {
+      phase = phase;
+      tags = tags;
+      types = types;
+      roots = s .roots;
+      root = s .root;
+      nillable = s .nillable;
+      steps = steps;
+    }
 
 -- the progress after a command that passed its questions
 unfoldable pub progressAfter : Progress → Command → Progress
@@ -44,6 +65,17 @@ progressAfter s (Root a) =
       types = s .types;
       roots = s .roots % mostRoots + 1;
       root = set (s .root) (s .roots % mostRoots) (a .0);
+      nillable = s .nillable;
+      steps = s .steps;
+    }
+progressAfter s Nil =
+    record {
+      phase = s .phase;
+      tags = s .tags;
+      types = s .types;
+      roots = s .roots;
+      root = s .root;
+      nillable = set (s .nillable) (lastType (s .types)) true;
       steps = s .steps;
     }
 progressAfter s Done = withCounts s AfterDone (s .tags) (s .types) (s .steps)
@@ -55,7 +87,7 @@ abbrev pub progressWith : Progress → ℕ → Progress
 progressWith s n = withCounts s AfterExpression (s .tags) (s .types) n
 
 -- what is seen of the file: by the progress, and the state count and the accepting states of the block that the file is in, and whether the
--- STEP or the ROOT is given already
+-- STEP, the ROOT or the NIL is given already
 abbrev pub seenBy : Progress → ℕ → StateSet → Bool → Seen
 seenBy s states accepting given =
     record {
@@ -68,10 +100,6 @@ seenBy s states accepting given =
       accepting = accepting;
       given = given;
     }
-
--- the place of the block that the file is in
-abbrev pub lastType : ℕ → ℕ
-lastType types = (types % mostTypes + (mostTypes - 1)) % mostTypes
 
 -- one of the n steps from the place i on is p, j, q
 unfoldable pub givenIn : List ℕ → List ℕ → List ℕ → ℕ → ℕ → ℕ → ℕ → ℕ → Bool
@@ -94,12 +122,17 @@ rootAmong root n a = ltb a mostTypes && hasRoot a (rootsOf root n)
 abbrev pub rootGiven : Progress → Command → Bool
 rootGiven s c = onRoot (rootAmong (s .root) (s .roots)) false c
 
+-- the command is a NIL, and the block that the file is in has one
+abbrev pub nilGiven : Progress → Command → Bool
+nilGiven s c = onNil (getD (s .nillable) (lastType (s .types)) false) false c
+
 -- the number of the first question that the command fails, by the progress and the tables
 abbrev pub failedIn : Progress → List ℕ → List ℕ → List ℕ → List ℕ → List ℕ → List ℕ → Command → ℕ
 failedIn s states accepting counts from by to c =
     let a = lastType (s .types) in
     failed
-    (seenBy s (getD states a 0) (record { 0 = getD accepting a 0 }) (givenAlready from by to (s .steps) (getD counts a 0) c || rootGiven s c))
+    (seenBy s (getD states a 0) (record { 0 = getD accepting a 0 })
+    (givenAlready from by to (s .steps) (getD counts a 0) c || (rootGiven s c || nilGiven s c)))
     c
 
 -- each table after a command that passed its questions: with so many types, or steps, before it; `i` is its place
@@ -157,6 +190,7 @@ valueOf s tag states accepting counts from by to =
       tag = tag;
       states = states;
       accepting = accepting;
+      nillable = s .nillable;
       steps = counts;
       from = from;
       by = by;

@@ -8,7 +8,7 @@ use Rattle.schema.specs.States.{member}
 use Rattle.command.specs.Asked.{firstNo}
 use Rattle.command.specs.Command.{isCommand}
 use Rattle.command.specs.declared.Command.{Command}
-use Rattle.command.specs.declared.Command.the-variants.{Tags, TypeBlock, Final, Step, Root, Done, Expression, NoCommand}
+use Rattle.command.specs.declared.Command.the-variants.{Tags, TypeBlock, Final, Step, Root, Nil, Done, Expression, NoCommand}
 use Rattle.commands.specs.declared.progress.Phase.{Phase}
 use Rattle.commands.specs.declared.progress.Phase.the-variants.{BeforeTags, BeforeTypes, InBlock, InExpression, AfterExpression, AfterRoot, AfterDone}
 use Rattle.commands.specs.declared.questions.Seen.{Seen}
@@ -28,17 +28,22 @@ abbrev pub samePhase : Phase → Phase → Bool
 samePhase p q = eqb (rank p) (rank q)
 
 -- What is seen (`Seen`): the phase; the numbers of tags, types, roots and steps so far; of the block that the file is in, its state count and its
--- accepting states as a set; and whether that block has the command's STEP already, or the file the command's ROOT.
+-- accepting states as a set; and whether that block has the command's STEP or NIL already, or the file the command's ROOT.
+
+-- in a type's block, by states or after an expression
+abbrev pub inTypeBlock : Phase → Bool
+inTypeBlock p = samePhase p InBlock || samePhase p AfterExpression
 
 -- "Does it stand in its order?" "TAGS, one or more blocks of a TYPE with FINAL and STEP in any order, ROOT, DONE." "A TYPE with state count 0 is
 -- followed by an expression in place of FINAL and STEP." "[..] one of these outside, gets 3." "ROOT may be given one to eight times": after a ROOT
--- another may stand.
+-- another may stand. "Command 15 NIL in a type's block, after any 3F".
 abbrev pub inOrder : Seen → Command → Bool
 inOrder s (Tags n) = samePhase (s .phase) BeforeTags
-inOrder s (TypeBlock g k) = samePhase (s .phase) BeforeTypes || (samePhase (s .phase) InBlock || samePhase (s .phase) AfterExpression)
+inOrder s (TypeBlock g k) = samePhase (s .phase) BeforeTypes || inTypeBlock (s .phase)
 inOrder s (Final q) = samePhase (s .phase) InBlock
 inOrder s (Step p j q) = samePhase (s .phase) InBlock
-inOrder s (Root a) = samePhase (s .phase) AfterRoot || (samePhase (s .phase) InBlock || samePhase (s .phase) AfterExpression)
+inOrder s (Root a) = samePhase (s .phase) AfterRoot || inTypeBlock (s .phase)
+inOrder s Nil = inTypeBlock (s .phase)
 inOrder s Done = samePhase (s .phase) AfterRoot
 inOrder s (Expression x) = false
 inOrder s NoCommand = false
@@ -51,6 +56,7 @@ inRange s (TypeBlock g k) = ltb (g .0) (s .tags) && leb k mostStates
 inRange s (Final q) = ltb q (s .states)
 inRange s (Step p j q) = ltb p (s .states) && (ltb (j .0) mostTypes && ltb q (s .states))
 inRange s (Root a) = ltb (a .0) (s .types)
+inRange s Nil = true
 inRange s Done = true
 inRange s (Expression x) = true
 inRange s NoCommand = true
@@ -62,17 +68,19 @@ withinCounts s (TypeBlock g k) = ltb (s .types) mostTypes
 withinCounts s (Final q) = true
 withinCounts s (Step p j q) = ltb (s .steps) mostSteps
 withinCounts s (Root a) = ltb (s .roots) mostRoots
+withinCounts s Nil = true
 withinCounts s Done = true
 withinCounts s (Expression x) = true
 withinCounts s NoCommand = true
 
--- "Is this FINAL or STEP not yet given in its block?" "[ROOT] each another type; [..] a repeat 6"
+-- "Is this FINAL or STEP not yet given in its block?" "[ROOT] each another type; [..] a repeat 6" "[NIL] once [..] (else 6)"
 abbrev pub notGiven : Seen → Command → Bool
 notGiven s (Tags n) = true
 notGiven s (TypeBlock g k) = true
 notGiven s (Final q) = not (member q (s .accepting .0))
 notGiven s (Step p j q) = not (s .given)
 notGiven s (Root a) = not (s .given)
+notGiven s Nil = not (s .given)
 notGiven s Done = true
 notGiven s (Expression x) = true
 notGiven s NoCommand = true

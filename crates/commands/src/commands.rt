@@ -7,6 +7,7 @@ use crate::laying::lay_steps;
 use crate::progress::Progress;
 use crate::progress::is_done;
 use crate::progress::is_in_expression;
+use crate::progress::last_type;
 use crate::progress::nothing_read;
 use crate::progress::progress_after;
 use crate::progress::progress_with;
@@ -19,7 +20,7 @@ use crate::tables::add_type;
 use crate::tables::bound_after;
 use crate::tables::earlier;
 use crate::tables::given_already;
-use crate::tables::last_type;
+use crate::tables::nil_given;
 use crate::tables::root_given;
 use command::Command;
 use command::command_at;
@@ -57,6 +58,7 @@ pub fn no_schema() -> Schema
         tag: [0; TYPES],
         states: [0; TYPES],
         accepting: [StateSet::NONE.0; TYPES],
+        nillable: [false; TYPES],
         steps: [0; TYPES],
         from: [0; STEPS],
         by: [0; STEPS],
@@ -78,6 +80,7 @@ fn schema_of(
     ensures { λ r. ⌜ r ≡ valueOf progress tag states accepting counts from by to ⌝ }
 {
     let root = progress.root;
+    let nillable = progress.nillable;
     Schema {
         tags: progress.tags,
         types: progress.types,
@@ -86,6 +89,7 @@ fn schema_of(
         tag,
         states,
         accepting,
+        nillable,
         steps: counts,
         from,
         by,
@@ -133,7 +137,7 @@ fn failed_in<'a>(
 {
     let last = last_type(progress.types);
     let step = given_already(from, by, to, progress.steps, counts[last], command);
-    let given = step | root_given(progress, command);
+    let given = step | (root_given(progress, command) | nil_given(progress, command));
     let seen = seen_of(progress, states[last], StateSet(accepting[last]), given);
     failed_by(seen, command)
 }

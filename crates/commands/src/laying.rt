@@ -1,9 +1,9 @@
 // An expression's automaton, laid into the tables.
 use crate::progress::Progress;
 use crate::progress::TYPE_NUMBERS;
+use crate::progress::last_type;
 use crate::tables::earlier;
 use crate::tables::larger;
-use crate::tables::last_type;
 use expression::Automaton;
 use schema::STATES;
 use schema::STEPS;

@@ -7,15 +7,18 @@ use sdtd::TypeNo;
 ghost use mathlib.Core.Path.{_≡_};
 ghost use mathlib.Core.Bool.{cond};
 ghost use lib.Dec.{eqb};
-ghost use Rattle.command.specs.declared.Command.the-variants.{Root};
+ghost use Rattle.command.specs.declared.Command.the-variants.{Root, Nil};
 ghost use Rattle.commands.specs.Questions.{rank, samePhase};
-ghost use Rattle.commands.specs.Progress.{nothingRead, withCounts, progressAfter, progressWith};
+ghost use Rattle.commands.specs.Progress.{nothingRead, lastType, withCounts, progressAfter, progressWith};
 ghost use Rattle.commands.specs.declared.progress.Phase.the-variants.{InBlock, InExpression, AfterDone};
 
 // the most types and the most roots, as bytes
 pub(crate) const TYPE_NUMBERS: u8 = TYPES as u8;
 
 pub(crate) const MOST_ROOTS: u8 = ROOTS as u8;
+
+// The largest type number. Added modulo the number of types it takes one away.
+const LAST_TYPE: u8 = TYPE_NUMBERS - 1;
 
 // Where the file stands: before TAGS, before the first TYPE, in a block by states, in an expression, after its 3F, after a ROOT, after DONE.
 pub(crate) enum Phase {
@@ -50,13 +53,14 @@ pub(crate) fn same_phase(phase: Phase, other: Phase) -> bool
     rank_of(phase) == rank_of(other)
 }
 
-// The phase, the counts and the roots so far.
+// The phase, the counts, the roots and which types are nillable, so far.
 pub(crate) struct Progress {
     pub phase: Phase,
     pub tags: u8,
     pub types: u8,
     pub roots: u8,
     pub root: [u8; ROOTS],
+    pub nillable: [bool; TYPES],
     pub steps: usize,
 }
 
@@ -70,8 +74,16 @@ pub(crate) fn nothing_read() -> Progress
         types: 0,
         roots: 0,
         root: [0; ROOTS],
+        nillable: [false; TYPES],
         steps: 0,
     }
+}
+
+// The place of the block that the file is in.
+pub(crate) fn last_type(types: u8) -> usize
+    ensures { λ r. ⌜ r ≡ lastType types ⌝ }
+{
+    ((types % TYPE_NUMBERS + LAST_TYPE) % TYPE_NUMBERS) as usize
 }
 
 // Was DONE read?
@@ -100,17 +112,19 @@ fn phase_of_type(states: u8) -> Phase
     Phase::InBlock
 }
 
-// The progress in a phase, with so many tags, types and steps; the roots stay.
+// The progress in a phase, with so many tags, types and steps; the roots and the nillable types stay.
 fn with_counts(progress: Progress, phase: Phase, tags: u8, types: u8, steps: usize) -> Progress
     ensures { λ r. ⌜ r ≡ withCounts progress phase tags types steps ⌝ }
 {
     let root = progress.root;
+    let nillable = progress.nillable;
     Progress {
         phase,
         tags,
         types,
         roots: progress.roots,
         root,
+        nillable,
         steps,
     }
 }
@@ -122,12 +136,33 @@ fn with_root(progress: Progress, a: TypeNo) -> Progress
     let roots = progress.roots % MOST_ROOTS;
     let mut root = progress.root;
     root[roots as usize] = a.0;
+    let nillable = progress.nillable;
     Progress {
         phase: Phase::AfterRoot,
         tags: progress.tags,
         types: progress.types,
         roots: roots + 1,
         root,
+        nillable,
+        steps: progress.steps,
+    }
+}
+
+// The progress after a NIL: the type whose block the file is in is nillable.
+fn with_nil(progress: Progress) -> Progress
+    ensures { λ r. ⌜ r ≡ progressAfter progress Nil ⌝ }
+{
+    let phase = progress.phase;
+    let root = progress.root;
+    let mut nillable = progress.nillable;
+    nillable[last_type(progress.types)] = true;
+    Progress {
+        phase,
+        tags: progress.tags,
+        types: progress.types,
+        roots: progress.roots,
+        root,
+        nillable,
         steps: progress.steps,
     }
 }
@@ -161,6 +196,7 @@ pub(crate) fn progress_after(progress: Progress, command: Command) -> Progress
         }
         Command::Step(_, _, _) => with_counts(progress, phase, tags, types, steps % STEPS + 1),
         Command::Root(a) => with_root(progress, a),
+        Command::Nil => with_nil(progress),
         Command::Done => with_counts(progress, Phase::AfterDone, tags, types, steps),
         _ => progress,
     }

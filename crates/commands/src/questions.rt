@@ -11,11 +11,11 @@ use schema::StateSet;
 use schema::TAGS;
 ghost use mathlib.Core.Path.{_≡_};
 ghost use Rattle.command.specs.Command.{isCommand};
-ghost use Rattle.commands.specs.Questions.{inOrder, inRange, withinCounts, notGiven, failed};
+ghost use Rattle.commands.specs.Questions.{inTypeBlock, inOrder, inRange, withinCounts, notGiven, failed};
 ghost use Rattle.commands.specs.Progress.{seenBy};
 
 // What is seen of the file where a command is asked: the phase, the numbers of tags, types, roots and steps so far; of the block that the file is
-// in, the state count and the accepting states; and whether that block has the command's STEP already, or the file the command's ROOT.
+// in, the state count and the accepting states; and whether that block has the command's STEP or NIL already, or the file the command's ROOT.
 pub(crate) struct Seen {
     pub phase: Phase,
     pub tags: u8,
@@ -54,10 +54,18 @@ fn is_command(command: Command) -> bool
         Command::Final(_) => true,
         Command::Step(_, _, _) => true,
         Command::Root(_) => true,
+        Command::Nil => true,
         Command::Done => true,
         Command::Expression(_) => true,
         Command::NoCommand => false,
     }
+}
+
+// Is the file in a type's block, by states or after an expression?
+fn in_type_block(phase: Phase) -> bool
+    ensures { λ r. ⌜ r ≡ inTypeBlock phase ⌝ }
+{
+    same_phase(phase, Phase::InBlock) | same_phase(phase, Phase::AfterExpression)
 }
 
 // Does it stand in its order?
@@ -67,16 +75,11 @@ fn in_order(seen: Seen, command: Command) -> bool
     let phase = seen.phase;
     match command {
         Command::Tags(_) => same_phase(phase, Phase::BeforeTags),
-        Command::TypeBlock(_, _) => {
-            same_phase(phase, Phase::BeforeTypes)
-                | (same_phase(phase, Phase::InBlock) | same_phase(phase, Phase::AfterExpression))
-        }
+        Command::TypeBlock(_, _) => same_phase(phase, Phase::BeforeTypes) | in_type_block(phase),
         Command::Final(_) => same_phase(phase, Phase::InBlock),
         Command::Step(_, _, _) => same_phase(phase, Phase::InBlock),
-        Command::Root(_) => {
-            same_phase(phase, Phase::AfterRoot)
-                | (same_phase(phase, Phase::InBlock) | same_phase(phase, Phase::AfterExpression))
-        }
+        Command::Root(_) => same_phase(phase, Phase::AfterRoot) | in_type_block(phase),
+        Command::Nil => in_type_block(phase),
         Command::Done => same_phase(phase, Phase::AfterRoot),
         Command::Expression(_) => false,
         Command::NoCommand => false,
@@ -93,6 +96,7 @@ fn in_range(seen: Seen, command: Command) -> bool
         Command::Final(q) => q < seen.states,
         Command::Step(p, j, q) => { (p < seen.states) & ((j.0 < TYPE_NUMBERS) & (q < seen.states)) }
         Command::Root(a) => a.0 < seen.types,
+        Command::Nil => true,
         Command::Done => true,
         Command::Expression(_) => true,
         Command::NoCommand => true,
@@ -109,13 +113,14 @@ fn within_counts(seen: Seen, command: Command) -> bool
         Command::Final(_) => true,
         Command::Step(_, _, _) => seen.steps < STEPS,
         Command::Root(_) => seen.roots < MOST_ROOTS,
+        Command::Nil => true,
         Command::Done => true,
         Command::Expression(_) => true,
         Command::NoCommand => true,
     }
 }
 
-// Is this FINAL or STEP not yet given in its block, and this ROOT not yet in the file?
+// Is this FINAL, STEP or NIL not yet given in its block, and this ROOT not yet in the file?
 fn not_given(seen: Seen, command: Command) -> bool
     ensures { λ r. ⌜ r ≡ notGiven seen command ⌝ }
 {
@@ -126,6 +131,7 @@ fn not_given(seen: Seen, command: Command) -> bool
         Command::Final(q) => !accepting.has(q),
         Command::Step(_, _, _) => !seen.given,
         Command::Root(_) => !seen.given,
+        Command::Nil => !seen.given,
         Command::Done => true,
         Command::Expression(_) => true,
         Command::NoCommand => true,

@@ -1,6 +1,7 @@
 // The tables that the commands fill.
 use crate::progress::Progress;
 use crate::progress::TYPE_NUMBERS;
+use crate::progress::last_type;
 use command::Command;
 use schema::ROOTS;
 use schema::STEPS;
@@ -12,22 +13,12 @@ ghost use mathlib.Core.Path.{_≡_};
 ghost use Prim.Native.Nat.{_+_, _≤_, min, max};
 ghost use Rattle.sdtd.specs.Limits.{mostSteps};
 ghost use Rattle.commands.specs.File.{sameStep};
-ghost use Rattle.commands.specs.Progress.{lastType, givenIn, givenLast, givenAlready, rootAmong, rootGiven};
+ghost use Rattle.commands.specs.Progress.{givenIn, givenLast, givenAlready, rootAmong, rootGiven, nilGiven};
 ghost use Rattle.commands.specs.Progress.{tagAfter, statesAfter, acceptingAfter, countsAfter};
 ghost use Rattle.commands.specs.Progress.{fromAfter, byAfter, toAfter, placesAfter, boundAfter};
 
 // the most steps, as a type's count of them
 const MOST_COUNT: u16 = STEPS as u16;
-
-// The largest type number. Added modulo the number of types it takes one away.
-const LAST_TYPE: u8 = TYPE_NUMBERS - 1;
-
-// The place of the block that the file is in.
-pub(crate) fn last_type(types: u8) -> usize
-    ensures { λ r. ⌜ r ≡ lastType types ⌝ }
-{
-    ((types % TYPE_NUMBERS + LAST_TYPE) % TYPE_NUMBERS) as usize
-}
 
 // Is the step f, b, t the step p, j, q? All three parts are compared, with no branch.
 fn same_step(f: u8, b: TypeNo, t: u8, p: u8, j: TypeNo, q: u8) -> bool
@@ -119,6 +110,17 @@ pub(crate) fn root_given(progress: Progress, command: Command) -> bool
     let root = progress.root;
     match command {
         Command::Root(a) => root_among(root, progress.roots, a),
+        _ => false,
+    }
+}
+
+// Has the block that the file is in a NIL, if the command is one?
+pub(crate) fn nil_given(progress: Progress, command: Command) -> bool
+    ensures { λ r. ⌜ r ≡ nilGiven progress command ⌝ }
+{
+    let nillable = progress.nillable;
+    match command {
+        Command::Nil => nillable[last_type(progress.types)],
         _ => false,
     }
 }

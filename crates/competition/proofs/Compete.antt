@@ -10,17 +10,21 @@ use lib.ListN.{length, getD, length-append, List·getD-eq-default}
 use Rattle.sdtd.specs.Limits.{mostStates, mostWord}
 use Rattle.sdtd.specs.Schema.{Step, Schema, noBlock, blockOf, tagOf, step, Leads, stay, go, WithinLimits}
 use Rattle.sdtd.specs.Trim.{Bears, none, both, AllBear, Live, Useful}
-use Rattle.sdtd.specs.Competition.{Compete, CompeteIn, pairNumber}
+use Rattle.sdtd.specs.Competition.{OpenedAlike, Compete, CompeteIn, pairNumber}
 use Rattle.sdtd.proofs.Automata.{all-append, leads-append}
+use Rattle.sdtd.proofs.Bearing.{alike, shared}
 use Rattle.sdtd.proofs.Fixpoint.{bears-live, live-closed, PairClosed}
 use Rattle.sdtd.proofs.Rivals.{RivalSteps, rivals-compete, no-rivals}
-use Rattle.schema.specs.Rows.{Counts, toIn, RowsMean}
+use Rattle.competition.specs.Rivals.{openAlike}
+use Rattle.schema.specs.Rows.{Counts, toIn, waysIn, RowsMean}
+use Rattle.schema.specs.Trimming.{WaysExactly}
 use Rattle.competition.specs.Rows.{rowOf, Stands, Leading}
 use Rattle.competition.specs.Marks.{firstOf, secondOf, byOf, parentOf, wordTo}
 use Rattle.competition.specs.Rivals.{AreRivals}
 use Rattle.competition.specs.Queue.{Trail, ClosedPairs, TrailToRivals}
 use Rattle.competition.specs.declared.rows.Row.{Row}
 use Rattle.schema.proofs.RowLaws.{Reads, Says, row-says, row-has}
+use Rattle.competition.proofs.WaysLaws.{common, has-common}
 use Rattle.competition.proofs.Words.{word-first, word-more}
 use Rattle.competition.proofs.Queues.{rivals-swap}
 
@@ -46,8 +50,10 @@ counts m b l = record { given = m; bears = b; live = l }
 pub from-live : {S : Schema} {a : ℕ} {s : Step} → Counts S a s → Live S a (s .from)
 from-live {a = a} {s} c = live-closed .step a s (c .given) (bears-live .0 (c .bears)) (c .live)
 
--- The search of the type a goes by the rows of the schema.
-module _ {S : Schema} (within : WithinLimits S) {entries begins : List ℕ} (rows : RowsMean S entries begins) (a : ℕ) where
+-- The search of the type a goes by the rows of the schema, where a table tells in which ways types bear a tree.
+module _
+    {S : Schema} (within : WithinLimits S) (ways : List ℕ) (exact : WaysExactly S ways) {entries begins : List ℕ}
+    (rows : RowsMean S entries begins) (a : ℕ) where
   abbrev rowAt : ℕ → Row
   rowAt p = rowOf begins a p
 
@@ -59,11 +65,11 @@ module _ {S : Schema} (within : WithinLimits S) {entries begins : List ℕ} (row
   record HasEntry (s : Step) : Type 0 where
     entry : ℕ
     stands : Stands entries (rowAt (s .from)) entry
-    reads : Reads (s .from) (s .to) (s .by) (tagOf S (s .by)) entry
+    reads : Reads (s .from) (s .to) (s .by) (tagOf S (s .by)) (getD ways (s .by) 0) entry
 
   has-entry : {s : Step} → Counts S a s → HasEntry s
-  has-entry c =
-      let h = row-has within rows c in
+  has-entry {s} c =
+      let h = row-has within rows c (exact (s .by)) in
       let r = h .1 in
       record { entry = h .0; stands = record { place = r .place; least = r .least; most = r .most; is = r .is }; reads = h .2 }
 
@@ -126,12 +132,14 @@ module _ {S : Schema} (within : WithinLimits S) {entries begins : List ℕ} (row
       let y = entry-says q (o .entry) lq (o .stands) in
       let cj : Counts S a (step p j (toIn (r .entry))) = rw (r .by) at (x .counts) in
       let ck : Counts S a (step q k (toIn (o .entry))) = rw (o .by) at (y .counts) in
+      let c = common (waysIn (r .entry)) (waysIn (o .entry)) (o .alike) in
       record {
         next-j = toIn (r .entry);
         next-k = toIn (o .entry);
         step-j = cj .given;
         step-k = ck .given;
         one-tag = ap (tagOf S) (sym (r .by)) ∙ sym (x .tag) ∙ sym (o .one-tag) ∙ y .tag ∙ ap (tagOf S) (o .by);
+        alike = rw (r .by, o .by) at (alike (c .kind) (x .ways .exact (c .kind) .0 (c .first)) (y .ways .exact (c .kind) .0 (c .second)));
         bears-j = cj .bears;
         bears-k = ck .bears;
         live-j = cj .live;
@@ -158,6 +166,12 @@ module _ {S : Schema} (within : WithinLimits S) {entries begins : List ℕ} (row
             };
       }
 
+  -- the numbers of types that bear trees opened alike have a kind in common
+  open-alike : {j k : ℕ} → OpenedAlike S j k → T (openAlike (getD ways j 0) (getD ways k 0))
+  open-alike {j} {k} o =
+      let s = shared o in
+      has-common (getD ways j 0) (getD ways k 0) (s .kind) (exact j .exact (s .kind) .1 (s .bears-j)) (exact k .exact (s .kind) .1 (s .bears-k))
+
   -- rival steps by different types are rivals, and leave live states
   pub steps-rivals : {p q j k : ℕ} → RivalSteps S a p q j k → j ≢ k
       → AreRivals entries (rowAt p) (rowAt q) j k × Live S a p × Live S a q
@@ -177,6 +191,7 @@ module _ {S : Schema} (within : WithinLimits S) {entries begins : List ℕ} (row
                 by = y .reads .by-is;
                 one-tag = y .reads .tag-is ∙ sym (s .one-tag) ∙ sym (x .reads .tag-is);
                 different = λ same. different (sym (x .reads .by-is) ∙ sym same ∙ y .reads .by-is);
+                alike = rw (x .reads .ways-is, y .reads .ways-is) (open-alike (s .alike));
               };
         },
         from-live c,
@@ -225,5 +240,5 @@ module _ {S : Schema} (within : WithinLimits S) {entries begins : List ℕ} (row
 -- no types compete in a number that is no type
 pub outside-restrained : {S : Schema} {a : ℕ} → length (S .blocks) ≤ a → ¬ CompeteIn S a
 outside-restrained {S} {a} l c =
-    let end = bears-live .0 (c .compete .bears) .accepts .accepting in
+    let end = c .compete .goes-on-j .word .accepting in
     List·Memᴰ·not-nil (rw (List·getD-eq-default (S .blocks) noBlock l) at end)

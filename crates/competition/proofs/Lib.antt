@@ -1,4 +1,5 @@
 -- Laws of what the loops of the search compute.
+pub mod WaysLaws
 pub mod RowLaws
 pub mod MarkLaws
 pub mod Kept

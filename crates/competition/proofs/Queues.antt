@@ -13,11 +13,13 @@ use Rattle.sdtd.specs.Limits.{mostPairs}
 use Rattle.sdtd.specs.Competition.{pairNumber}
 use Rattle.sdtd.proofs.Pairs.{pair-swap-number, pair-either}
 use Rattle.sdtd.proofs.Rounds.{count, count-set}
+use Rattle.schema.specs.Rows.{waysIn}
 use Rattle.competition.specs.Rows.{rowOf, Leading}
 use Rattle.competition.specs.Marks.{Marks, firstOf, secondOf, markRows}
 use Rattle.competition.specs.Rivals.{AreRivals}
 use Rattle.competition.specs.Queue.{Placed, NoRivals, ClosedPairs, TrailToRivals}
 use Rattle.competition.specs.declared.rows.Row.{Row}
+use Rattle.competition.proofs.WaysLaws.{alike-swap}
 use Rattle.competition.proofs.Kept.{IsMarked, entryAt, entryNumber, EntryLeads, Kept, set-marked}
 use Rattle.competition.proofs.MarkGrowth.{Grows, Led, step-grows}
 
@@ -110,7 +112,14 @@ rivals-swap r =
       stands = o .stands;
       by = o .by;
       rival =
-          record { entry = r .entry; stands = r .stands; by = r .by; one-tag = sym (o .one-tag); different = λ e. o .different (sym e) };
+          record {
+            entry = r .entry;
+            stands = r .stands;
+            by = r .by;
+            one-tag = sym (o .one-tag);
+            different = λ e. o .different (sym e);
+            alike = alike-swap (waysIn (r .entry)) (waysIn (o .entry)) (o .alike);
+          };
     }
 
 pub none-swap :

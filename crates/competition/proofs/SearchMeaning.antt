@@ -9,10 +9,11 @@ use native.Mathlib.Omega.{arith}
 use lib.Dec.{T}
 use lib.ListN.{length, getD, drop}
 use Rattle.sdtd.specs.Schema.{WithinLimits}
-use Rattle.sdtd.specs.Trim.{Useful}
+use Rattle.sdtd.specs.Trim.{Bears, Useful}
 use Rattle.sdtd.specs.Competition.{Compete, CompeteIn, CompeteOutside, Competition, of-roots, in-type, witnessBytes, by-types}
 use Rattle.sdtd.proofs.Basics.{and-parts, and-both}
 use Rattle.schema.specs.Value.{meaning}
+use Rattle.schema.specs.Ways.{bearsIn}
 use Rattle.schema.specs.Rows.{RowsMean}
 use Rattle.schema.specs.Trimming.{Exact}
 use Rattle.competition.specs.Marks.{wordTo}
@@ -23,12 +24,13 @@ use Rattle.schema.specs.declared.value.Schema.{Schema}
 use Rattle.schema.specs.declared.tables.Trimming.{Trimming}
 use Rattle.competition.specs.declared.search.TypeTables.{TypeTables}
 use Rattle.schema.proofs.Values.{types-count}
+use Rattle.schema.proofs.WaysLaws.{bears-in}
 use Rattle.competition.proofs.Compete.{CompeteEither, trail-competes, closed-restrained, outside-restrained}
 use Rattle.competition.proofs.Shortest.{trail-shortest}
 
 -- the tables of a schema and its trimming
 abbrev pub tablesOf : Schema → Trimming → TypeTables
-tablesOf v t = record { reached = t .reached; bears = t .bears; types = v .types }
+tablesOf v t = record { reached = t .reached; ways = t .ways; types = v .types }
 
 module _
     (v : Schema) (t : Trimming) (entries begins : List ℕ) (within : WithinLimits (meaning v)) (exact : Exact (meaning v) t)
@@ -40,17 +42,18 @@ module _
   -- the tables say which types are useful
   is-useful : (a : ℕ) → T (isUseful (tablesOf v t) a) ↔ Useful (meaning v) a
   is-useful a = (
-    λ u.
-        let p = and-parts (getD (t .reached) a false) (getD (t .bears) a false) u in
-        (exact .reached a .0 (p .0), exact .bears a .0 (p .1)),
-    λ u. and-both (getD (t .reached) a false) (getD (t .bears) a false) (exact .reached a .1 (u .0)) (exact .bears a .1 (u .1)),
+    λ u. let p = and-parts (getD (t .reached) a false) (bearsIn (t .ways) a) u in (exact .reached a .0 (p .0), bears a .0 (p .1)),
+    λ u. and-both (getD (t .reached) a false) (bearsIn (t .ways) a) (exact .reached a .1 (u .0)) (bears a .1 (u .1)),
   )
+    where
+      bears : (j : ℕ) → T (bearsIn (t .ways) j) ↔ Bears (meaning v) j
+      bears = bears-in (meaning v) (t .ways) (exact .ways)
 
   -- no two types compete in a type whose search found nothing
   restrained : (a : ℕ) → NoneFound a → ¬ CompeteIn (meaning v) a
   restrained a r k =
       let c = k .compete in
-      closed-restrained within rows a (r (is-useful a .1 (c .reached, c .bears)) .1) k
+      closed-restrained within (t .ways) (exact .ways) rows a (r (is-useful a .1 (c .reached, c .bears)) .1) k
 
   -- the search found nothing in any type
   pub none-compete : ((a : ℕ) → a < v .types → NoneFound a) → ¬ Competition (meaning v)
@@ -79,7 +82,7 @@ module _
   module _ (a at j k : ℕ) (queue : List ℕ) (found : CompetingIn entries begins (tablesOf v t) a queue at j k)
       (smaller : (c : ℕ) → c < a → NoneFound c) where
     competing : CompeteEither (meaning v) a (wordTo at queue at) j k
-    competing = trail-competes within rows a (is-useful a .0 (found .useful)) (found .to-rivals)
+    competing = trail-competes within (t .ways) (exact .ways) rows a (is-useful a .0 (found .useful)) (found .to-rivals)
 
     smallest : (c : ℕ) → CompeteIn (meaning v) c → a ≤ c
     smallest c x = by-order (decLt c a)
@@ -104,7 +107,7 @@ module _
                 word = w;
                 compete = smaller-first competing;
                 smallest = smallest;
-                shortest = trail-shortest within rows a (found .to-rivals);
+                shortest = trail-shortest within (t .ways) (exact .ways) rows a (found .to-rivals);
                 short = competing .short;
                 written = refl;
               });

@@ -12,6 +12,7 @@ use Rattle.sdtd.proofs.Fixpoint.{PairOfLength, CountedClosed, counted-complete}
 use Rattle.sdtd.proofs.Pairs.{pair-swap-number, pair-either}
 use Rattle.sdtd.proofs.Rivals.{rivals-in}
 use Rattle.schema.specs.Rows.{RowsMean}
+use Rattle.schema.specs.Trimming.{WaysExactly}
 use Rattle.competition.specs.Marks.{firstOf, secondOf, parentOf, wordTo}
 use Rattle.competition.specs.Queue.{Placed, LeadsBefore, NoRivals, Trail, TrailToRivals}
 use Rattle.competition.proofs.Words.{word-first, back}
@@ -26,8 +27,10 @@ later : (queue : List ℕ) (n i : ℕ) → n < wordLength queue i → 0 < i
 later queue n zero l = absurd (omega (arith, ap length (word-first queue 0)))
 later queue n (suc i) l = omega arith
 
--- The search of the type a goes by the rows of the schema.
-module _ {S : Schema} (within : WithinLimits S) {entries begins : List ℕ} (rows : RowsMean S entries begins) (a : ℕ) where
+-- The search of the type a goes by the rows of the schema, where a table tells in which ways types bear a tree.
+module _
+    {S : Schema} (within : WithinLimits S) (ways : List ℕ) (exact : WaysExactly S ways) {entries begins : List ℕ}
+    (rows : RowsMean S entries begins) (a : ℕ) where
   module _ {queue : List ℕ} {at : ℕ} (t : Trail entries begins a queue at) where
     -- a pair of live states p and q stands before each place whose word has more than n types
     abbrev ReachedBefore : ℕ → ℕ → ℕ → Type 0
@@ -50,7 +53,7 @@ module _ {S : Schema} (within : WithinLimits S) {entries begins : List ℕ} (row
               let x = before (parentOf (getD queue i 0)) (omega (arith, r .earlier)) (omega (arith, r .shorter)) (from-live c) (from-live d) in
               let e : ℕ = getD queue (x .place) 0 in
               pair-either {P = LeadsBefore entries begins a queue i} (before-swap i) (firstOf e) (secondOf e) p q (x .is)
-              (t .in-order i pos h (x .place) (x .place-below)) j p′ q′ (counts-leading within rows a c d);
+              (t .in-order i pos h (x .place) (x .place-below)) j p′ q′ (counts-leading within ways exact rows a c d);
         }
 
   -- two types that compete in a do so after a word that is no shorter than that to the first pair with rivals
@@ -65,7 +68,7 @@ module _ {S : Schema} (within : WithinLimits S) {entries begins : List ℕ} (row
       shorter : n < wordLength queue at → ⊥
       shorter l =
           let s = rivals-in (PairOfLength S a n) other (λ p q x e. record { pair = x; long = ap length e }) in
-          let x = steps-rivals within rows a (s .rivals) (s .different) in
+          let x = steps-rivals within ways exact rows a (s .rivals) (s .different) in
           let b = counted-complete (before-closed (r .trail)) n (s .p) (s .q) (s .pair) at (omega arith) l (x .1) (x .2) in
           let e : ℕ = getD queue (b .place) 0 in
           pair-either {P = NoRivals entries begins a} (none-swap entries begins a) (firstOf e) (secondOf e) (s .p) (s .q) (b .is)

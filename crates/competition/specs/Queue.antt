@@ -9,6 +9,7 @@ use lib.ListN.{getD}
 use Rattle.sdtd.specs.Limits.{mostPairs}
 use Rattle.sdtd.specs.Schema.{Schema}
 use Rattle.sdtd.specs.Competition.{pairNumber, Competition}
+use Rattle.schema.specs.Ways.{bearsIn}
 use Rattle.competition.specs.Rows.{rowOf, Leading}
 use Rattle.competition.specs.Marks.{firstOf, secondOf, byOf, parentOf, Linked}
 use Rattle.competition.specs.Rivals.{AreRivals}
@@ -69,7 +70,7 @@ PairFoundMeans entries begins a queue Nowhere = (reached : List Bool) × ClosedP
 
 -- the type a is reached and bears a tree, by the tables
 abbrev pub isUseful : TypeTables → ℕ → Bool
-isUseful t a = getD (t .reached) a false && getD (t .bears) a false
+isUseful t a = getD (t .reached) a false && bearsIn (t .ways) a
 
 -- two types compete in the type a, by the rows and the queue
 pub record CompetingIn (entries begins : List ℕ) (t : TypeTables) (a : ℕ) (queue : List ℕ) (at j k : ℕ) : Type 0 where

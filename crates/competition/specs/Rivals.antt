@@ -1,9 +1,13 @@
 -- What the private search for rival steps at a pair of states answers.
 use mathlib.Core.Path.{_≡_}
+use mathlib.Core.Bool.{Bool, _&&_, _||_}
 use mathlib.Core.Logic.{_≢_}
 use mathlib.Core.List.{List}
 use Prim.Native.Nat.{ℕ}
-use Rattle.schema.specs.Rows.{byIn, tagIn}
+use lib.Dec.{T}
+use Rattle.sdtd.specs.Tree.{plain, nil}
+use Rattle.schema.specs.Ways.{opensBy}
+use Rattle.schema.specs.Rows.{byIn, tagIn, waysIn}
 use Rattle.competition.specs.Rows.{Stands}
 use Rattle.competition.specs.declared.rows.Row.{Row}
 use Rattle.competition.specs.declared.rivals.Rival.{Rival}
@@ -11,13 +15,18 @@ use Rattle.competition.specs.declared.rivals.Rival.the-variants.{One, No
 use Rattle.competition.specs.declared.rivals.Rivals.{Rivals}
 use Rattle.competition.specs.declared.rivals.Rivals.the-variants.{Of, NoTypes}
 
--- k is another type of e's tag, by an entry of the row
+-- two numbers of ways have a kind in common
+abbrev pub openAlike : ℕ → ℕ → Bool
+openAlike w v = (opensBy nil w && opensBy nil v) || (opensBy plain w && opensBy plain v)
+
+-- k is another type of e's tag, where both bear trees opened alike, by an entry of the row
 pub record IsRival (entries : List ℕ) (row : Row) (e k : ℕ) : Type 0 where
   pub entry : ℕ
   pub stands : Stands entries row entry
   pub by : byIn entry ≡ k
   pub one-tag : tagIn entry ≡ tagIn e
   pub different : byIn entry ≢ byIn e
+  pub alike : T (openAlike (waysIn e) (waysIn entry))
 
 abbrev pub RivalMeans : List ℕ → Row → ℕ → Rival → Type 0
 RivalMeans entries row e (One k) = IsRival entries row e (k .0)

@@ -1,4 +1,4 @@
--- What the two calls about competition answer: document 01, "Competition"; document 02, Req 01 and 04.
+-- What the two calls about competition answer: document 01, "Competition"; document 02, Req 01, 04 and 05.
 use mathlib.Core.Path.{_≡_}
 use mathlib.Core.List.{List, [], _∷_, _++_}
 use Prim.Native.Nat.{ℕ}

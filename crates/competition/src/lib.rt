@@ -5,6 +5,7 @@ mod rivals;
 mod roots;
 mod rows;
 mod search;
+mod ways;
 mod witness;
 
 pub use search::Searched;

@@ -1,5 +1,7 @@
-// Rival steps at a pair of states: an entry of the one's row and an entry of the other's, by different types of one tag.
+// Rival steps at a pair of states: an entry of the one's row and an entry of the other's, by different types of one tag that bear trees opened
+// alike.
 use crate::rows::Row;
+use crate::ways::alike;
 use schema::Entry;
 use schema::STEPS;
 use sdtd::TypeNo;
@@ -19,13 +21,14 @@ pub(crate) enum Rivals {
     NoTypes,
 }
 
-// Another type of e's tag, by an entry of the row.
+// Another type of e's tag, where both bear trees opened alike, by an entry of the row.
 fn rival_in(entries: &[u32; STEPS], row: Row, e: u32) -> Rival
     requires { ⌜ row .end ≤ mostSteps ⌝ }
     ensures { λ r. ⌜ RivalMeans (now (entries .entry)) row e r ⌝ }
 {
     let j = Entry(e).by();
     let shared = Entry(e).tag();
+    let ways = Entry(e).ways();
     let end = row.end;
     let mut i = row.start;
     while i < end {
@@ -33,7 +36,9 @@ fn rival_in(entries: &[u32; STEPS], row: Row, e: u32) -> Rival
         if Entry(f).tag().same(shared) {
             let k = Entry(f).by();
             if !k.same(j) {
-                return Rival::One(k);
+                if alike(ways, Entry(f).ways()) {
+                    return Rival::One(k);
+                }
             }
         }
         i += 1;

@@ -7,8 +7,9 @@ use crate::rivals::Rivals;
 use crate::rivals::rivals_at;
 use crate::roots::opening_types;
 use crate::roots::rival_roots;
-use crate::roots::some_marked;
+use crate::roots::some_opens;
 use crate::rows::row_of;
+use crate::ways::opens;
 use crate::witness::LEAST_WITNESS;
 use crate::witness::NO_PARENT;
 use crate::witness::write_head;
@@ -55,10 +56,10 @@ pub(crate) enum PairFound {
     Nowhere,
 }
 
-// Of each type whether it is reached and whether it bears a tree; and how many types there are.
+// Of each type whether it is reached and by which kinds of opening it bears a tree; and how many types there are.
 pub(crate) struct TypeTables {
     pub reached: [bool; TYPES],
-    pub bears: [bool; TYPES],
+    pub ways: [u8; TYPES],
     pub types: usize,
 }
 
@@ -110,7 +111,7 @@ fn search_at<'a>(
     if !useful.reached[i] {
         return PairFound::Nowhere;
     }
-    if !useful.bears[i] {
+    if !opens(useful.ways[i]) {
         return PairFound::Nowhere;
     }
     search_type(table, entries, begins, a, queue)
@@ -146,8 +147,8 @@ fn first_competing<'a>(
     Competing::NoneIn
 }
 
-// Do two roots compete, by the table of the tree-bearing ones? If so, the two go to the witness buffer, with no parent and no word.
-fn roots_compete(schema: Schema, opening: &[bool; TYPES], witness: &mut [u8]) -> bool
+// Do two roots compete, by the table of how types open a document? If so, the two go to the witness buffer, with no parent and no word.
+fn roots_compete(schema: Schema, opening: &[u8; TYPES], witness: &mut [u8]) -> bool
     requires { ⌜ WithinLimits (meaning schema) × OpensExactly (meaning schema) (now opening) × (leastWitness ≤ length (now witness)) ⌝ }
     ensures { λ r. ⌜ RootsCompeteMeans (meaning schema) (now (witness .entry)) (now (witness .exit)) r ⌝ }
 {
@@ -173,10 +174,10 @@ fn types_compete<'a>(
     ensures { λ r. ⌜ CompetesMeans (meaning schema) (now (witness .entry)) (now (witness .exit)) r ⌝ }
 {
     let reached = trimming.reached;
-    let bears = trimming.bears;
+    let ways = trimming.ways;
     let useful = TypeTables {
         reached,
-        bears,
+        ways,
         types: schema.types as usize,
     };
     let mut queue = [0u32; PAIRS];
@@ -189,11 +190,11 @@ fn types_compete<'a>(
     false
 }
 
-// The search of a schema inside the limits by its trimming, its tree-bearing roots and its rows. Roots are looked at before all else.
+// The search of a schema inside the limits by its trimming, its roots' ways and its rows. Roots are looked at before all else.
 fn competes<'a>(
     schema: Schema,
     trimming: Trimming,
-    opening: &[bool; TYPES],
+    opening: &[u8; TYPES],
     entries: &'a [u32; STEPS],
     begins: &'a [u16; BEGINS],
     witness: &mut [u8],
@@ -242,7 +243,7 @@ pub fn judge(schema: Schema, witness: &mut [u8]) -> Verdict
         return Verdict::RefusedAt(10, 0);
     }
     let opening = opening_types(schema, trimming);
-    if !some_marked(&opening) {
+    if !some_opens(&opening) {
         return Verdict::RefusedAt(8, 0);
     }
     if competes(schema, trimming, &opening, &entries, &begins, witness) {

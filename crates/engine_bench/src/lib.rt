@@ -17,6 +17,7 @@ use sdtd::Tag;
 ghost use mathlib.Core.Path.{_≡_};
 ghost use mathlib.Core.Logic.{_↔_};
 ghost use lib.Dec.{T};
+ghost use Rattle.sdtd.specs.Tree.{plain, nil};
 ghost use Rattle.sdtd.specs.Document.{opening, closing, finish};
 ghost use Rattle.sdtd.specs.Schema.{WithinLimits};
 ghost use Rattle.schema.specs.Value.{meaning};
@@ -118,12 +119,20 @@ fn handed(next: Next) -> Answered
     }
 }
 
-// An opening of the tag.
+// An opening of the tag, plainly.
 #[no_mangle]
 pub extern "C" fn bench_open(schema: Schema, reading: Reading, tag: u8) -> Answered
-    ensures { λ r. ⌜ Handed (meaning schema) reading (opening tag) r ⌝ }
+    ensures { λ r. ⌜ Handed (meaning schema) reading (opening plain tag) r ⌝ }
 {
     handed(reading.open(schema, Tag(tag)))
+}
+
+// An opening of the tag as nil.
+#[no_mangle]
+pub extern "C" fn bench_open_nil(schema: Schema, reading: Reading, tag: u8) -> Answered
+    ensures { λ r. ⌜ Handed (meaning schema) reading (opening nil tag) r ⌝ }
+{
+    handed(reading.open_nil(schema, Tag(tag)))
 }
 
 // A closing of the tag.
@@ -142,10 +151,10 @@ pub extern "C" fn bench_finish(schema: Schema, reading: Reading) -> Answered
     handed(reading.finish(schema))
 }
 
-// An opening of the tag on a lent reading.
+// An opening of the tag, plainly, on a lent reading.
 #[no_mangle]
 pub extern "C" fn bench_open_lent(reading: &mut Reading, schema: Schema, tag: u8) -> Answer
-    ensures { λ r. ⌜ HandedLent (meaning schema) (now (reading .entry)) (opening tag) (now (reading .exit)) r ⌝ }
+    ensures { λ r. ⌜ HandedLent (meaning schema) (now (reading .entry)) (opening plain tag) (now (reading .exit)) r ⌝ }
 {
     numbers(open_lent(reading, schema, Tag(tag)))
 }
@@ -159,6 +168,7 @@ fn own(schema: Schema) -> Schema
     let tag = schema.tag;
     let states = schema.states;
     let accepting = schema.accepting;
+    let nillable = schema.nillable;
     let steps = schema.steps;
     let from = schema.from;
     let by = schema.by;
@@ -171,6 +181,7 @@ fn own(schema: Schema) -> Schema
         tag,
         states,
         accepting,
+        nillable,
         steps,
         from,
         by,

@@ -8,6 +8,7 @@ use native.Mathlib.Numerals.{sub-one}
 use native.Mathlib.Omega.{arith}
 use borrow.Author.Tests.{lt-leb}
 use lib.ListN.{length, drop, drop-of-length-le}
+use Rattle.sdtd.specs.Tree.{plain, nil}
 use Rattle.sdtd.specs.Document.{Event, opening, closing, finish}
 use Rattle.sdtd.specs.Reading.{depth}
 use Rattle.sdtd.specs.declared.Tag.{Tag}
@@ -15,8 +16,8 @@ use Rattle.sdtd.proofs.Depth.{depth-opening, depth-closing, depth-finish}
 use Rattle.events.specs.Events.{Events, ends, stray, event, eventsOf, sizeOf, size, eventAt, placeAfter}
 use Rattle.sdtd.specs.Numbered.{tagNo}
 use Rattle.events.specs.declared.decoder.FileEvent.{FileEvent}
-use Rattle.events.specs.declared.decoder.FileEvent.the-variants.{Open, Close, Finish, NoEvent}
-use Rattle.events.proofs.EventLaws.{Ends, event-ends, matched-ends}
+use Rattle.events.specs.declared.decoder.FileEvent.the-variants.{Open, OpenNil, Close, Finish, NoEvent}
+use Rattle.events.proofs.EventLaws.{opening-size, Ends, event-ends, matched-ends}
 use Rattle.events.proofs.EventPlaces.{Stands, event-stands}
 use Rattle.events.specs.declared.outline.Cursor.{Cursor}
 use Rattle.events.specs.declared.outline.NextOpening.{NextOpening}
@@ -31,6 +32,7 @@ module _ (file : List ℕ) (c : Cursor) where
   -- what is found, by the event at the cursor
   abbrev by : FileEvent → NextOpening
   by (Open g) = Opening g (cursor (c .at + size (Open g)) (deeper (c .level)))
+  by (OpenNil g) = Opening g (cursor (c .at + size (OpenNil g)) (deeper (c .level)))
   by (Close g) = nextOpening file (cursor (c .at + size (Close g)) (shallower (c .level)))
   by Finish = nextOpening file (cursor (c .at + size Finish) (c .level))
   by NoEvent = NoOpening
@@ -41,6 +43,7 @@ module _ (file : List ℕ) (c : Cursor) where
   by-stands : (e : FileEvent) → c .at ≤ length file → Stands file (c .at) e → nextOpening file c ≡ by e
   unfolding first
   by-stands (Open g) h s = ap first s
+  by-stands (OpenNil g) h s = ap first s
   by-stands (Close g) h s = ap first s
   by-stands Finish h s = ap first s
   by-stands NoEvent h s =
@@ -67,9 +70,11 @@ module _ (file : List ℕ) (c : Cursor) where
     finds : {d : FileEvent} → e ≡ d → by d ≡ nextOpening file c
     finds m = ap by (sym m ∙ here .0) ∙ sym by-event
 
-    pub looked-open : (kept : Cursor) {g : Tag} {level : ℕ} → e ≡ Open g → level ≡ deeper (c .level)
+    -- an opening, plainly or as nil
+    pub looked-open : (kept : Cursor) {d : FileEvent} {g : Tag} {level : ℕ} → e ≡ d
+        → by d ≡ Opening g (cursor (c .at + size d) (deeper (c .level))) → level ≡ deeper (c .level)
         → Looked file c (record { going = false; found = Opening g (cursor past level); cursor = kept })
-    looked-open kept m l = record { same = rw (past-case m, l) (finds m); moves = λ q. absurd (false≢true q) }
+    looked-open kept m o l = record { same = rw (past-case m, l) (sym o ∙ finds m); moves = λ q. absurd (false≢true q) }
 
     pub looked-none : (kept : Cursor) → e ≡ NoEvent → Looked file c (record { going = false; found = NoOpening; cursor = kept })
     looked-none kept m = record { same = finds m; moves = λ q. absurd (false≢true q) }
@@ -113,26 +118,22 @@ search-ended file s left = ap (λ (b : Bool). cond b (nextOpening file (s .curso
 
 module _ (file : List ℕ) (at : ℕ) where
   -- the events from a place on go on past the first, which ends inside the file
+  after-first : (d x : Event) {es : Events} → eventsOf (drop at file) ≡ event d (eventsOf (drop (at + sizeOf d) file))
+      → at + sizeOf d ≤ length file
+      → eventsOf (drop at file) ≡ event x es → (eventsOf (drop (at + sizeOf x) file) ≡ es) × (at + sizeOf x ≤ length file)
+  after-first d x {es} s l q =
+      let later = eventsOf (drop (at + sizeOf d) file) in
+      let p : event d later ≡ event x es = sym s ∙ q in
+      let y : d ≡ x = cc in
+      let z : later ≡ es = cc in
+      subst (λ (w : Event). (eventsOf (drop (at + sizeOf w) file) ≡ es) × (at + sizeOf w ≤ length file)) y (z, l)
+
   after : (e : FileEvent) (x : Event) {es : Events} → at ≤ length file → Stands file at e → Ends file at e
       → eventsOf (drop at file) ≡ event x es → (eventsOf (drop (at + sizeOf x) file) ≡ es) × (at + sizeOf x ≤ length file)
-  after (Open g) x {es} h s l q =
-      let later = eventsOf (drop (at + size (Open g)) file) in
-      let p : event (opening (g .0)) later ≡ event x es = sym s ∙ q in
-      let y : opening (g .0) ≡ x = cc in
-      let z : later ≡ es = cc in
-      subst (λ (w : Event). (eventsOf (drop (at + sizeOf w) file) ≡ es) × (at + sizeOf w ≤ length file)) y (z, l)
-  after (Close g) x {es} h s l q =
-      let later = eventsOf (drop (at + size (Close g)) file) in
-      let p : event (closing (g .0)) later ≡ event x es = sym s ∙ q in
-      let y : closing (g .0) ≡ x = cc in
-      let z : later ≡ es = cc in
-      subst (λ (w : Event). (eventsOf (drop (at + sizeOf w) file) ≡ es) × (at + sizeOf w ≤ length file)) y (z, l)
-  after Finish x {es} h s l q =
-      let later = eventsOf (drop (at + size Finish) file) in
-      let p : event finish later ≡ event x es = sym s ∙ q in
-      let y : finish ≡ x = cc in
-      let z : later ≡ es = cc in
-      subst (λ (w : Event). (eventsOf (drop (at + sizeOf w) file) ≡ es) × (at + sizeOf w ≤ length file)) y (z, l)
+  after (Open g) x h s l q = after-first (opening plain (g .0)) x s l q
+  after (OpenNil g) x h s l q = after-first (opening nil (g .0)) x s l q
+  after (Close g) x h s l q = after-first (closing (g .0)) x s l q
+  after Finish x h s l q = after-first finish x s l q
   after NoEvent x {es} h s l q =
       elim (decLe (length file) at) [
         | yes k ↦
@@ -170,9 +171,10 @@ lines-from : (file : List ℕ) → length file < 2 ^ 64 → (es : Events) (level
     → Lines file (firstOpening level at es) (outline level es)
 lines-from file h ends level at l q = refl
 lines-from file h stray level at l q = refl
-lines-from file h (event (opening g) es) level at l q =
-    let k = goes-on file at (opening g) q in
-    let past = at + sizeOf (opening g) in
+lines-from file h (event (opening κ g) es) level at l q =
+    let k = goes-on file at (opening κ g) q in
+    let s = opening-size κ g in
+    let past = at + sizeOf (opening κ g) in
     let next = cursor past (suc level) in
     let rest : Lines file (firstOpening (suc level) past es) (outline (suc level) es) =
     lines-from file h es (suc level) past (omega arith) (k .0) in
@@ -202,9 +204,9 @@ outline-found file h = found-in-turn file h start (omega arith)
 pub outline-depths : (e : List Event) (es : Events) → outline (depth e) es ≡ byDepth e es
 outline-depths e ends = refl
 outline-depths e stray = refl
-outline-depths e (event (opening g) es) =
-    ap (λ (n : ℕ). record { level = n; tag = g } ∷ outline n es) (sym (depth-opening e g))
-    ∙ ap (λ (ls : List Line). record { level = depth (e ++ (opening g ∷ [])); tag = g } ∷ ls) (outline-depths (e ++ (opening g ∷ [])) es)
+outline-depths e (event (opening κ g) es) =
+    ap (λ (n : ℕ). record { level = n; tag = g } ∷ outline n es) (sym (depth-opening e κ g))
+    ∙ ap (λ (ls : List Line). record { level = depth (e ++ (opening κ g ∷ [])); tag = g } ∷ ls) (outline-depths (e ++ (opening κ g ∷ [])) es)
 outline-depths e (event (closing g) es) =
     ap (λ (n : ℕ). outline n es) (sub-one (depth e) ∙ sym (depth-closing e g)) ∙ outline-depths (e ++ (closing g ∷ [])) es
 outline-depths e (event finish es) =

@@ -1,3 +1,3 @@
--- Event files as bytes: document 01, "The event file". `Outline` is the openings in order with their levels.
+-- Event files as bytes: document 01, "The event file", and document 02, Req 05. `Outline` is the openings in order with their levels.
 pub mod Events
 pub mod Outline

@@ -1,4 +1,4 @@
--- The openings of an event file in order, with their levels.
+-- The openings of an event file in order, plain and nil ones, with their levels.
 use mathlib.Core.Path.{_≡_}
 use mathlib.Core.Bool.{true, cond}
 use mathlib.Core.List.{List, [], _∷_, _++_}
@@ -26,7 +26,7 @@ shallower level = level - 1
 abbrev pub firstOpening : ℕ → ℕ → Events → NextOpening
 firstOpening level at ends = NoOpening
 firstOpening level at stray = NoOpening
-firstOpening level at (event (opening g) es) = Opening (tagNo g) (record { at = at + sizeOf (opening g); level = deeper level })
+firstOpening level at (event (opening κ g) es) = Opening (tagNo g) (record { at = at + sizeOf (opening κ g); level = deeper level })
 firstOpening level at (event (closing g) es) = firstOpening (shallower level) (at + sizeOf (closing g)) es
 firstOpening level at (event finish es) = firstOpening level (at + sizeOf finish) es
 
@@ -43,7 +43,7 @@ pub record Line : Type 0 where
 abbrev pub outline : ℕ → Events → List Line
 outline level ends = []
 outline level stray = []
-outline level (event (opening g) es) = record { level = suc level; tag = g } ∷ outline (suc level) es
+outline level (event (opening κ g) es) = record { level = suc level; tag = g } ∷ outline (suc level) es
 outline level (event (closing g) es) = outline (shallower level) es
 outline level (event finish es) = outline level es
 
@@ -51,8 +51,8 @@ outline level (event finish es) = outline level es
 abbrev pub byDepth : List Event → Events → List Line
 byDepth e ends = []
 byDepth e stray = []
-byDepth e (event (opening g) es) =
-    record { level = depth (e ++ (opening g ∷ [])); tag = g } ∷ byDepth (e ++ (opening g ∷ [])) es
+byDepth e (event (opening κ g) es) =
+    record { level = depth (e ++ (opening κ g ∷ [])); tag = g } ∷ byDepth (e ++ (opening κ g ∷ [])) es
 byDepth e (event (closing g) es) = byDepth (e ++ (closing g ∷ [])) es
 byDepth e (event finish es) = byDepth (e ++ (finish ∷ [])) es
 

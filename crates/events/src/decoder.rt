@@ -8,9 +8,10 @@ pub const WITH_TAG: usize = 2;
 // the bytes of a finish
 pub const ALONE: usize = 1;
 
-// An event with its tag, or that there is none.
+// An event with its tag, or that there is none. `OpenNil` opens an element as nil.
 pub enum FileEvent {
     Open(Tag),
+    OpenNil(Tag),
     Close(Tag),
     Finish,
     NoEvent,
@@ -19,10 +20,14 @@ pub enum FileEvent {
 // What an event is, without its tag; or that there is none.
 pub enum EventKind {
     OpenKind,
+    OpenNilKind,
     CloseKind,
     FinishKind,
     NoKind,
 }
+
+// Events with a tag begin with bytes below this one, which a file has most of; a finish begins with a larger one.
+const PAST_TAGGED: u8 = 0x24;
 
 // The kind of the event at a place of the file.
 pub(crate) fn kind_at(events: &[u8], at: usize) -> EventKind
@@ -33,17 +38,23 @@ pub(crate) fn kind_at(events: &[u8], at: usize) -> EventKind
     }
     let left = events.len() - at;
     let b = events[at];
-    if b == 0x2f {
-        return EventKind::FinishKind;
-    }
-    if left < WITH_TAG {
+    if b < PAST_TAGGED {
+        if left < WITH_TAG {
+            return EventKind::NoKind;
+        }
+        if b == 0x21 {
+            return EventKind::OpenKind;
+        }
+        if b == 0x22 {
+            return EventKind::CloseKind;
+        }
+        if b == 0x23 {
+            return EventKind::OpenNilKind;
+        }
         return EventKind::NoKind;
     }
-    if b == 0x21 {
-        return EventKind::OpenKind;
-    }
-    if b == 0x22 {
-        return EventKind::CloseKind;
+    if b == 0x2f {
+        return EventKind::FinishKind;
     }
     EventKind::NoKind
 }
@@ -68,6 +79,7 @@ pub(crate) fn event_at(events: &[u8], at: usize) -> FileEvent
 {
     match kind_at(events, at) {
         EventKind::OpenKind => FileEvent::Open(tag_at(events, at)),
+        EventKind::OpenNilKind => FileEvent::OpenNil(tag_at(events, at)),
         EventKind::CloseKind => FileEvent::Close(tag_at(events, at)),
         EventKind::FinishKind => FileEvent::Finish,
         EventKind::NoKind => FileEvent::NoEvent,
@@ -79,8 +91,7 @@ pub(crate) fn place_after(events: &[u8], at: usize) -> usize
     ensures { λ r. ⌜ r ≡ placeAfter (now (events .entry)) at ⌝ }
 {
     match kind_at(events, at) {
-        EventKind::OpenKind => at + WITH_TAG,
-        EventKind::CloseKind => at + WITH_TAG,
+        EventKind::OpenKind | EventKind::OpenNilKind | EventKind::CloseKind => at + WITH_TAG,
         EventKind::FinishKind => at + ALONE,
         EventKind::NoKind => at,
     }

@@ -47,7 +47,7 @@ fn look(events: &[u8], c: Cursor) -> Search
     let passed = walk_to(events, c.at);
     let event = passed.event;
     match event {
-        FileEvent::Open(g) => Search {
+        FileEvent::Open(g) | FileEvent::OpenNil(g) => Search {
             going: false,
             found: NextOpening::Opening(
                 g,

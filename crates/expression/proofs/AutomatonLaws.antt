@@ -1,7 +1,7 @@
 -- The computed automaton is the expression's; and an expression has one automaton, its steps and accepting states rising.
 use mathlib.Core.Path.{_≡_, refl, sym, _∙_}
 use mathlib.Core.Logic.{_↔_, _⊎_, inl, inr}
-use mathlib.Core.Bool.{_&&_}
+use mathlib.Core.Bool.{Bool, false, _&&_}
 use mathlib.Core.List.{List, [], _∷_, map, List·Memᴰ}
 use Prim.Native.Nat.{ℕ, zero, suc, _≤_, _<_}
 use native.Mathlib.Omega.{arith}
@@ -94,14 +94,15 @@ module _ (e : Expression) where
       sorted-of-each Before (stepsFrom e) from-sorted
       (λ k l x y h m n. inl (omega (arith, mem-steps-from e k x .0 m .0, mem-steps-from e l y .0 n .0))) 0 (suc (uses e))
 
-  accepting-sorted : Sorted _<_ (automaton 0 e .accepting)
+  accepting-sorted : Sorted _<_ (automaton 0 false e .accepting)
   accepting-sorted =
       sorted-of-each _<_ (endIf e) (λ q. sorted-cond _<_ (accepts e q) q)
       (λ k l x y h m n. omega (arith, mem-cond (accepts e k) x k .0 m .1, mem-cond (accepts e l) y l .0 n .1)) 0 (suc (uses e))
 
 -- Document 02: an expression whose types are below the limit becomes its automaton.
-pub automaton-of : (tag : ℕ) (e : Expression) → ((j : ℕ) → List·Memᴰ j (named e) → j < mostTypes) → AutomatonOf e (automaton tag e)
-automaton-of tag e few =
+pub automaton-of : (tag : ℕ) (nillable : Bool) (e : Expression) → ((j : ℕ) → List·Memᴰ j (named e) → j < mostTypes)
+    → AutomatonOf e (automaton tag nillable e)
+automaton-of tag nillable e few =
     let steps : (s : Step) → List·Memᴰ s (allSteps e) ↔ ((s .by ≡ typeOfUse e (s .to)) × StepTo e (s .from) (s .to)) =
     λ s. (
       λ m. let h = mem-steps e s .0 m in (h .0, leads-means e (s .from) (s .to) .says (h .1)),
@@ -110,15 +111,28 @@ automaton-of tag e few =
           let b = leads-below e (s .from) (s .to) t in
           mem-steps e s .1 (h .0, t, few (s .by) (rw (h .0) (use-named e (s .to) (b .0) (b .1)))),
     ) in
-    let accepting : (q : ℕ) → List·Memᴰ q (automaton tag e .accepting) ↔ Ends e q =
+    let accepting : (q : ℕ) → List·Memᴰ q (automaton tag nillable e .accepting) ↔ Ends e q =
     λ q. (λ m. accepts-means e q .says (mem-accepting e q .0 m), λ h. mem-accepting e q .1 (accepts-means e q .passes h)) in
     record {
-      words = block-words e (automaton tag e) steps accepting;
+      words = block-words e (automaton tag nillable e) steps accepting;
       states = refl;
       steps = steps;
       accepting = accepting;
       steps-rise = sorted-rising Before (allSteps e) (steps-sorted e);
-      accepting-rise = sorted-rising _<_ (automaton tag e .accepting) (accepting-sorted e);
+      accepting-rise = sorted-rising _<_ (automaton tag nillable e .accepting) (accepting-sorted e);
+    }
+
+-- whether its type is nillable does not matter
+pub automaton-flag : (e : Expression) (b : Block) (nillable : Bool) → AutomatonOf e b
+    → AutomatonOf e (record { tag = b .tag; nillable = nillable; states = b .states; accepting = b .accepting; steps = b .steps })
+automaton-flag e b nillable h =
+    record {
+      words = block-words e _ (h .steps) (h .accepting);
+      states = h .states;
+      steps = h .steps;
+      accepting = h .accepting;
+      steps-rise = h .steps-rise;
+      accepting-rise = h .accepting-rise;
     }
 
 -- The order of a step: by the first number, and by X where the first numbers are the same.
@@ -148,9 +162,9 @@ less-trans k m n a b = omega arith
 less-strict : (n : ℕ) → n < n → ⊥
 less-strict n a = omega arith
 
--- An expression has one automaton of a tag.
-pub one-automaton : (e : Expression) {b c : Block} → b .tag ≡ c .tag → AutomatonOf e b → AutomatonOf e c → b ≡ c
-one-automaton e {b} {c} t x y =
+-- An expression has one automaton of a tag, nillable or not.
+pub one-automaton : (e : Expression) {b c : Block} → b .tag ≡ c .tag → b .nillable ≡ c .nillable → AutomatonOf e b → AutomatonOf e c → b ≡ c
+one-automaton e {b} {c} t n x y =
     let states : b .states ≡ c .states = x .states ∙ sym (y .states) in
     let accepting =
     rising-same less-trans less-strict (b .accepting) (c .accepting) (x .accepting-rise) (y .accepting-rise)
@@ -158,4 +172,4 @@ one-automaton e {b} {c} t x y =
     let steps =
     rising-same before-trans before-strict (b .steps) (c .steps) (x .steps-rise) (y .steps-rise)
     (λ s. (λ m. y .steps s .1 (x .steps s .0 m), λ m. x .steps s .1 (y .steps s .0 m))) in
-    λ i. record { tag = t i; states = states i; accepting = accepting i; steps = steps i }
+    λ i. record { tag = t i; nillable = n i; states = states i; accepting = accepting i; steps = steps i }

@@ -1,7 +1,7 @@
 -- What the computed automaton has: which steps, by which types and between which states, and which accepting states.
 use mathlib.Core.Path.{_≡_, refl, sym}
 use mathlib.Core.Logic.{_↔_}
-use mathlib.Core.Bool.{cond, _&&_}
+use mathlib.Core.Bool.{false, cond, _&&_}
 use mathlib.Core.List.{List, [], _∷_, List·Memᴰ}
 use Prim.Native.Nat.{ℕ, suc, _≤_, _<_, pred}
 use native.Mathlib.Omega.{arith}
@@ -102,7 +102,7 @@ module _ (e : Expression) where
   abbrev pub endIf : ℕ → List ℕ
   endIf q = cond (accepts e q) (q ∷ []) []
 
-  pub mem-accepting : (q : ℕ) → List·Memᴰ q (automaton 0 e .accepting) ↔ T (accepts e q)
+  pub mem-accepting : (q : ℕ) → List·Memᴰ q (automaton 0 false e .accepting) ↔ T (accepts e q)
   mem-accepting q = (
     λ m.
         let o = mem-of-each endIf 0 (suc (uses e)) q .0 m in

@@ -8,13 +8,13 @@ use native.Mathlib.Decide.{decLt, ℕ-discrete}
 use borrow.Author.Tests.{lt-ltb, le-ltb, ltb-true, le-leb, lt-leb, eq-eqb, ne-eqb}
 use lib.Dec.{T, eqb, ltb, leb, eqb→eq}
 use lib.ListN.{length, getD}
-use Rattle.command.specs.Command.{commandOf, commandAt, expressionCommand, size, partSize}
+use Rattle.command.specs.Command.{commandOf, commandAt, addedCommand, size, partSize}
 use Rattle.command.specs.Cases.{onExpression}
 use Rattle.sdtd.specs.Numbered.{typeNo}
 use Rattle.sdtd.proofs.Basics.{is-true, cond-both, cond-either, and-parts}
 use Rattle.command.proofs.CommandLaws.{command-in-file}
 use Rattle.command.specs.declared.Command.{Command}
-use Rattle.command.specs.declared.Command.the-variants.{Tags, TypeBlock, Final, Step, Root, Done, Expression, NoCommand}
+use Rattle.command.specs.declared.Command.the-variants.{Tags, TypeBlock, Final, Step, Root, Nil, Done, Expression, NoCommand}
 use Rattle.command.specs.declared.Part.{Part}
 use Rattle.command.specs.declared.Part.the-variants.{OpenBracket, CloseBracket, Use, Or, Repeat, End}
 use Rattle.sdtd.specs.declared.TypeNo.{TypeNo}
@@ -37,6 +37,7 @@ is-or (TypeBlock g s) e = never e
 is-or (Final q) e = never e
 is-or (Step p j q) e = never e
 is-or (Root a) e = never e
+is-or Nil e = never e
 is-or Done e = never e
 is-or (Expression OpenBracket) e = never e
 is-or (Expression CloseBracket) e = never e
@@ -52,6 +53,7 @@ is-repeat (TypeBlock g s) e = never e
 is-repeat (Final q) e = never e
 is-repeat (Step p j q) e = never e
 is-repeat (Root a) e = never e
+is-repeat Nil e = never e
 is-repeat Done e = never e
 is-repeat (Expression OpenBracket) e = never e
 is-repeat (Expression CloseBracket) e = never e
@@ -73,6 +75,7 @@ begun (TypeBlock g s) = by-none
 begun (Final q) = by-none
 begun (Step p j q) = by-none
 begun (Root a) = by-none
+begun Nil = by-none
 begun Done = by-none
 begun (Expression OpenBracket) = by-bracket refl
 begun (Expression CloseBracket) = by-none
@@ -101,6 +104,7 @@ is-close (TypeBlock g s) e = absurd (omega arith)
 is-close (Final q) e = absurd (omega arith)
 is-close (Step p j q) e = absurd (omega arith)
 is-close (Root a) e = absurd (omega arith)
+is-close Nil e = absurd (omega arith)
 is-close Done e = absurd (omega arith)
 is-close (Expression OpenBracket) e = absurd (omega arith)
 is-close (Expression CloseBracket) e = refl
@@ -116,6 +120,7 @@ is-end (TypeBlock g s) e = absurd (omega arith)
 is-end (Final q) e = absurd (omega arith)
 is-end (Step p j q) e = absurd (omega arith)
 is-end (Root a) e = absurd (omega arith)
+is-end Nil e = absurd (omega arith)
 is-end Done e = absurd (omega arith)
 is-end (Expression OpenBracket) e = absurd (omega arith)
 is-end (Expression CloseBracket) e = absurd (omega arith)
@@ -145,6 +150,7 @@ ending-is around l names again (TypeBlock g s) o d r = refl
 ending-is around l names again (Final q) o d r = refl
 ending-is around l names again (Step p j q) o d r = refl
 ending-is around l names again (Root a) o d r = refl
+ending-is around l names again Nil o d r = refl
 ending-is around l names again Done o d r = refl
 ending-is around l names again (Expression OpenBracket) o d r = some-begins Bracket refl o
 ending-is [] l names again (Expression CloseBracket) o d r = refl
@@ -168,7 +174,7 @@ module _ {A : Type 0} (g : Part → A) (z : A) (file : List ℕ) (i b : ℕ) whe
   -- a test gives z where it gives z of each part that the byte begins
   by-byte : (b ≡ 0x30 → g OpenBracket ≡ z) → (b ≡ 0x31 → g CloseBracket ≡ z) → (b ≡ 0x32 → (j : TypeNo) → g (Use j) ≡ z)
       → (b ≡ 0x33 → g Or ≡ z) → (b ≡ 0x34 → g Repeat ≡ z) → (b ≡ 0x3f → g End ≡ z) → Gives (commandOf file i b)
-  unfolding commandOf expressionCommand
+  unfolding commandOf addedCommand
   by-byte h0 h1 h2 h3 h4 hf =
       cond-both Gives (eqb b 0x10) _ _ (bytes-there (Tags _) refl)
       (cond-both Gives (eqb b 0x11) _ _ (bytes-there (TypeBlock _ _) refl)
@@ -176,12 +182,13 @@ module _ {A : Type 0} (g : Part → A) (z : A) (file : List ℕ) (i b : ℕ) whe
       (cond-both Gives (eqb b 0x13) _ _ (bytes-there (Step _ _ _) refl)
       (cond-both Gives (eqb b 0x14) _ _ (bytes-there (Root _) refl)
       (cond-both Gives (eqb b 0x1f) _ _ (bytes-there Done refl)
+      (cond-both Gives (eqb b 0x15) _ _ (bytes-there Nil refl)
       (cond-either Gives (eqb b 0x30) (λ t. bytes-there (Expression OpenBracket) (h0 (eqb→eq b 0x30 t))) (λ n0.
       cond-either Gives (eqb b 0x31) (λ t. bytes-there (Expression CloseBracket) (h1 (eqb→eq b 0x31 t))) (λ n1.
       cond-either Gives (eqb b 0x32) (λ t. bytes-there (Expression (Use _)) (h2 (eqb→eq b 0x32 t) _)) (λ n2.
       cond-either Gives (eqb b 0x33) (λ t. bytes-there (Expression Or) (h3 (eqb→eq b 0x33 t))) (λ n3.
       cond-either Gives (eqb b 0x34) (λ t. bytes-there (Expression Repeat) (h4 (eqb→eq b 0x34 t))) (λ n4.
-      cond-either Gives (eqb b 0x3f) (λ t. bytes-there (Expression End) (hf (eqb→eq b 0x3f t))) (λ nf. refl))))))))))))
+      cond-either Gives (eqb b 0x3f) (λ t. bytes-there (Expression End) (hf (eqb→eq b 0x3f t))) (λ nf. refl)))))))))))))
 
 module _ (file : List ℕ) (i : ℕ) where
   abbrev byte : ℕ
@@ -195,27 +202,27 @@ module _ (file : List ℕ) (i : ℕ) where
 
   -- the commands of one byte, and the 32 with its type
   pub bracket-at : i < length file → byte ≡ 0x30 → commandAt file i ≡ Expression OpenBracket
-  unfolding commandOf expressionCommand
+  unfolding commandOf addedCommand
   bracket-at l e = command-there l ∙ rw (e, le-leb (i + 1) (length file) (omega arith))
 
   close-at : i < length file → byte ≡ 0x31 → commandAt file i ≡ Expression CloseBracket
-  unfolding commandOf expressionCommand
+  unfolding commandOf addedCommand
   close-at l e = command-there l ∙ rw (e, le-leb (i + 1) (length file) (omega arith))
 
   pub use-at : i + 2 ≤ length file → byte ≡ 0x32 → commandAt file i ≡ Expression (Use (typeNo (getD file (i + 1) 0)))
-  unfolding commandOf expressionCommand
+  unfolding commandOf addedCommand
   use-at l e = command-there (omega arith) ∙ rw (e, le-leb (i + 2) (length file) l)
 
   pub use-short : i < length file → length file < i + 2 → byte ≡ 0x32 → commandAt file i ≡ NoCommand
-  unfolding commandOf expressionCommand
+  unfolding commandOf addedCommand
   use-short l k e = command-there l ∙ rw (e, lt-leb (i + 2) (length file) k)
 
   or-at : i < length file → byte ≡ 0x33 → commandAt file i ≡ Expression Or
-  unfolding commandOf expressionCommand
+  unfolding commandOf addedCommand
   or-at l e = command-there l ∙ rw (e, le-leb (i + 1) (length file) (omega arith))
 
   repeat-at : i < length file → byte ≡ 0x34 → commandAt file i ≡ Expression Repeat
-  unfolding commandOf expressionCommand
+  unfolding commandOf addedCommand
   repeat-at l e = command-there l ∙ rw (e, le-leb (i + 1) (length file) (omega arith))
 
   pub opens-none : i < length file → ¬ (byte ≡ 0x30) → ¬ (byte ≡ 0x32) → opening (commandAt file i) ≡ NoFactor

@@ -2,7 +2,7 @@
 use mathlib.Core.Path.{_≡_, refl}
 use mathlib.Core.List.{List, [], _∷_}
 use Prim.Native.Nat.{ℕ}
-use Rattle.command.specs.Command.{commandOf, expressionCommand}
+use Rattle.command.specs.Command.{commandOf, addedCommand}
 use Rattle.expression.specs.Expression.{Expression, emptyWord, single, sequence, choice, repeat}
 use Rattle.expression.specs.Content.{Name, Content, broken, whole, contentFrom, contentAt, afterPart}
 
@@ -22,7 +22,8 @@ abbrev alone : Expression → Expression
 alone e = sequence emptyWord e
 
 -- "`a? (b | c)*`", with the types 1, 2 and 3; nothing but the 3F; two empty sequences; the end of the file, in a command and behind one; a
--- type of 64; 34 twice, and with nothing to repeat; 31 with no bracket open, 3F with one open; a STEP, and one that is cut
+-- type of 64; 34 twice, and with nothing to repeat; 31 with no bracket open, 3F with one open; a STEP, and one that is cut; NIL
+-- before the 3F
 pub samples : List Sample
 samples =
     sample (0x30 ∷ 0x32 ∷ 1 ∷ 0x33 ∷ 0x31 ∷ 0x30 ∷ 0x32 ∷ 2 ∷ 0x33 ∷ 0x32 ∷ 3 ∷ 0x31 ∷ 0x34 ∷ 0x3f ∷ [])
@@ -40,6 +41,7 @@ samples =
     ∷ sample (0x30 ∷ 0x3f ∷ []) (broken 21 1)
     ∷ sample (0x13 ∷ 0 ∷ 1 ∷ 0 ∷ 0x3f ∷ []) (broken 3 0)
     ∷ sample (0x13 ∷ 0 ∷ []) (broken 2 0)
+    ∷ sample (0x32 ∷ 1 ∷ 0x15 ∷ 0x3f ∷ []) (broken 3 2)
     ∷ []
 
 abbrev pub BecomeSo : List Sample → Type 0
@@ -47,5 +49,5 @@ BecomeSo [] = Unit
 BecomeSo (s ∷ ss) = (contentAt (s .bytes) 0 ≡ s .becomes) × BecomeSo ss
 
 pub samples-become : BecomeSo samples
-unfolding samples contentAt contentFrom afterPart commandOf expressionCommand
-samples-become = (refl, (refl, (refl, (refl, (refl, (refl, (refl, (refl, (refl, (refl, (refl, (refl, tt))))))))))))
+unfolding samples contentAt contentFrom afterPart commandOf addedCommand
+samples-become = (refl, (refl, (refl, (refl, (refl, (refl, (refl, (refl, (refl, (refl, (refl, (refl, (refl, tt)))))))))))))

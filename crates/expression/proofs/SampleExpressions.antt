@@ -1,6 +1,6 @@
 -- Sample expressions: the automaton of each, listed by hand; lists that are words of it, and lists that are not.
 use mathlib.Core.Path.{_≡_, refl}
-use mathlib.Core.Bool.{not}
+use mathlib.Core.Bool.{false, not}
 use mathlib.Core.List.{List, [], _∷_, List·Memᴰ}
 use Prim.Native.Nat.{ℕ, suc}
 use lib.Dec.{T, ltb}
@@ -22,11 +22,11 @@ pub record Sample : Type 0 where
   pub no-words : List (List ℕ)
 
 abbrev pub listed : Sample → Block
-listed s = record { tag = 0; states = suc (uses (s .content)); accepting = s .accepting; steps = s .steps }
+listed s = record { tag = 0; nillable = false; states = suc (uses (s .content)); accepting = s .accepting; steps = s .steps }
 
 -- the expression becomes this automaton; these lists are words of it, and these are not
 pub record Holds (s : Sample) : Type 0 where
-  pub becomes : automaton 0 (s .content) ≡ listed s
+  pub becomes : automaton 0 false (s .content) ≡ listed s
   pub words : (w : List ℕ) → List·Memᴰ w (s .words) → Denotes (s .content) w
   pub no-words : (w : List ℕ) → List·Memᴰ w (s .no-words) → ¬ Denotes (s .content) w
 
@@ -98,15 +98,15 @@ abbrev pub samples : List Sample
 samples = optional ∷ nothing ∷ byType ∷ evenly ∷ twoWays ∷ nested ∷ []
 
 -- a list is a word exactly if the automaton accepts it
-word-means : (e : Expression) → T (every (λ j. ltb j mostTypes) (named e)) → (w : List ℕ) → Means (acceptsb (automaton 0 e) w) (Denotes e w)
+word-means : (e : Expression) → T (every (λ j. ltb j mostTypes) (named e)) → (w : List ℕ) → Means (acceptsb (automaton 0 false e) w) (Denotes e w)
 word-means e few w =
-    let a = automaton-of 0 e (every-means (λ j. lt-means j mostTypes) (named e) .says few) .words w in
-    means-iff (accepts-means (automaton 0 e) w) (a .1, a .0)
+    let a = automaton-of 0 false e (every-means (λ j. lt-means j mostTypes) (named e) .says few) .words w in
+    means-iff (accepts-means (automaton 0 false e) w) (a .1, a .0)
 
 -- what is to be computed of a sample
-holds : (s : Sample) → automaton 0 (s .content) ≡ listed s → T (every (λ j. ltb j mostTypes) (named (s .content)))
-    → T (every (acceptsb (automaton 0 (s .content))) (s .words))
-    → T (every (λ w. not (acceptsb (automaton 0 (s .content)) w)) (s .no-words)) → Holds s
+holds : (s : Sample) → automaton 0 false (s .content) ≡ listed s → T (every (λ j. ltb j mostTypes) (named (s .content)))
+    → T (every (acceptsb (automaton 0 false (s .content))) (s .words))
+    → T (every (λ w. not (acceptsb (automaton 0 false (s .content)) w)) (s .no-words)) → Holds s
 holds s b few words no-words =
     let m = word-means (s .content) few in
     record {

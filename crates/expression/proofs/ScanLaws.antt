@@ -10,7 +10,7 @@ use lib.ListN.{length}
 use Rattle.command.specs.Cases.{onExpression}
 use Rattle.command.specs.Command.{isCommand, commandAt, size, partSize}
 use Rattle.command.specs.declared.Command.{Command}
-use Rattle.command.specs.declared.Command.the-variants.{Tags, TypeBlock, Final, Step, Root, Done, Expression, NoCommand}
+use Rattle.command.specs.declared.Command.the-variants.{Tags, TypeBlock, Final, Step, Root, Nil, Done, Expression, NoCommand}
 use Rattle.command.specs.declared.Part.{Part}
 use Rattle.command.specs.declared.Part.the-variants.{End}
 use Rattle.command.proofs.CommandLaws.{size-some}
@@ -24,6 +24,7 @@ passes-command r (TypeBlock g s) e = tt
 passes-command r (Final q) e = tt
 passes-command r (Step p j q) e = tt
 passes-command r (Root a) e = tt
+passes-command r Nil e = tt
 passes-command r Done e = tt
 passes-command r (Expression x) e = tt
 passes-command r NoCommand e = absurd (omega arith)

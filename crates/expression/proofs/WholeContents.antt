@@ -13,7 +13,7 @@ use Rattle.sdtd.specs.Limits.{mostTypes}
 use Rattle.command.specs.Cases.{onExpression}
 use Rattle.command.specs.Command.{isCommand, commandAt, size, partSize}
 use Rattle.command.specs.declared.Command.{Command}
-use Rattle.command.specs.declared.Command.the-variants.{Tags, TypeBlock, Final, Step, Root, Done, Expression, NoCommand}
+use Rattle.command.specs.declared.Command.the-variants.{Tags, TypeBlock, Final, Step, Root, Nil, Done, Expression, NoCommand}
 use Rattle.command.specs.declared.Part.{Part}
 use Rattle.command.specs.declared.Part.the-variants.{OpenBracket, CloseBracket, Use, Or, Repeat, End}
 use Rattle.command.proofs.AskedLaws.{Numbered, all-yes, first-number}
@@ -177,6 +177,7 @@ part-passes r (TypeBlock g k) z = absurd (omega arith)
 part-passes r (Final q) z = absurd (omega arith)
 part-passes r (Step p j q) z = absurd (omega arith)
 part-passes r (Root a) z = absurd (omega arith)
+part-passes r Nil z = absurd (omega arith)
 part-passes r Done z = absurd (omega arith)
 part-passes r (Expression x) z =
     let h = all-yes (questionsInside r (Expression x)) (omega arith) z in

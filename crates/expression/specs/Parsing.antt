@@ -12,7 +12,7 @@ use Rattle.schema.specs.States.{member, insert, noStates}
 use Rattle.command.specs.Cases.{onExpression}
 use Rattle.command.specs.Command.{commandAt}
 use Rattle.command.specs.declared.Command.{Command}
-use Rattle.command.specs.declared.Command.the-variants.{Tags, TypeBlock, Final, Step, Root, Done, Expression as AnExpression, NoCommand}
+use Rattle.command.specs.declared.Command.the-variants.{Tags, TypeBlock, Final, Step, Root, Nil, Done, Expression as AnExpression, NoCommand}
 use Rattle.command.specs.declared.Part.{Part}
 use Rattle.command.specs.declared.Part.the-variants.{OpenBracket, CloseBracket, Use, Or, Repeat, End}
 use Rattle.expression.specs.Automaton.{uses}
@@ -74,6 +74,7 @@ ending inside (TypeBlock g s) = 3
 ending inside (Final q) = 3
 ending inside (Step p j q) = 3
 ending inside (Root a) = 3
+ending inside Nil = 3
 ending inside Done = 3
 ending inside (AnExpression x) = partEnding inside x
 ending inside NoCommand = 2

@@ -63,11 +63,12 @@ stepsFrom e p = ofEach (stepsBy e p) 0 mostTypes
 abbrev pub allSteps : Expression → List Step
 allSteps e = ofEach (stepsFrom e) 0 (suc (uses e))
 
--- the automaton, for a type of the tag
-abbrev pub automaton : ℕ → Expression → Block
-automaton tag e =
+-- the automaton, for a type of the tag, nillable or not
+abbrev pub automaton : ℕ → Bool → Expression → Block
+automaton tag nillable e =
     record {
       tag = tag;
+      nillable = nillable;
       states = suc (uses e);
       accepting = ofEach (λ q. cond (accepts e q) (q ∷ []) []) 0 (suc (uses e));
       steps = allSteps e;

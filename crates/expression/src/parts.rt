@@ -85,6 +85,7 @@ pub(crate) fn ends(command: Command, inside: bool) -> u8
         Command::Final(_) => 3,
         Command::Step(_, _, _) => 3,
         Command::Root(_) => 3,
+        Command::Nil => 3,
         Command::Done => 3,
         Command::Expression(part) => part_ends(part, inside),
         Command::NoCommand => 2,

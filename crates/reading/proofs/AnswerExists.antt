@@ -7,6 +7,7 @@ use native.Mathlib.Omega.{arith}
 use Rattle.sdtd.specs.Numbered.{typeNo}
 use Rattle.sdtd.specs.Limits.{mostStates, mostLevels}
 use Rattle.sdtd.specs.Schema.{Schema, tagOf}
+use Rattle.sdtd.specs.Tree.{Kind}
 use Rattle.sdtd.specs.Document.{Event, opening, closing, finish}
 use Rattle.sdtd.specs.Calls.{Exchange, calls}
 use Rattle.sdtd.proofs.Answers.{Decided, ordered-exists}
@@ -20,7 +21,7 @@ use Rattle.reading.specs.Levels.{innerType, Within}
 use Rattle.reading.specs.Questions.{gives, LeadsTo, CanOpen, opened, closed, afterFinish, OpeningTaken, questions, TakenBy, CallMeans}
 use Rattle.reading.specs.Calls.{by-value, answerOf, Called}
 use Rattle.reading.proofs.StateSets.{decided-set}
-use Rattle.reading.proofs.Decisions.{within-decided, leads-decided, open-decided, some-open-decided, ends-decided, over-decided}
+use Rattle.reading.proofs.Decisions.{within-decided, leads-decided, open-decided, some-open-decided, complete-decided, over-decided}
 use Rattle.reading.proofs.OneAnswer.{call-unique}
 
 -- inside the limits a step of an open element leads to a state below `mostStates`
@@ -30,11 +31,11 @@ led-below {S} {r} w l x =
     le-trans (b .steps _ (x .step) .to) (b .states-most)
 
 -- an opening that is taken: the smallest type, and the states that it leads to
-opening-taken : (S : Schema) (r : Reading) (g : ℕ) → Within S r → (j : ℕ) × CanOpen S r g j → (n : Next) × OpeningTaken S r g n
-opening-taken S r g w o =
-    let s = smallest-of (λ j. decided (open-decided S r g j .1)) (o .0) (o .1) in
+opening-taken : (S : Schema) (r : Reading) (κ : Kind) (g : ℕ) → Within S r → (j : ℕ) × CanOpen S r κ g j → (n : Next) × OpeningTaken S r κ g n
+opening-taken S r κ g w o =
+    let s = smallest-of (λ j. decided (open-decided S r κ g j .1)) (o .0) (o .1) in
     let k = decided-set (λ q. leads-decided S r (s .number) q .1) mostStates (le-refl mostStates) in (
-      gives (Typed (typeNo (s .number))) (opened r (s .number) (k .set)),
+      gives (Typed (typeNo (s .number))) (opened κ r (s .number) (k .set)),
       record {
         type = s .number;
         can-open = s .holds;
@@ -48,13 +49,13 @@ opening-taken S r g w o =
 
 -- each question of a call is decided, and where all of them hold there is an answer
 call-decided : (S : Schema) (r : Reading) (x : Event) → Decided (questions S r x) (TakenBy S r x)
-call-decided S r (opening g) = (
+call-decided S r (opening κ g) = (
   to-dec (within-decided S r .1),
   λ w. (
     to-dec (false-means (r .finished)),
     λ f. (
       to-dec (lt-means g (S .tags)),
-      λ t. (to-dec (some-open-decided S r g .1), λ o. (to-dec (lt-means (r .depth) mostLevels), λ d. opening-taken S r g w o)),
+      λ t. (to-dec (some-open-decided S r κ g .1), λ o. (to-dec (lt-means (r .depth) mostLevels), λ d. opening-taken S r κ g w o)),
     ),
   ),
 )
@@ -68,7 +69,7 @@ call-decided S r (closing g) = (
         to-dec (lt-means 0 (r .depth)),
         λ d. (
           to-dec (eq-means (tagOf S (innerType r)) g),
-          λ e. (to-dec (ends-decided S r .1), λ k. (gives Taken (closed r), refl)),
+          λ e. (to-dec (complete-decided S r .1), λ k. (gives Taken (closed r), refl)),
         ),
       ),
     ),

@@ -9,15 +9,16 @@ use lib.Dec.{T}
 use lib.ListN.{length, getD}
 use Rattle.sdtd.specs.Limits.{mostLevels}
 use Rattle.sdtd.specs.Schema.{Step, Schema, blockOf, tagOf}
+use Rattle.sdtd.specs.Tree.{Kind}
 use Rattle.sdtd.specs.Trim.{Live}
 use Rattle.sdtd.proofs.Tests.{means-iff, Decision, decision, itself, eq-means, lt-means, le-means, true-means, false-means}
-use Rattle.sdtd.proofs.Tests.{and-means, if-means, below-decided, Found, any-means, memb-means}
+use Rattle.sdtd.proofs.Tests.{and-means, or-means, if-means, below-decided, Found, any-means, memb-means}
 use Rattle.sdtd.proofs.Within.{limits-means}
 use Rattle.sdtd.proofs.LiveStates.{live-table}
 use Rattle.schema.specs.States.{member, noStates}
 use Rattle.reading.specs.declared.value.Reading.{Reading}
 use Rattle.reading.specs.Levels.{innerType, innerSet, LevelWithin, LevelsWithin, Within}
-use Rattle.reading.specs.Questions.{LeadsTo, CanOpen, Ends, RootOver}
+use Rattle.reading.specs.Questions.{LeadsTo, CanOpen, Ends, Complete, RootOver}
 use Rattle.reading.proofs.StateSets.{member-under}
 
 -- 10
@@ -83,12 +84,12 @@ module _ (S : Schema) (r : Reading) where
   )
 
   -- 13
-  pub open-decided : (g j : ℕ) → Decision (CanOpen S r g j)
-  open-decided g j =
+  pub open-decided : (κ : Kind) (g j : ℕ) → Decision (CanOpen S r κ g j)
+  open-decided κ g j =
       let leads = means-iff (any-means (λ s. leads-decided j (s .to) .1) (blockOf S (innerType r) .steps)) (some-lead j) in
       let inside = if-means (lt-means 0 (r .depth)) leads in
       let outside = if-means (eq-means (r .depth) 0) (and-means (memb-means j (S .roots)) (false-means (r .rooted))) in
-      let own = and-means (live-table S .1 .bears j) (eq-means (tagOf S j) g) in
+      let own = and-means (live-table S .1 .opens κ j) (eq-means (tagOf S j) g) in
       decision
       (means-iff (and-means own (and-means inside outside)) (
         λ c. ((c .bears, c .tag), (c .some-open, c .none-open)),
@@ -102,8 +103,8 @@ module _ (S : Schema) (r : Reading) where
   abbrev candidates : List ℕ
   candidates = S .roots ++ onSteps
 
-  candidate : (g : ℕ) → ((j : ℕ) × CanOpen S r g j) ↔ Found (CanOpen S r g) candidates
-  candidate g = (
+  candidate : (κ : Kind) (g : ℕ) → ((j : ℕ) × CanOpen S r κ g j) ↔ Found (CanOpen S r κ g) candidates
+  candidate κ g = (
     λ p.
         record {
           member = p .0;
@@ -116,17 +117,22 @@ module _ (S : Schema) (r : Reading) where
     λ f. (f .member, f .holds),
   )
 
-  pub some-open-decided : (g : ℕ) → Decision ((j : ℕ) × CanOpen S r g j)
-  some-open-decided g = decision (means-iff (any-means (λ j. open-decided g j .1) candidates) (candidate g))
+  pub some-open-decided : (κ : Kind) (g : ℕ) → Decision ((j : ℕ) × CanOpen S r κ g j)
+  some-open-decided κ g = decision (means-iff (any-means (λ j. open-decided κ g j .1) candidates) (candidate κ g))
 
   -- 17
-  pub ends-decided : Decision (Ends S r)
+  ends-decided : Decision (Ends S r)
   ends-decided =
       decision
       (means-iff (any-means (λ q. itself (member q (innerSet r))) (blockOf S (innerType r) .accepting)) (
         λ x. record { member = x .state; given = x .accepting; holds = x .kept },
         λ f. record { state = f .member; kept = f .holds; accepting = f .given },
       ))
+
+  pub complete-decided : Decision (Complete S r)
+  complete-decided =
+      let empty = and-means (itself (blockOf S (innerType r) .nillable)) (eq-means (innerSet r) noStates) in
+      decision (or-means empty (ends-decided .1))
 
 -- 18
 pub over-decided : (r : Reading) → Decision (RootOver r)

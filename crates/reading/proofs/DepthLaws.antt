@@ -7,6 +7,7 @@ use lib.ListN.{length, getD}
 use lib.Seq.{getD-set-same}
 use Rattle.sdtd.specs.Limits.{mostLevels}
 use Rattle.sdtd.specs.Schema.{Schema}
+use Rattle.sdtd.specs.Tree.{Kind}
 use Rattle.sdtd.specs.Document.{Event, opening, closing, finish}
 use Rattle.reading.specs.declared.value.Reading.{Reading}
 use Rattle.reading.specs.declared.calls.EventAnswer.{EventAnswer}
@@ -33,7 +34,7 @@ module _ (r : Reading) (long : length (r .types) ≡ mostLevels) where
   asked next (inl o) = subst (Tells r) (sym (o .1)) (omega arith)
   asked next (inr o) = next (o .0) (o .1)
 
-  opening-tells : {S : Schema} {g : ℕ} {n : Next} → r .depth < mostLevels → OpeningTaken S r g n → Tells r n
+  opening-tells : {S : Schema} {κ : Kind} {g : ℕ} {n : Next} → r .depth < mostLevels → OpeningTaken S r κ g n → Tells r n
   opening-tells l t = subst (Tells r) (sym (t .next)) (omega arith, getD-set-same (r .types) (r .depth) (t .type) 0 (omega arith))
 
   closing-tells : {n : Next} → n ≡ gives Taken (closed r) → Tells r n
@@ -43,6 +44,6 @@ module _ (r : Reading) (long : length (r .types) ≡ mostLevels) where
   finish-tells e = subst (Tells r) (sym e) (omega arith)
 
   pub depth-tells : (S : Schema) (x : Event) (n : Next) → CallMeans S r x n → DepthTells r (n .answer) (n .reading)
-  depth-tells S (opening g) n = asked (λ a. asked (λ b. asked (λ c. asked (λ d. asked (λ l. opening-tells l)))))
+  depth-tells S (opening κ g) n = asked (λ a. asked (λ b. asked (λ c. asked (λ d. asked (λ l. opening-tells l)))))
   depth-tells S (closing g) n = asked (λ a. asked (λ b. asked (λ c. asked (λ d. asked (λ e. asked (λ f. closing-tells))))))
   depth-tells S finish n = asked (λ a. asked (λ b. asked (λ c. finish-tells)))

@@ -51,7 +51,7 @@ abbrev modelled : Schema → LiveTable → List Event → List Frame → ℕ →
 modelled S L e fs at ends = endsWith fs at
 modelled S L e fs at stray = stopsAt (refused-at 19 at)
 modelled S L e fs at (event x es) =
-    answersWith (model S L e fs x) at (modelled S L (e ++ (x ∷ [])) (framesAfter (model S L e fs x) fs) (at + sizeOf x) es)
+    answersWith (model S L e fs x) at (modelled S L (e ++ (x ∷ [])) (framesAfter (model S L e fs x) x fs) (at + sizeOf x) es)
 
 -- the passage has this verdict and these types
 abbrev Is : Passage (List Event) → Modelled → Type 0
@@ -84,11 +84,11 @@ module _ {S : Schema} {L : LiveTable} (free : ¬ Competition S) (exact : LiveExa
       let b = model S L e fs x in
       let same : a ≡ b = right-unique S e x r (model-right free exact p x) in
       let next : after ≡ e ++ (x ∷ []) = k ∙ ap (λ (l : List Event). e ++ l) (if-taken a x t) in
-      let position : Position S after (framesAfter b fs) =
-      subst (λ (l : List Event). Position S l (framesAfter b fs)) (sym (k ∙ ap (λ (c : Answer). e ++ ifTaken c x) same)) (model-next free exact p x) in
-      let rest : Is q (modelled S L (e ++ (x ∷ [])) (framesAfter b fs) (at + sizeOf x) es) =
-      subst (λ (l : List Event). Is q (modelled S L l (framesAfter b fs) (at + sizeOf x) es)) next (later (framesAfter b fs) position) in
-      let o = modelled S L (e ++ (x ∷ [])) (framesAfter b fs) (at + sizeOf x) es in
+      let position : Position S after (framesAfter b x fs) =
+      subst (λ (l : List Event). Position S l (framesAfter b x fs)) (sym (k ∙ ap (λ (c : Answer). e ++ ifTaken c x) same)) (model-next free exact p x) in
+      let rest : Is q (modelled S L (e ++ (x ∷ [])) (framesAfter b x fs) (at + sizeOf x) es) =
+      subst (λ (l : List Event). Is q (modelled S L l (framesAfter b x fs) (at + sizeOf x) es)) next (later (framesAfter b x fs) position) in
+      let o = modelled S L (e ++ (x ∷ [])) (framesAfter b x fs) (at + sizeOf x) es in
       subst (λ (c : Answer). Is (before (takenCall at x a) q) (answersWith c at o)) same (taken-is a at x q o t rest)
 
   judged-modelled : (e : List Event) (at : ℕ) (es : Events) (p : Passage (List Event)) → Passes (byDocuments S) e at es p
@@ -99,7 +99,7 @@ module _ {S : Schema} {L : LiveTable} (free : ¬ Competition S) (exact : LiveExa
       (λ e at n fs p. unfinished-is fs p n at)
       (λ e at fs p. (refl, refl))
       (λ e at x es n after (r, k) fs p.
-      let o = modelled S L (e ++ (x ∷ [])) (framesAfter (model S L e fs x) fs) (at + sizeOf x) es in
+      let o = modelled S L (e ++ (x ∷ [])) (framesAfter (model S L e fs x) x fs) (at + sizeOf x) es in
       subst (λ (c : Answer). Is (stops (refused-at n at) e) (answersWith c at o)) (right-unique S e x r (model-right free exact p x))
       (refl, refl))
       takes-is

@@ -29,8 +29,8 @@ use Rattle.reading.proofs.RoomLaws.{typesIn, room-or-20, room-enough, l
 types-among : (e : List Event) (ts : List ℕ) → openings e ≡ length ts → typesAmong (answersBy e ts) ≡ ts
 types-among [] [] p = refl
 types-among [] (t ∷ ts) p = absurd (omega arith)
-types-among (opening g ∷ e) [] p = absurd (omega arith)
-types-among (opening g ∷ e) (t ∷ ts) p = ap (λ (l : List ℕ). t ∷ l) (types-among e ts (omega arith))
+types-among (opening κ g ∷ e) [] p = absurd (omega arith)
+types-among (opening κ g ∷ e) (t ∷ ts) p = ap (λ (l : List ℕ). t ∷ l) (types-among e ts (omega arith))
 types-among (closing g ∷ e) ts p = types-among e ts p
 types-among (finish ∷ e) ts p = types-among e ts p
 

@@ -106,7 +106,7 @@ among-with d (no n) = no (λ m. ⊎-elim d n (List·Memᴰ·cases-cons m))
 -- whether a finish is among the events
 finish-among : (e : List Event) → Dec (List·Memᴰ finish e)
 finish-among [] = no List·Memᴰ·not-nil
-finish-among (opening g ∷ e) = among-with (λ q. let z : _≡_ {A = ℕ} 0 1 = cc in omega arith) (finish-among e)
+finish-among (opening κ g ∷ e) = among-with (λ q. let z : _≡_ {A = ℕ} 0 1 = cc in omega arith) (finish-among e)
 finish-among (closing g ∷ e) = among-with (λ q. let z : _≡_ {A = ℕ} 0 1 = cc in omega arith) (finish-among e)
 finish-among (finish ∷ e) = yes (List·Memᴰ·head refl)
 

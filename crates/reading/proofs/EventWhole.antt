@@ -38,7 +38,7 @@ judged-zero S =
     (λ e at x es a after q t m later. later)
 
 taken-unfinished : (S : Schema) (e : List Event) (x : Event) (a : Answer) → Right S e x a → IsTaken a → NotFinished e
-taken-unfinished S e (opening g) a r t = right-taken S e (opening g) a r t .0 .0
+taken-unfinished S e (opening κ g) a r t = right-taken S e (opening κ g) a r t .0 .0
 taken-unfinished S e (closing g) a r t = right-taken S e (closing g) a r t .0 .0
 taken-unfinished S e finish a r t = right-taken S e finish a r t .0 .0
 

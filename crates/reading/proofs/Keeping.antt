@@ -11,37 +11,40 @@ use lib.ListN.{length, getD, set, length-set, length-replicate}
 use lib.Seq.{getD-set-same, getD-set-other}
 use Rattle.sdtd.specs.Limits.{mostLevels}
 use Rattle.sdtd.specs.Schema.{Block, Schema, blockOf, Leads, stay, WithinLimits}
+use Rattle.sdtd.specs.Tree.{Kind, plain, nil}
 use Rattle.sdtd.specs.Document.{Event}
-use Rattle.sdtd.specs.Trim.{Bears, Live}
+use Rattle.sdtd.specs.Trim.{BearsBy, Live}
 use Rattle.sdtd.specs.Competition.{Accepted}
 use Rattle.sdtd.specs.Reading.{OpenElement}
-use Rattle.sdtd.proofs.Fixpoint.{bears-live}
+use Rattle.sdtd.proofs.Bearing.{by-bears}
+use Rattle.sdtd.proofs.Fixpoint.{plain-live}
 use Rattle.sdtd.proofs.Machine.{Owner, top, own, Frame, frame, start}
 use Rattle.sdtd.proofs.Position.{Position}
 use Rattle.sdtd.proofs.Elements.{Elements, outside, element}
 use Rattle.sdtd.proofs.Within.{bears-within, live-within}
 use Rattle.sdtd.proofs.Model.{fresh-position}
-use Rattle.schema.specs.States.{member, onlyStart}
-use Rattle.schema.proofs.Bits.{member-start}
+use Rattle.schema.specs.States.{member, noStates, onlyStart}
+use Rattle.schema.proofs.Bits.{member-none, member-start}
 use Rattle.reading.specs.declared.value.Reading.{Reading}
 use Rattle.reading.specs.Levels.{fresh, LevelWithin, Within}
-use Rattle.reading.specs.Questions.{setsAfter, opened, closed}
+use Rattle.reading.specs.Questions.{firstSet, setsAfter, opened, closed}
 
--- the set has the live states that the children w of a type a lead to
-abbrev pub Keeps : Schema → ℕ → ℕ → List ℕ → Type 0
-Keeps S set a w = (q : ℕ) → T (member q set) ↔ (Leads (blockOf S a) 0 w q × Live S a q)
+-- the set has the live states that the children w of a type a lead to; that of a nil element has none
+abbrev pub Keeps : Schema → ℕ → Kind → ℕ → List ℕ → Type 0
+Keeps S set plain a w = (q : ℕ) → T (member q set) ↔ (Leads (blockOf S a) 0 w q × Live S a q)
+Keeps S set nil a w = set ≡ noStates
 
--- the level of an element of the type a with the children w so far
-pub record Level (S : Schema) (type set a : ℕ) (w : List ℕ) : Type 0 where
+-- the level of an element of the type a, opened so, with the children w so far
+pub record Level (S : Schema) (type set : ℕ) (κ : Kind) (a : ℕ) (w : List ℕ) : Type 0 where
   pub same-type : type ≡ a
-  pub bears : Bears S a
-  pub states : Keeps S set a w
+  pub bears : BearsBy S κ a
+  pub states : Keeps S set κ a w
 
 -- The first n levels are those of the frames, innermost first; the outside has a child once the root has been opened.
 pub data Levels (S : Schema) (types sets : List ℕ) (rooted : Bool) : ℕ → List Frame → Type 0 where
   outermost : {w : List ℕ} → (w ≡ []) ↔ (rooted ≡ false) → Levels S types sets rooted 0 (frame top w ∷ [])
-  level : {n a : ℕ} {w : List ℕ} {fs : List Frame} → rooted ≡ true → Level S (getD types n 0) (getD sets n 0) a w
-      → Levels S types sets rooted n fs → Levels S types sets rooted (suc n) (frame (own a) w ∷ fs)
+  level : {n : ℕ} {κ : Kind} {a : ℕ} {w : List ℕ} {fs : List Frame} → rooted ≡ true → Level S (getD types n 0) (getD sets n 0) κ a w
+      → Levels S types sets rooted n fs → Levels S types sets rooted (suc n) (frame (own κ a) w ∷ fs)
 
 -- what a reading says of the frames: with none left it is finished
 pub data Reads (S : Schema) (r : Reading) : List Frame → Type 0 where
@@ -85,20 +88,24 @@ levels-of u (going f l) = l
 pub levels-depth : {S : Schema} {vs types sets : List ℕ} {rooted : Bool} {n : ℕ} {xs : List OpenElement} {fs : List Frame}
     → Elements S vs xs fs → Levels S types sets rooted n fs → length xs ≡ n
 levels-depth outside (outermost k) = refl
-levels-depth (element t p c m) (level b k l) = ap suc (levels-depth m l)
+levels-depth (element o t p c m) (level b k l) = ap suc (levels-depth m l)
 
-level-within : {S : Schema} {type set a : ℕ} {w : List ℕ} → WithinLimits S → Level S type set a w → LevelWithin S type set
-level-within {S} {set = set} within k =
-    let b = bears-within within (k .bears) in
+level-within : {S : Schema} {type set : ℕ} (κ : Kind) {a : ℕ} {w : List ℕ} → WithinLimits S → Level S type set κ a w → LevelWithin S type set
+level-within {S} {set = set} plain within k =
+    let b = bears-within within (by-bears plain (k .bears)) in
     subst (λ (t : ℕ). LevelWithin S t set) (sym (k .same-type))
     (record { type = b .0; states = λ q m. live-within (b .1) (k .states q .0 m .1) })
+level-within {S} {set = set} nil within k =
+    let b = bears-within within (by-bears nil (k .bears)) in
+    subst (λ (t : ℕ). LevelWithin S t set) (sym (k .same-type))
+    (record { type = b .0; states = λ q m. absurd (member-none q (subst (λ (x : ℕ). T (member q x)) (k .states) m)) })
 
 levels-within : {S : Schema} {types sets : List ℕ} {rooted : Bool} {n : ℕ} {fs : List Frame} → WithinLimits S
     → Levels S types sets rooted n fs → (m : ℕ) → m < n → LevelWithin S (getD types m 0) (getD sets m 0)
 levels-within within (outermost k) m h = absurd (omega arith)
-levels-within {S} {types} {sets} within (level {n = n} b k l) m h =
+levels-within {S} {types} {sets} within (level {n = n} {κ = κ} b k l) m h =
     elim (ℕ-discrete m n) [
-      | yes e ↦ rw e (level-within within k)
+      | yes e ↦ rw e (level-within κ within k)
       | no d ↦ levels-within within l m (omega arith)
     ]
 
@@ -113,7 +120,8 @@ after-within within k =
     record { schema = within; reading = record { depth = k .sized .depth; levels = reads-within within (k .reads) } }
 
 -- a level by numbers equal to its own
-relevel : {S : Schema} {type type′ set set′ a : ℕ} {w : List ℕ} → type′ ≡ type → set′ ≡ set → Level S type set a w → Level S type′ set′ a w
+relevel : {S : Schema} {type type′ set set′ : ℕ} {κ : Kind} {a : ℕ} {w : List ℕ} → type′ ≡ type → set′ ≡ set
+    → Level S type set κ a w → Level S type′ set′ κ a w
 relevel e f k = rw (e, f) k
 
 -- lists that are the same below the depth have the same levels
@@ -128,54 +136,55 @@ levels-below f g (level {n = n} b k l) =
 no-step : {b : Block} {p q : ℕ} → Leads b p [] q → q ≡ p
 no-step stay = refl
 
--- the level of an element that has just been opened: with no children only the start state is reached
-new-level : {S : Schema} {type set a : ℕ} → type ≡ a → set ≡ onlyStart → Bears S a → Level S type set a []
-new-level {S} {set = set} {a} e f b =
-    let states : Keeps S onlyStart a [] =
-    λ q. (λ m. rw (member-start q .0 m) (stay, bears-live .0 b), λ h. member-start q .1 (no-step (h .0))) in
+-- the level of an element that has just been opened: with no children only the start state is reached; a nil element has no states
+new-level : {S : Schema} {type set : ℕ} (κ : Kind) {a : ℕ} → type ≡ a → set ≡ firstSet κ → BearsBy S κ a → Level S type set κ a []
+new-level {S} plain {a} e f b =
+    let states : Keeps S onlyStart plain a [] =
+    λ q. (λ m. rw (member-start q .0 m) (stay, plain-live .0 b), λ h. member-start q .1 (no-step (h .0))) in
     relevel e f (record { same-type = refl; bears = b; states = states })
+new-level nil e f b = relevel e f (record { same-type = refl; bears = b; states = refl })
 
 -- what is kept of an owner's children; the outside keeps no states
 abbrev pub OwnerKeeps : Schema → ℕ → Owner → List ℕ → Type 0
 OwnerKeeps S set top w = Unit
-OwnerKeeps S set (own a) w = Keeps S set a w
+OwnerKeeps S set (own κ a) w = Keeps S set κ a w
 
 -- the levels after an opening
-pub levels-opened : {S : Schema} {types sets : List ℕ} {rooted : Bool} {n j : ℕ} (kept : ℕ) {o : Owner} {w : List ℕ} {fs : List Frame}
-    → n < length types → n < length sets → Bears S j → OwnerKeeps S kept o (w ++ (j ∷ []))
+pub levels-opened : {S : Schema} {types sets : List ℕ} {rooted : Bool} {n : ℕ} {κ : Kind} {j : ℕ} (kept : ℕ) {o : Owner} {w : List ℕ}
+    {fs : List Frame} → n < length types → n < length sets → BearsBy S κ j → OwnerKeeps S kept o (w ++ (j ∷ []))
     → Levels S types sets rooted n (frame o w ∷ fs)
-    → Levels S (set types n j) (setsAfter sets n kept) true (suc n) (frame (own j) [] ∷ frame o (w ++ (j ∷ [])) ∷ fs)
-levels-opened {types = types} {sets} {j = j} kept {w = w} ht hs b keeps (outermost k) =
-    level refl (new-level (getD-set-same types 0 j 0 ht) (getD-set-same sets 0 onlyStart 0 hs) b)
+    → Levels S (set types n j) (setsAfter κ sets n kept) true (suc n) (frame (own κ j) [] ∷ frame o (w ++ (j ∷ [])) ∷ fs)
+levels-opened {types = types} {sets} {κ = κ} {j = j} kept {w = w} ht hs b keeps (outermost k) =
+    level refl (new-level κ (getD-set-same types 0 j 0 ht) (getD-set-same sets 0 (firstSet κ) 0 hs) b)
     (outermost (λ e. absurd (concat-ne-nil j w e), λ e. absurd (true≢false e)))
-levels-opened {S} {types} {sets} {j = j} kept {w = w} ht hs b keeps (level {n = n} {fs = fs} r k l) =
+levels-opened {S} {types} {sets} {κ = κ} {j = j} kept {w = w} ht hs b keeps (level {n = n} {fs = fs} r k l) =
     let types′ = set types (suc n) j in
-    let sets′ = set (set sets n kept) (suc n) onlyStart in
+    let sets′ = set (set sets n kept) (suc n) (firstSet κ) in
     let long : suc n < length (set sets n kept) = rw length-set hs in
     let type : (m : ℕ) → m < suc n → getD types′ m 0 ≡ getD types m 0 = λ m h. getD-set-other types (suc n) m j 0 (λ e. omega arith) in
     let inner : (m : ℕ) → m < suc n → getD sets′ m 0 ≡ getD (set sets n kept) m 0 =
-    λ m h. getD-set-other (set sets n kept) (suc n) m onlyStart 0 (λ e. omega arith) in
+    λ m h. getD-set-other (set sets n kept) (suc n) m (firstSet κ) 0 (λ e. omega arith) in
     let below : Levels S types′ sets′ true n fs =
     subst (λ (rooted : Bool). Levels S types′ sets′ rooted n fs) r
     (levels-below (λ m h. type m (omega arith)) (λ m h. inner m (omega arith) ∙ getD-set-other sets n m kept 0 (λ e. omega arith)) l) in
-    level refl (new-level (getD-set-same types (suc n) j 0 ht) (getD-set-same (set sets n kept) (suc n) onlyStart 0 long) b)
+    level refl (new-level κ (getD-set-same types (suc n) j 0 ht) (getD-set-same (set sets n kept) (suc n) (firstSet κ) 0 long) b)
     (level refl
     (relevel (type n (omega arith)) (inner n (omega arith) ∙ getD-set-same sets n kept 0 (omega arith))
     (record { same-type = k .same-type; bears = k .bears; states = keeps }))
     below)
 
 -- the sizes after an opening and a closing
-pub opened-sized : {r : Reading} (j kept : ℕ) → r .depth < mostLevels → Sized r → Sized (opened r j kept)
-opened-sized {r} j kept h s =
+pub opened-sized : {r : Reading} (κ : Kind) (j kept : ℕ) → r .depth < mostLevels → Sized r → Sized (opened κ r j kept)
+opened-sized {r} κ j kept h s =
     record {
       depth = h;
       types = length-set (r .types) (r .depth) j ∙ s .types;
       sets = sets-length (r .sets) (r .depth) ∙ s .sets;
     }
   where
-    sets-length : (sets : List ℕ) (n : ℕ) → length (setsAfter sets n kept) ≡ length sets
-    sets-length sets zero = length-set sets 0 onlyStart
-    sets-length sets (suc n) = length-set (set sets n kept) (suc n) onlyStart ∙ length-set sets n kept
+    sets-length : (sets : List ℕ) (n : ℕ) → length (setsAfter κ sets n kept) ≡ length sets
+    sets-length sets zero = length-set sets 0 (firstSet κ)
+    sets-length sets (suc n) = length-set (set sets n kept) (suc n) (firstSet κ) ∙ length-set sets n kept
 
 pub closed-sized : {r : Reading} → Sized r → Sized (closed r)
 closed-sized {r} s = record { depth = lower (r .depth) (s .depth); types = s .types; sets = s .sets }

@@ -16,7 +16,7 @@ use Rattle.sdtd.specs.Answer.{refused, refused-at}
 use Rattle.reading.specs.declared.value.Reading.{Reading}
 use Rattle.reading.specs.declared.event_file.EventFile.{EventFile}
 use Rattle.events.specs.declared.decoder.FileEvent.{FileEvent}
-use Rattle.events.specs.declared.decoder.FileEvent.the-variants.{Open, Close, Finish, NoEvent}
+use Rattle.events.specs.declared.decoder.FileEvent.the-variants.{Open, OpenNil, Close, Finish, NoEvent}
 use Rattle.events.specs.Events.{eventsOf, eventAt}
 use Rattle.events.proofs.EventPlaces.{Stands, event-stands}
 use Rattle.reading.specs.Levels.{fresh}
@@ -166,6 +166,7 @@ module _ {S : Meaning} {file was is : List ℕ} {w v : Walked} {n : ℕ} (k : La
 outside-passes : {S : Meaning} → ¬ WithinLimits S → (file : List ℕ) (e : FileEvent) → Stands file 0 e
     → WholePasses S file (stops (refused-at (outsideNumber e) 0) fresh)
 outside-passes out file (Open g) stands = rw stands (refused 10, fresh, inl (λ w. out (w .schema), refl), refl)
+outside-passes out file (OpenNil g) stands = rw stands (refused 10, fresh, inl (λ w. out (w .schema), refl), refl)
 outside-passes out file (Close g) stands = rw stands (refused 10, fresh, inl (λ w. out (w .schema), refl), refl)
 outside-passes out file Finish stands = rw stands (refused 10, fresh, inl (λ w. out (w .schema), refl), refl)
 outside-passes out file NoEvent stands =

@@ -1,4 +1,4 @@
--- The body of a call on a lent reading, walked once for all three calls: the reading behind the reference is copied, the call by value is made
+-- The body of a call on a lent reading, walked once for all four calls: the reading behind the reference is copied, the call by value is made
 -- on the copy, and the reading that it hands back is stored behind the reference.
 --     Called    the contract of the call by value, over the parameters that follow the reading, which are plain data: the result is as χ says
 --     body      the code.        moves    the walk of it, from a call by value that meets `Called`

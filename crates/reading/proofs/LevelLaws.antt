@@ -9,6 +9,7 @@ use lib.Dec.{T}
 use lib.ListN.{getD, set}
 use Rattle.sdtd.specs.Limits.{mostTags, mostTypes, mostStates}
 use Rattle.sdtd.specs.Schema.{Block, noBlock, blockOf, tagOf, WithinLimits}
+use Rattle.sdtd.specs.Tree.{Kind}
 use Rattle.sdtd.proofs.Basics.{getD-member}
 use Rattle.schema.specs.States.{member, meet, members}
 use Rattle.schema.specs.Value.{meaning, blockAt}
@@ -18,7 +19,7 @@ use Rattle.schema.proofs.Values.{types-count, block-of, tag-of}
 use Rattle.schema.proofs.LimitLaws.{within-room}
 use Rattle.reading.specs.declared.value.Reading.{Reading}
 use Rattle.reading.specs.Levels.{innerType, innerSet, LevelWithin, LevelsWithin, Within}
-use Rattle.reading.specs.Questions.{Ends, setsAfter}
+use Rattle.reading.specs.Questions.{Ends, firstSet, setsAfter}
 use Rattle.reading.specs.Coming.{LevelFits, LevelsFit}
 
 -- the code's index of the innermost level
@@ -26,13 +27,13 @@ pub sub-one : (n : ℕ) → n - 1 ≡ pred n
 sub-one n = omega arith
 
 -- the sets that the code stores are those after an opening
-pub inside-sets : (sets : List ℕ) (d kept : ℕ) → 0 < d → set (set sets (d - 1) kept) d 1 ≡ setsAfter sets d kept
-inside-sets sets zero kept l = absurd (omega arith)
-inside-sets sets (suc d) kept l = rw (sub-one (suc d))
+pub inside-sets : (κ : Kind) (sets : List ℕ) (d kept : ℕ) → 0 < d → set (set sets (d - 1) kept) d (firstSet κ) ≡ setsAfter κ sets d kept
+inside-sets κ sets zero kept l = absurd (omega arith)
+inside-sets κ sets (suc d) kept l = rw (sub-one (suc d))
 
-pub outside-sets : (sets : List ℕ) (d kept : ℕ) → d ≤ 0 → set sets d 1 ≡ setsAfter sets d kept
-outside-sets sets zero kept l = refl
-outside-sets sets (suc d) kept l = absurd (omega arith)
+pub outside-sets : (κ : Kind) (sets : List ℕ) (d kept : ℕ) → d ≤ 0 → set sets d (firstSet κ) ≡ setsAfter κ sets d kept
+outside-sets κ sets zero kept l = refl
+outside-sets κ sets (suc d) kept l = absurd (omega arith)
 
 pub tags-of : (v : Schema) → meaning v .tags ≡ v .tags
 unfolding meaning

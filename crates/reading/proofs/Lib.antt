@@ -2,6 +2,7 @@
 -- readings and event files.
 pub mod LevelLaws
 pub mod HeadLaws
+pub mod SoughtLaws
 pub mod StepWays
 pub mod ComingLaws
 pub mod ComingMeans

@@ -13,12 +13,12 @@ use Rattle.reading.specs.declared.value.Reading.{Reading}
 use Rattle.reading.specs.Levels.{fresh}
 use Rattle.reading.specs.declared.calls.EventAnswer.{EventAnswer}
 use Rattle.reading.specs.Questions.{gives, CallMeans}
-use Rattle.reading.specs.Calls.{Way, by-value, lent, Promises, Called}
+use Rattle.reading.specs.Calls.{CallForm, by-value, lent, Promises, Called}
 use Rattle.reading.proofs.Keeping.{After, fresh-after}
 use Rattle.reading.proofs.CallAnswers.{call-answered}
 
--- either way of calling promises the same
-promised : (S : Schema) (way : Way) (r : Reading) (x : Event) (a : EventAnswer) (after : Reading) → Promises way S r x a after
+-- both forms of a call promise the same
+promised : (S : Schema) (form : CallForm) (r : Reading) (x : Event) (a : EventAnswer) (after : Reading) → Promises form S r x a after
     → CallMeans S r x (gives a after)
 promised S by-value r x a after p = subst (CallMeans S r x) (p .2) (p .1)
 promised S lent r x a after p = p
@@ -27,8 +27,8 @@ promised S lent r x a after p = p
 each-right : {S : Schema} → Accepted S → {e : List Event} {r : Reading} → After S e r → (xs : List Exchange) → Called S r xs
     → Each (RightAt S) e xs
 each-right accepted k [] c = tt
-each-right {S} accepted {e} {r} k (x ∷ xs) (way, given, after, p, same, c) =
-    let a = call-answered accepted k (x .call) (promised S way r (x .call) given after p) in (
+each-right {S} accepted {e} {r} k (x ∷ xs) (form, given, after, p, same, c) =
+    let a = call-answered accepted k (x .call) (promised S form r (x .call) given after p) in (
       subst (Right S e (x .call)) (sym same) (a .right),
       each-right accepted (subst (λ (b : Answer). After S (e ++ ifTaken b (x .call)) after) (sym same) (a .next)) xs c,
     )

@@ -6,6 +6,7 @@ use Prim.Native.Nat.{ℕ, zero, suc, _<_}
 use native.Mathlib.Nat.{le-antisymm}
 use native.Mathlib.Omega.{arith}
 use Rattle.sdtd.specs.Schema.{Schema}
+use Rattle.sdtd.specs.Tree.{Kind}
 use Rattle.sdtd.specs.Document.{Event, opening, closing, finish}
 use Rattle.sdtd.specs.Answer.{Question, Ordered}
 use Rattle.sdtd.specs.declared.TypeNo.{TypeNo}
@@ -18,21 +19,21 @@ use Rattle.reading.specs.declared.calls.Next.{Next}
 use Rattle.reading.specs.Questions.{setsAfter, OpeningTaken, questions, TakenBy, CallMeans}
 
 -- with nothing open the set kept is not written
-sets-same : (sets : List ℕ) (n : ℕ) {k l : ℕ} → (0 < n → k ≡ l) → setsAfter sets n k ≡ setsAfter sets n l
-sets-same sets zero e = refl
-sets-same sets (suc n) e = ap (setsAfter sets (suc n)) (e (omega arith))
+sets-same : (κ : Kind) (sets : List ℕ) (n : ℕ) {k l : ℕ} → (0 < n → k ≡ l) → setsAfter κ sets n k ≡ setsAfter κ sets n l
+sets-same κ sets zero e = refl
+sets-same κ sets (suc n) e = ap (setsAfter κ sets (suc n)) (e (omega arith))
 
-opening-unique : {S : Schema} {r : Reading} {g : ℕ} {n m : Next} → OpeningTaken S r g n → OpeningTaken S r g m → n ≡ m
-opening-unique {S} {r} s t =
+opening-unique : {S : Schema} {r : Reading} {κ : Kind} {g : ℕ} {n m : Next} → OpeningTaken S r κ g n → OpeningTaken S r κ g m → n ≡ m
+opening-unique {S} {r} {κ} s t =
     let type : s .type ≡ t .type = le-antisymm (s .smallest (t .type) (t .can-open)) (t .smallest (s .type) (s .can-open)) in
     let kept : 0 < r .depth → s .kept ≡ t .kept =
     λ h. same-members (s .kept) (t .kept) (s .kept-below) (t .kept-below)
     (λ q. Iff·trans (rw type at (s .keeps h q)) (Iff·symm (t .keeps h q))) in
-    let sets = sets-same (r .sets) (r .depth) kept in
+    let sets = sets-same κ (r .sets) (r .depth) kept in
     s .next ∙ cc (type, sets) ∙ sym (t .next)
 
 taken-unique : (S : Schema) (r : Reading) (x : Event) {n m : Next} → TakenBy S r x n → TakenBy S r x m → n ≡ m
-taken-unique S r (opening g) s t = opening-unique s t
+taken-unique S r (opening κ g) s t = opening-unique s t
 taken-unique S r (closing g) s t = s ∙ sym t
 taken-unique S r finish s t = s ∙ sym t
 
@@ -60,8 +61,8 @@ taken-refused p q = absurd (let z : _≡_ {A = ℕ} 0 1 = cc in omega arith)
 -- A refused call hands back the reading that it was given.
 pub refused-unchanged : (S : Schema) (r : Reading) (x : Event) {n : Next} {k : ℕ} → CallMeans S r x n → n .answer ≡ Refused k
     → n .reading ≡ r
-refused-unchanged S r (opening g) m e =
-    refused-by (TakenBy S r (opening g)) (questions S r (opening g)) (refl, (refl, (refl, (refl, (refl, tt)))))
+refused-unchanged S r (opening κ g) m e =
+    refused-by (TakenBy S r (opening κ g)) (questions S r (opening κ g)) (refl, (refl, (refl, (refl, (refl, tt)))))
     (λ t. typed-refused (ap (λ (n : Next). n .answer) (t .next)) e) m
 refused-unchanged S r (closing g) m e =
     refused-by (TakenBy S r (closing g)) (questions S r (closing g)) (refl, (refl, (refl, (refl, (refl, (refl, tt))))))

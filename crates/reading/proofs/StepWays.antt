@@ -6,11 +6,11 @@ use mathlib.Core.List.{List}
 use Prim.Native.Nat.{ℕ, suc, _+_, _-_, _%_, _≤_, _<_}
 use native.Mathlib.Omega.{arith}
 use borrow.Author.Tests.{eq-eqb, ne-eqb, le-leb, lt-leb}
-use lib.Dec.{eqb}
+use lib.Dec.{eqb, leb, ltb}
 use lib.ListN.{getD, set}
 use Rattle.sdtd.specs.declared.TypeNo.{TypeNo}
 use Rattle.sdtd.specs.Limits.{mostTags, mostLevels}
-use Rattle.schema.specs.States.{meet}
+use Rattle.sdtd.specs.Tree.{Kind}
 use Rattle.reading.specs.declared.value.Reading.{Reading}
 use Rattle.reading.specs.declared.calls.EventAnswer.the-variants.{Typed, Taken, Refused}
 use Rattle.reading.specs.declared.coming.Coming.{Coming}
@@ -20,9 +20,9 @@ use Rattle.reading.specs.declared.steps.Stepped.{Stepped}
 use Rattle.reading.specs.declared.steps.Inner.{Inner}
 use Rattle.reading.specs.Levels.{innerType, innerSet}
 use Rattle.reading.specs.Questions.{gives, opened, closed, afterFinish, setsAfter}
-use Rattle.reading.specs.Heads.{headTag, headAccepting}
+use Rattle.reading.specs.Heads.{headTag, headAccepting, headNillable}
 use Rattle.reading.specs.Coming.{Move, comingBy}
-use Rattle.reading.specs.Steps.{readingOf, nextOf, comingFirst, comingAt, openBy, openStep, inner, noneOpen, closeStep, closeStepIn, finishStep}
+use Rattle.reading.specs.Steps.{readingOf, nextOf, comingFirst, comingAt, openBy, openStep, inner, noneOpen, complete, closeStep, closeStepIn, finishStep}
 use Rattle.reading.proofs.LevelLaws.{sub-one}
 
 -- a refusal leaves the reading as it was
@@ -69,12 +69,12 @@ module _ (own : Inner) (tags : ℕ) (r : Reading) (g : ℕ) where
         unfolding closeStep
         close-other o = rw (f, lt-leb tags g l, ne-eqb (r .depth) 0 d, o)
 
-        pub close-word : eqb (own .tag .0) g ≡ true → meet (getD (r .sets) (r .depth - 1) 0) (own .accepting) ≡ false
+        pub close-word : eqb (own .tag .0) g ≡ true → complete own (getD (r .sets) (r .depth - 1) 0) ≡ false
             → gives (Refused 17) r ≡ closeStep own tags r g
         unfolding closeStep
         close-word o w = rw (f, lt-leb tags g l, ne-eqb (r .depth) 0 d, o, rw (sub-one (r .depth)) at w)
 
-        pub close-taken : eqb (own .tag .0) g ≡ true → meet (getD (r .sets) (r .depth - 1) 0) (own .accepting) ≡ true
+        pub close-taken : eqb (own .tag .0) g ≡ true → complete own (getD (r .sets) (r .depth - 1) 0) ≡ true
             → gives Taken (closed r) ≡ closeStep own tags r g
         unfolding closeStep
         close-taken o w = rw (f, lt-leb tags g l, ne-eqb (r .depth) 0 d, o, rw (sub-one (r .depth)) at w)
@@ -85,58 +85,59 @@ module _ (heads : List ℕ) (tags : ℕ) (r : Reading) (g : ℕ) where
   unfolding closeStepIn
   close-none d = rw (eq-eqb (r .depth) 0 d)
 
-  pub close-inner : r .depth ≢ 0 → (t a : ℕ) → t ≡ headTag (getD (r .types) (r .depth - 1) 0) → a ≡ headAccepting (getD (r .types) (r .depth - 1) 0)
-      → closeStep (inner (getD heads t 0 % mostTags) (getD heads a 0)) tags r g ≡ closeStepIn heads tags r g
+  pub close-inner : r .depth ≢ 0 → (t n a : ℕ) → t ≡ headTag (getD (r .types) (r .depth - 1) 0) → n ≡ headNillable (getD (r .types) (r .depth - 1) 0)
+      → a ≡ headAccepting (getD (r .types) (r .depth - 1) 0)
+      → closeStep (inner (getD heads t 0 % mostTags) (ltb 0 (getD heads n 0)) (getD heads a 0)) tags r g ≡ closeStepIn heads tags r g
   unfolding closeStepIn
-  close-inner d t a te ae = rw (te, ae, sub-one (r .depth), ne-eqb (r .depth) 0 d)
+  close-inner d t n a te ne ae = rw (te, ne, ae, sub-one (r .depth), ne-eqb (r .depth) 0 d)
 
 -- what comes next
-module _ (heads : List ℕ) (r : Reading) (g : ℕ) where
-  pub coming-none : (moves : List Move) → r .depth ≡ 0 → comingFirst heads (r .rooted) g ≡ comingAt heads moves r g
+module _ (heads : List ℕ) (r : Reading) (κ : Kind) (g : ℕ) where
+  pub coming-none : (moves : List Move) → r .depth ≡ 0 → comingFirst heads (r .rooted) κ g ≡ comingAt heads moves r κ g
   unfolding comingAt
   coming-none moves d = rw (eq-eqb (r .depth) 0 d)
 
   pub coming-inside : (ms : ℕ → ℕ → List Move) → r .depth ≢ 0
-      → comingBy (ms (getD (r .types) (r .depth - 1) 0) (getD (r .sets) (r .depth - 1) 0)) ≡ comingAt heads (ms (innerType r) (innerSet r)) r g
+      → comingBy (ms (getD (r .types) (r .depth - 1) 0) (getD (r .sets) (r .depth - 1) 0)) ≡ comingAt heads (ms (innerType r) (innerSet r)) r κ g
   unfolding comingAt
   coming-inside ms d = rw (sub-one (r .depth), ne-eqb (r .depth) 0 d)
 
 -- an opening
-module _ (tags : ℕ) (r : Reading) (g : ℕ) (c : Coming) where
-  pub open-finished : r .finished ≡ true → gives (Refused 11) r ≡ openStep tags r g c
+module _ (tags : ℕ) (r : Reading) (κ : Kind) (g : ℕ) (c : Coming) where
+  pub open-finished : r .finished ≡ true → gives (Refused 11) r ≡ openStep tags r κ g c
   unfolding openStep
   open-finished f = rw f
 
   module _ (f : r .finished ≡ false) where
-    pub open-tag : tags ≤ g → gives (Refused 12) r ≡ openStep tags r g c
+    pub open-tag : tags ≤ g → gives (Refused 12) r ≡ openStep tags r κ g c
     unfolding openStep
     open-tag l = rw (f, le-leb tags g l)
 
-    pub open-by : g < tags → openBy r c ≡ openStep tags r g c
+    pub open-by : g < tags → openBy κ r c ≡ openStep tags r κ g c
     unfolding openStep
     open-by l = rw (f, lt-leb tags g l)
 
 -- an opening by what comes next
-module _ (r : Reading) (c : Coming) where
-  pub open-none : c ≡ Nothing → gives (Refused 13) r ≡ openBy r c
-  open-none n = ap (openBy r) (sym n)
+module _ (κ : Kind) (r : Reading) (c : Coming) where
+  pub open-none : c ≡ Nothing → gives (Refused 13) r ≡ openBy κ r c
+  open-none n = ap (openBy κ r) (sym n)
 
   module _ (j : TypeNo) (kept : ℕ) (n : c ≡ OfType j kept) where
-    pub open-deep : mostLevels ≤ r .depth → gives (Refused 14) r ≡ openBy r c
+    pub open-deep : mostLevels ≤ r .depth → gives (Refused 14) r ≡ openBy κ r c
     open-deep d =
-        let deep : gives (Refused 14) r ≡ openBy r (OfType j kept) = rw (le-leb mostLevels (r .depth) d) in
-        deep ∙ ap (openBy r) (sym n)
+        let deep : gives (Refused 14) r ≡ openBy κ r (OfType j kept) = rw (le-leb mostLevels (r .depth) d) in
+        deep ∙ ap (openBy κ r) (sym n)
 
-    pub open-taken : r .depth < mostLevels → gives (Typed j) (opened r (j .0) kept) ≡ openBy r c
+    pub open-taken : r .depth < mostLevels → gives (Typed j) (opened κ r (j .0) kept) ≡ openBy κ r c
     open-taken d =
-        let room : gives (Typed j) (opened r (j .0) kept) ≡ openBy r (OfType j kept) = rw (lt-leb mostLevels (r .depth) d) in
-        room ∙ ap (openBy r) (sym n)
+        let room : gives (Typed j) (opened κ r (j .0) kept) ≡ openBy κ r (OfType j kept) = rw (lt-leb mostLevels (r .depth) d) in
+        room ∙ ap (openBy κ r) (sym n)
 
 -- one level more is the reading opened
-pub descended : (s : Stepped) (at : Standing) (types sets types' sets' : List ℕ) (j : TypeNo) (kept : ℕ)
-    → types' ≡ set types (at .depth) (j .0) → sets' ≡ setsAfter sets (at .depth) kept → s .answer ≡ Typed j
+pub descended : (κ : Kind) (s : Stepped) (at : Standing) (types sets types' sets' : List ℕ) (j : TypeNo) (kept : ℕ)
+    → types' ≡ set types (at .depth) (j .0) → sets' ≡ setsAfter κ sets (at .depth) kept → s .answer ≡ Typed j
     → s .standing .depth ≡ at .depth + 1 → s .standing .rooted ≡ true → s .standing .finished ≡ at .finished
-    → nextOf s types' sets' ≡ gives (Typed j) (opened (readingOf at types sets) (j .0) kept)
-descended s at types sets types' sets' j kept t q a d o f =
+    → nextOf s types' sets' ≡ gives (Typed j) (opened κ (readingOf at types sets) (j .0) kept)
+descended κ s at types sets types' sets' j kept t q a d o f =
     let deeper : s .standing .depth ≡ suc (at .depth) = omega (arith, d) in
     rw (t, q, a, deeper, o, f)

@@ -12,6 +12,7 @@ use lib.ListN.{length, drop, replicate, length-replicate}
 use Rattle.sdtd.specs.Limits.{mostLevels}
 use Rattle.sdtd.specs.Schema.{Schema as Meaning}
 use Rattle.sdtd.specs.Schema.{WithinLimits}
+use Rattle.sdtd.specs.Tree.{plain, nil}
 use Rattle.sdtd.specs.Document.{opening, closing, finish}
 use Rattle.sdtd.specs.Answer.{Verdict, fine, refused-at}
 use Rattle.schema.specs.Value.{meaning}
@@ -22,7 +23,7 @@ use Rattle.reading.specs.declared.calls.EventAnswer.{EventAnswer}
 use Rattle.reading.specs.declared.calls.EventAnswer.the-variants.{Typed, Taken, Refused}
 use Rattle.reading.specs.declared.calls.Next.{Next}
 use Rattle.events.specs.declared.decoder.FileEvent.{FileEvent}
-use Rattle.events.specs.declared.decoder.FileEvent.the-variants.{Open, Close, Finish, NoEvent}
+use Rattle.events.specs.declared.decoder.FileEvent.the-variants.{Open, OpenNil, Close, Finish, NoEvent}
 use Rattle.reading.specs.Levels.{fresh}
 use Rattle.events.specs.Events.{Events, ends, stray, eventAt, eventsOf}
 use Rattle.reading.specs.Passage.{TakenCall, stops, Passes}
@@ -102,8 +103,11 @@ module _ {v : Schema} (fits : Fits v) {t : StepTables} (tables : TablesMean v t)
   by-event : (e : FileEvent) → Stands file (w .at) e → Ends file (w .at) e
       → TurnSound (meaning v) file cs w (turnOn t (length file) w e)
   by-event (Open g) stands inside =
-      answered k going (opening (g .0)) (openByRows t (w .reading) (g .0))
-      (open-rows-means fits (k .reading .within) tables (g .0)) stands inside _ refl
+      answered k going (opening plain (g .0)) (openByRows t (w .reading) plain (g .0))
+      (open-rows-means fits (k .reading .within) tables plain (g .0)) stands inside _ refl
+  by-event (OpenNil g) stands inside =
+      answered k going (opening nil (g .0)) (openByRows t (w .reading) nil (g .0))
+      (open-rows-means fits (k .reading .within) tables nil (g .0)) stands inside _ refl
   by-event (Close g) stands inside =
       answered k going (closing (g .0)) (closeStepIn (t .heads) (t .tags) (w .reading) (g .0))
       (rw (tables .tags) (close-in-means fits (k .reading .within) (k .reading .below) (tables .heads) (g .0))) stands inside _ refl
@@ -136,7 +140,8 @@ module _ (t : StepTables) (file : List ℕ) (w : Walked) (going : w .going ≡ t
 
   event-less : (e : FileEvent) → Ends file (w .at) e
       → toGo file (turnOn t (length file) w e) < toGo file w
-  event-less (Open g) l = next-less _ (openByRows t (w .reading) (g .0)) (omega arith) l
+  event-less (Open g) l = next-less _ (openByRows t (w .reading) plain (g .0)) (omega arith) l
+  event-less (OpenNil g) l = next-less _ (openByRows t (w .reading) nil (g .0)) (omega arith) l
   event-less (Close g) l = next-less _ (closeStepIn (t .heads) (t .tags) (w .reading) (g .0)) (omega arith) l
   event-less Finish l = next-less _ (finishStep (w .reading)) (omega arith) l
   event-less NoEvent l = rw going (omega arith)

@@ -18,12 +18,12 @@ answerOf Taken = taken
 answerOf (Refused n) = refused n
 
 -- How a call is made: by value, which hands back the answer with the reading that follows; or on a lent reading, which it moves on.
-pub data Way : Type 0 where
-  by-value : Way
-  lent : Way
+pub data CallForm : Type 0 where
+  by-value : CallForm
+  lent : CallForm
 
 -- What the call promises of its answer and of the reading handed back, or left behind the reference.
-abbrev pub Promises : Way → Schema → Reading → Event → EventAnswer → Reading → Type 0
+abbrev pub Promises : CallForm → Schema → Reading → Event → EventAnswer → Reading → Type 0
 Promises by-value S r x a after = (n : Next) × CallMeans S r x n × (n ≡ gives a after)
 Promises lent S r x a after = CallMeans S r x (gives a after)
 
@@ -32,4 +32,4 @@ Promises lent S r x a after = CallMeans S r x (gives a after)
 abbrev pub Called : Schema → Reading → List Exchange → Type 0
 Called S r [] = Unit
 Called S r (x ∷ xs) =
-    (way : Way) × (a : EventAnswer) × (after : Reading) × Promises way S r (x .call) a after × (x .answer ≡ answerOf a) × Called S after xs
+    (form : CallForm) × (a : EventAnswer) × (after : Reading) × Promises form S r (x .call) a after × (x .answer ≡ answerOf a) × Called S after xs

@@ -1,4 +1,4 @@
--- Readings and event files: document 01's sections "A reading" and "The event file". `Heads`, `Coming`, `Steps` and `Turns` say
+-- Readings and event files: document 01's sections "A reading" and "The event file", and document 02, Req 05. `Heads`, `Coming`, `Steps` and `Turns` say
 -- what the private steps compute; no public promise cites them.
 pub mod Levels
 pub mod Questions
@@ -6,7 +6,7 @@ pub mod Calls
 pub mod Passage
 pub mod EventFile
 pub mod EventMeaning
-pub mod Heads
 pub mod Coming
+pub mod Heads
 pub mod Steps
 pub mod Turns

@@ -43,8 +43,8 @@ Follows {A} s at x (typed j) p Rest = (q : Passage A) × Rest q × (p ≡ before
 Follows {A} s at x taken p Rest = (q : Passage A) × Rest q × (p ≡ before (takenCall at x taken) q)
 
 -- "A walker over the lent bytes gives one event after another [..] until the first refusal." With s kept, the walk over the events from the
--- place `at` on comes to the passage p. "First: is it one of the three with its operand inside the file? No: 19. A file that ends with no
--- FINISH gets 19 at its length. Then the reading's questions".
+-- place `at` on comes to the passage p. "First: is it one of the three with its operand inside the file? No: 19." With document 02's 23 it is one
+-- of four. "A file that ends with no FINISH gets 19 at its length. Then the reading's questions".
 abbrev pub Passes : {A : Type 0} → Answerer A → A → ℕ → Events → Passage A → Type 0
 Passes {A} k s at ends p = Ordered (ask (stops (refused-at 19 at) s) (k .Finished s) ∷ []) (λ (q : Passage A). q ≡ stops fine s) p
 Passes k s at stray p = p ≡ stops (refused-at 19 at) s

@@ -1,19 +1,20 @@
--- Questions 10 to 18 of a call on any schema and any reading, and what is answered where none is answered no: document 01, "A reading".
+-- Questions 10 to 18 of a call on any schema and any reading, and what is answered where none is answered no: document 01, "A reading", and
+-- document 02, Req 05.
 use mathlib.Core.Path.{_≡_}
 use mathlib.Core.Bool.{true, false}
-use mathlib.Core.Logic.{_↔_}
+use mathlib.Core.Logic.{_↔_, _⊎_}
 use mathlib.Core.List.{List, [], _∷_, List·Memᴰ}
 use Prim.Native.Nat.{ℕ, zero, suc, pred, _^_, _<_, _≤_}
 use lib.Dec.{T}
 use lib.ListN.{set}
 use Rattle.sdtd.specs.Limits.{mostStates, mostLevels}
 use Rattle.sdtd.specs.Numbered.{typeNo}
-use Rattle.sdtd.specs.Schema.{Schema, blockOf, tagOf}
-use Rattle.sdtd.specs.Tree.{IsRoot}
+use Rattle.sdtd.specs.Schema.{Schema, blockOf, tagOf, Nillable}
+use Rattle.sdtd.specs.Tree.{Kind, plain, nil, IsRoot}
 use Rattle.sdtd.specs.Document.{Event, opening, closing, finish}
-use Rattle.sdtd.specs.Trim.{Bears, Live}
+use Rattle.sdtd.specs.Trim.{BearsBy, Live}
 use Rattle.sdtd.specs.Answer.{Question, ask, Ordered, Answer, refused, typed, taken}
-use Rattle.schema.specs.States.{member, onlyStart}
+use Rattle.schema.specs.States.{member, noStates, onlyStart}
 use Rattle.reading.specs.declared.value.Reading.{Reading}
 use Rattle.reading.specs.declared.calls.EventAnswer.{EventAnswer}
 use Rattle.reading.specs.declared.calls.EventAnswer.the-variants.{Typed, Taken, Refused}
@@ -47,44 +48,53 @@ pub record LeadsTo (S : Schema) (r : Reading) (j q : ℕ) : Type 0 where
   pub live : Live S (innerType r) q
 
 -- "a tree-bearing type of the tag that leads from that set to a live state or, with none open, [..] a tree-bearing root type of the tag and
--- no root before it": the type j, the tag g
-pub record CanOpen (S : Schema) (r : Reading) (g j : ℕ) : Type 0 where
-  pub bears : Bears S j
+-- no root before it": the type j, the tag g. "For either kind 13, also of a made-up value, looks only at types that bear a tree opened so."
+pub record CanOpen (S : Schema) (r : Reading) (κ : Kind) (g j : ℕ) : Type 0 where
+  pub bears : BearsBy S κ j
   pub tag : tagOf S j ≡ g
   pub some-open : 0 < r .depth → (q : ℕ) × LeadsTo S r j q
   pub none-open : r .depth ≡ 0 → IsRoot S j × (r .rooted ≡ false)
 
--- the state sets after an opening at the depth n: the innermost element's is the one kept, and the new element's has only state 0
-abbrev pub setsAfter : List ℕ → ℕ → ℕ → List ℕ
-setsAfter sets zero kept = set sets 0 onlyStart
-setsAfter sets (suc n) kept = set (set sets n kept) (suc n) onlyStart
+-- the set of a new element: only state 0; a nil element "keeps the set of no states"
+abbrev pub firstSet : Kind → ℕ
+firstSet plain = onlyStart
+firstSet nil = noStates
+
+-- the state sets after an opening at the depth n: the innermost element's is the one kept, and the new element's is its first
+abbrev pub setsAfter : Kind → List ℕ → ℕ → ℕ → List ℕ
+setsAfter κ sets zero kept = set sets 0 (firstSet κ)
+setsAfter κ sets (suc n) kept = set (set sets n kept) (suc n) (firstSet κ)
 
 -- the reading after an opening that was given the type j
-abbrev pub opened : Reading → ℕ → ℕ → Reading
-opened r j kept =
+abbrev pub opened : Kind → Reading → ℕ → ℕ → Reading
+opened κ r j kept =
     record {
       depth = suc (r .depth);
       rooted = true;
       finished = r .finished;
       types = set (r .types) (r .depth) j;
-      sets = setsAfter (r .sets) (r .depth) kept;
+      sets = setsAfter κ (r .sets) (r .depth) kept;
     }
 
 -- "The smallest such type is given, and only the live states that it leads to are kept."
-pub record OpeningTaken (S : Schema) (r : Reading) (g : ℕ) (n : Next) : Type 0 where
+pub record OpeningTaken (S : Schema) (r : Reading) (κ : Kind) (g : ℕ) (n : Next) : Type 0 where
   pub type : ℕ
-  pub can-open : CanOpen S r g type
-  pub smallest : (j : ℕ) → CanOpen S r g j → type ≤ j
+  pub can-open : CanOpen S r κ g type
+  pub smallest : (j : ℕ) → CanOpen S r κ g j → type ≤ j
   pub kept : ℕ
   pub kept-below : kept < 2 ^ mostStates
   pub keeps : 0 < r .depth → (q : ℕ) → T (member q kept) ↔ LeadsTo S r type q
-  pub next : n ≡ given (typed type) (opened r type kept)
+  pub next : n ≡ given (typed type) (opened κ r type kept)
 
 -- 17, "Do its children form a word of its automaton?", by the set kept: one of its states is accepting
 pub record Ends (S : Schema) (r : Reading) : Type 0 where
   pub state : ℕ
   pub kept : T (member state (innerSet r))
   pub accepting : List·Memᴰ state (blockOf S (innerType r) .accepting)
+
+-- 17, whole: it "is not asked of a nillable type with that set", the set of no states
+abbrev pub Complete : Schema → Reading → Type 0
+Complete S r = (Nillable S (innerType r) × (innerSet r ≡ noStates)) ⊎ Ends S r
 
 -- the reading after a closing: the levels keep what they hold
 abbrev pub closed : Reading → Reading
@@ -99,19 +109,19 @@ pub record RootOver (r : Reading) : Type 0 where
   pub opened : r .rooted ≡ true
   pub closed : r .depth ≡ 0
 
--- The questions of a call, in order.
+-- The questions of a call, in order. "A nil opening is asked the opening's questions".
 abbrev pub questions : Schema → Reading → Event → List (Question Next)
-questions S r (opening g) =
-    ask (refuses r 10) (Within S r) ∷ ask (refuses r 11) (r .finished ≡ false) ∷ ask (refuses r 12) (g < S .tags) ∷ ask (refuses r 13) ((j : ℕ) × CanOpen S r g j)
+questions S r (opening κ g) =
+    ask (refuses r 10) (Within S r) ∷ ask (refuses r 11) (r .finished ≡ false) ∷ ask (refuses r 12) (g < S .tags) ∷ ask (refuses r 13) ((j : ℕ) × CanOpen S r κ g j)
     ∷ ask (refuses r 14) (r .depth < mostLevels) ∷ []
 questions S r (closing g) =
     ask (refuses r 10) (Within S r) ∷ ask (refuses r 11) (r .finished ≡ false) ∷ ask (refuses r 12) (g < S .tags) ∷ ask (refuses r 15) (0 < r .depth)
-    ∷ ask (refuses r 16) (tagOf S (innerType r) ≡ g) ∷ ask (refuses r 17) (Ends S r) ∷ []
+    ∷ ask (refuses r 16) (tagOf S (innerType r) ≡ g) ∷ ask (refuses r 17) (Complete S r) ∷ []
 questions S r finish = ask (refuses r 10) (Within S r) ∷ ask (refuses r 11) (r .finished ≡ false) ∷ ask (refuses r 18) (RootOver r) ∷ []
 
 -- what a call that is taken answers and hands back
 abbrev pub TakenBy : Schema → Reading → Event → Next → Type 0
-TakenBy S r (opening g) n = OpeningTaken S r g n
+TakenBy S r (opening κ g) n = OpeningTaken S r κ g n
 TakenBy S r (closing g) n = n ≡ given taken (closed r)
 TakenBy S r finish n = n ≡ given taken (afterFinish r)
 

@@ -9,8 +9,11 @@ use Rattle.reading.specs.declared.value.Reading.{Reading}
 use Rattle.reading.specs.declared.calls.EventAnswer.{EventAnswer}
 use Rattle.reading.specs.declared.calls.EventAnswer.the-variants.{Typed, Taken, Refused}
 use Rattle.reading.specs.declared.calls.Next.{Next}
+use Rattle.sdtd.specs.Tree.{plain, nil}
+use Rattle.events.specs.declared.decoder.EventKind.{EventKind}
+use Rattle.events.specs.declared.decoder.EventKind.the-variants.{OpenKind, OpenNilKind, CloseKind, FinishKind, NoKind}
 use Rattle.events.specs.declared.decoder.FileEvent.{FileEvent}
-use Rattle.events.specs.declared.decoder.FileEvent.the-variants.{Open, Close, Finish, NoEvent}
+use Rattle.events.specs.declared.decoder.FileEvent.the-variants.{Open, OpenNil, Close, Finish, NoEvent}
 use Rattle.reading.specs.declared.event_file.Walking.{Walking}
 use Rattle.reading.specs.declared.steps.Standing.{Standing}
 use Rattle.reading.specs.declared.steps.Stepped.{Stepped}
@@ -62,9 +65,18 @@ turnEnd end w = stop w (cond (w .reading .finished && leb end (w .at)) 0 19) (w 
 abbrev pub EndsHere : ℕ → Walking → Walking → Type 0
 EndsHere end w r = (types sets : List ℕ) → walkedOf r types sets ≡ turnEnd end (walkedOf w types sets)
 
+-- the event is a nil opening
+abbrev pub isNil : EventKind → Bool
+isNil OpenKind = false
+isNil OpenNilKind = true
+isNil CloseKind = false
+isNil FinishKind = false
+isNil NoKind = false
+
 -- one event of the file, by the tables of the schema; the file ends at `end`
 abbrev pub turnOn : StepTables → ℕ → Walked → FileEvent → Walked
-turnOn t end w (Open g) = turnTo w (w .at + size (Open g)) (openByRows t (w .reading) (g .0))
+turnOn t end w (Open g) = turnTo w (w .at + size (Open g)) (openByRows t (w .reading) plain (g .0))
+turnOn t end w (OpenNil g) = turnTo w (w .at + size (OpenNil g)) (openByRows t (w .reading) nil (g .0))
 turnOn t end w (Close g) = turnTo w (w .at + size (Close g)) (closeStepIn (t .heads) (t .tags) (w .reading) (g .0))
 turnOn t end w Finish = turnTo w (w .at + size Finish) (finishStep (w .reading))
 turnOn t end w NoEvent = turnEnd end w
@@ -75,6 +87,7 @@ turnOf t file w = turnOn t (length file) w (eventAt file (w .at))
 -- an event file under a schema outside the limits: 19 where the first bytes are no event, else 10
 abbrev pub outsideNumber : FileEvent → ℕ
 outsideNumber (Open g) = 10
+outsideNumber (OpenNil g) = 10
 outsideNumber (Close g) = 10
 outsideNumber Finish = 10
 outsideNumber NoEvent = 19

@@ -1,4 +1,4 @@
-// Which type comes next under a tag, inside an element: the smallest that leads from the states kept to a live state.
+// Which type comes next under a tag, inside an element: the smallest that bears a tree opened so and leads from the states kept to a live state.
 use schema::BEGINS;
 use schema::Entry;
 use schema::STATES;
@@ -17,11 +17,17 @@ ghost use Prim.Native.Nat.{_*_, _/_, _^_, _≤_, _<_};
 ghost use lib.Dec.{ltb};
 ghost use Rattle.sdtd.specs.Limits.{mostTags, mostTypes, mostStates, mostSteps};
 ghost use Rattle.schema.specs.States.{noStates};
-ghost use Rattle.schema.specs.Rows.{typeRoom, mostRows, RowsInside};
-ghost use Rattle.reading.specs.Coming.{least, joins, entryMoves, movesUpTo, rowMoves, movesByRows, comingOf, comingBy, rotatedBy, TypeUnder, Lowest};
-ghost use Rattle.reading.specs.Coming.{join as joined};
+ghost use Rattle.schema.specs.Rows.{mostRows, RowsInside};
+ghost use Rattle.reading.specs.Coming.{least, joins, entryMoves, movesUpTo, rowMoves, movesByRows, comingOf, comingBy, TypeUnder, Lowest};
+ghost use Rattle.reading.specs.Coming.{kindBy, kindPlace, rotatedBy, rotation, kindSought, tagSought, IsSought, join as joined};
 
-// What comes next under a tag: nothing, or a type and the states that it leads to.
+// An opening that is asked for: a tag, plainly or as nil.
+pub(crate) struct Opening {
+    pub tag: Tag,
+    pub nil: bool,
+}
+
+// What comes next for an opening: nothing, or a type and the states that it leads to.
 pub(crate) enum Coming {
     Nothing,
     OfType(TypeNo, u32),
@@ -71,31 +77,57 @@ fn place(n: u16) -> usize
     n as usize
 }
 
-// An entry's type and tag with so much added, each inside its own room. Compiled by itself it is one sum and one mask, and stays so where it is
-// called.
+// What one more in the second binary digit of an entry's ways adds, counted from the type's place.
+const KIND_PLACE: u32 = 2 * TAGS as u32 * TYPE_ROOM;
+
+// An entry's type, tag and ways with so much added: of the type and the tag what is inside their room, of the ways the second digit. Compiled by
+// itself it is one sum and one mask, and stays so where it is called.
 fn rotated(e: Entry, more: u32) -> u32
-    requires { ⌜ more ≤ typeRoom * mostTags ⌝ }
+    requires { ⌜ more ≤ 2 * kindPlace ⌝ }
     ensures { λ r. ⌜ r ≡ rotatedBy more (e .0) ⌝ }
 {
     let sum = e.0 / TYPE_PLACE + more;
-    sum % TYPES as u32 + sum / TYPE_ROOM % TAGS as u32 * TYPE_ROOM
+    sum % TYPES as u32
+        + sum / TYPE_ROOM % TAGS as u32 * TYPE_ROOM
+        + sum / KIND_PLACE % 2 * KIND_PLACE
 }
 
-// The type of an entry under the tag g; of any other entry, a number larger than that of no type yet. Rotated by the tag, an entry's tag is 0
-// exactly where it is g.
-fn type_under(e: Entry, g: Tag) -> u32
-    requires { ⌜ g .0 < mostTags ⌝ }
-    ensures { λ r. ⌜ TypeUnder (g .0) (e .0) r ⌝ }
+// An opening as what is added to an entry to test it: less by TYPE_ROOM for each tag, and by TAGS times as much for a nil opening.
+pub(crate) struct Sought(pub u32);
+
+pub(crate) fn sought_of(o: Opening) -> Sought
+    requires { ⌜ o .tag .0 < mostTags ⌝ }
+    ensures { λ r. ⌜ r .0 ≡ rotation (kindBy (o .nil)) (o .tag .0) ⌝ }
 {
-    rotated(e, TYPE_ROOM * ((TAGS - g.0) as u32))
+    if o.nil {
+        return Sought(TYPE_ROOM * (2 * TAGS - o.tag.0) as u32);
+    }
+    Sought(TYPE_ROOM * (3 * TAGS - o.tag.0) as u32)
 }
 
-// An entry, if it is under the tag g, after what came so far.
-fn join_entry<'a>(e: Entry, g: Tag, short: bool, of: &'a mut u32, kept: &'a mut u32)
-    requires { ⌜ (g .0 < mostTags) × (now of ≤ mostTypes) ⌝ }
-    ensures { λ _. ⌜ least (now (of .exit)) (now (kept .exit)) ≡ joins (entryMoves (g .0) (e .0)) (least (now (of .entry)) (now (kept .entry))) ⌝ }
+// Is it as nil?
+pub(crate) fn sought_nil(o: Sought) -> bool
+    ensures { λ r. ⌜ kindBy r ≡ kindSought (o .0) ⌝ }
 {
-    let t = type_under(e, g);
+    o.0 <= 2 * TAGS as u32 * TYPE_ROOM
+}
+
+// The type of an entry under the opening's tag that bears a tree opened so; of any other entry, a number larger than that of no type yet. Rotated,
+// an entry's tag is 0 exactly where it is the one asked for, and the second digit of its ways exactly where they have the kind.
+fn type_under(e: Entry, o: Sought) -> u32
+    requires { ⌜ IsSought (o .0) ⌝ }
+    ensures { λ r. ⌜ TypeUnder (kindSought (o .0)) (tagSought (o .0)) (e .0) r ⌝ }
+{
+    rotated(e, o.0)
+}
+
+// An entry, if it can be opened, after what came so far.
+fn join_entry<'a>(e: Entry, o: Sought, short: bool, of: &'a mut u32, kept: &'a mut u32)
+    requires { ⌜ IsSought (o .0) × (now of ≤ mostTypes) ⌝ }
+    ensures { λ _. ⌜ least (now (of .exit)) (now (kept .exit))
+        ≡ joins (entryMoves (kindSought (o .0)) (tagSought (o .0)) (e .0)) (least (now (of .entry)) (now (kept .entry))) ⌝ }
+{
+    let t = type_under(e, o);
     if !short {
         // In a long row the entries that change nothing are mostly foreseen.
         if *of < t {
@@ -108,23 +140,23 @@ fn join_entry<'a>(e: Entry, g: Tag, short: bool, of: &'a mut u32, kept: &'a mut 
 // A row of so many entries or fewer is short.
 const SHORT: usize = 8;
 
-// The entries under the tag g from start up to end, after what came so far.
+// The entries from start up to end that can be opened, after what came so far.
 fn join_entries<'a>(
     entries: &'a [u32; STEPS],
     start: usize,
     end: usize,
-    g: Tag,
+    o: Sought,
     of: &'a mut u32,
     kept: &'a mut u32,
 )
-    requires { ⌜ (start ≤ mostSteps) × (end ≤ mostSteps) × (g .0 < mostTags) × (now of ≤ mostTypes) ⌝ }
+    requires { ⌜ (start ≤ mostSteps) × (end ≤ mostSteps) × IsSought (o .0) × (now of ≤ mostTypes) ⌝ }
     ensures { λ _. ⌜ least (now (of .exit)) (now (kept .exit))
-        ≡ joins (movesUpTo (now (entries .entry)) (g .0) start end) (least (now (of .entry)) (now (kept .entry))) ⌝ }
+        ≡ joins (movesUpTo (now (entries .entry)) (kindSought (o .0)) (tagSought (o .0)) start end) (least (now (of .entry)) (now (kept .entry))) ⌝ }
 {
     let short = end <= start + SHORT;
     let mut i = start;
     while i < end {
-        join_entry(Entry(entries[i]), g, short, of, kept);
+        join_entry(Entry(entries[i]), o, short, of, kept);
         i += 1;
     }
 }
@@ -134,15 +166,15 @@ fn join_row<'a>(
     entries: &'a [u32; STEPS],
     begins: &'a [u16; BEGINS],
     i: usize,
-    g: Tag,
+    o: Sought,
     of: &'a mut u32,
     kept: &'a mut u32,
 )
-    requires { ⌜ (i < mostRows) × RowsInside (now begins) × (g .0 < mostTags) × (now of ≤ mostTypes) ⌝ }
+    requires { ⌜ (i < mostRows) × RowsInside (now begins) × IsSought (o .0) × (now of ≤ mostTypes) ⌝ }
     ensures { λ _. ⌜ least (now (of .exit)) (now (kept .exit))
-        ≡ joins (rowMoves (now (entries .entry)) (now (begins .entry)) (g .0) i) (least (now (of .entry)) (now (kept .entry))) ⌝ }
+        ≡ joins (rowMoves (now (entries .entry)) (now (begins .entry)) (kindSought (o .0)) (tagSought (o .0)) i) (least (now (of .entry)) (now (kept .entry))) ⌝ }
 {
-    join_entries(entries, place(begins[i]), place(begins[i + 1]), g, of, kept);
+    join_entries(entries, place(begins[i]), place(begins[i + 1]), o, of, kept);
 }
 
 // The lowest state of a set that has one.
@@ -161,16 +193,16 @@ fn past(set: u32, q: u32) -> u32
     (set >> q) / 2
 }
 
-// What comes next under the tag g from the states of the set, by the rows of the type a. In `left` are those from p on, counted from p.
+// What comes next from the states of the set, by the rows of the type a. In `left` are those from p on, counted from p.
 pub(crate) fn coming_rows<'a>(
     entries: &'a [u32; STEPS],
     begins: &'a [u16; BEGINS],
     a: TypeNo,
     states: u32,
-    g: Tag,
+    o: Sought,
 ) -> Coming
-    requires { ⌜ (a .0 < mostTypes) × RowsInside (now begins) × (g .0 < mostTags) ⌝ }
-    ensures { λ r. ⌜ r ≡ comingBy (movesByRows (now (entries .entry)) (now (begins .entry)) (a .0) states (g .0)) ⌝ }
+    requires { ⌜ (a .0 < mostTypes) × RowsInside (now begins) × IsSought (o .0) ⌝ }
+    ensures { λ r. ⌜ r ≡ comingBy (movesByRows (now (entries .entry)) (now (begins .entry)) (a .0) states (kindSought (o .0)) (tagSought (o .0))) ⌝ }
 {
     let first = STATES as usize * a.0 as usize;
     let mut of = TYPES as u32;
@@ -180,7 +212,7 @@ pub(crate) fn coming_rows<'a>(
     while left != 0 {
         let q = lowest(left);
         p += q as usize;
-        join_row(entries, begins, first + p, g, &mut of, &mut kept);
+        join_row(entries, begins, first + p, o, &mut of, &mut kept);
         left = past(left, q);
         p += 1;
     }

@@ -1,5 +1,6 @@
 // The event file's answer: one event after another, from a fresh reading, until the first refusal.
 use crate::calls::EventAnswer;
+use crate::coming::Opening;
 use crate::heads::HEADS;
 use crate::heads::heads;
 use crate::steps::Standing;
@@ -24,7 +25,7 @@ ghost use Prim.Native.Nat.{_≤_};
 ghost use Rattle.sdtd.specs.Limits.{mostTags};
 ghost use Rattle.reading.specs.Steps.{stepTables, readingOf, InnerFits};
 ghost use Rattle.events.specs.Events.{eventAt};
-ghost use Rattle.reading.specs.Turns.{standingOf, walkedOf, AfterStep, EndsHere, turnOf, outsideNumber};
+ghost use Rattle.reading.specs.Turns.{standingOf, walkedOf, AfterStep, EndsHere, isNil, turnOf, outsideNumber};
 ghost use Rattle.reading.specs.EventFile.{EventsMean};
 
 // The number of the first question answered no, 0 where the file is taken whole; the place of that event, or the file's length; how many
@@ -102,6 +103,19 @@ fn at_no_event(end: usize, w: Walking) -> Walking
     }
 }
 
+// Is it a nil opening?
+fn is_nil(kind: EventKind) -> bool
+    ensures { λ r. ⌜ r ≡ isNil kind ⌝ }
+{
+    match kind {
+        EventKind::OpenKind => false,
+        EventKind::OpenNilKind => true,
+        EventKind::CloseKind => false,
+        EventKind::FinishKind => false,
+        EventKind::NoKind => false,
+    }
+}
+
 // One event of the file.
 fn turn<'a>(
     entries: &'a [u32; STEPS],
@@ -123,10 +137,16 @@ fn turn<'a>(
         rooted: w.rooted,
         finished: w.finished,
     };
-    match walk_kind(events, w.at) {
-        EventKind::OpenKind => {
-            let g = tag_at(events, w.at);
-            let s = step_open(entries, begins, heads, tags, types, sets, standing, g);
+    let kind = walk_kind(events, w.at);
+    match kind {
+        // One call for openings of both kinds, so that the compiler lays it in here.
+        EventKind::OpenKind | EventKind::OpenNilKind => {
+            let tag = tag_at(events, w.at);
+            let o = Opening {
+                tag,
+                nil: is_nil(kind),
+            };
+            let s = step_open(entries, begins, heads, tags, types, sets, standing, o);
             after_step(w, s, w.at + WITH_TAG)
         }
         EventKind::CloseKind => {
@@ -181,8 +201,8 @@ pub fn read_events(schema: Schema, events: &[u8], out: &mut [u8]) -> EventFile
     if !found.inside {
         return outside(events);
     }
-    let live = found.live;
-    let heads = heads(schema, live);
+    let ways = found.ways;
+    let heads = heads(schema, ways);
     let mut types = [0u8; LEVELS];
     let mut sets = [StateSet::NONE.0; LEVELS];
     let mut w = BEGINNING;

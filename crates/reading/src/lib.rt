@@ -16,5 +16,6 @@ pub use event_file::read_events;
 pub use lent::close_lent;
 pub use lent::finish_lent;
 pub use lent::open_lent;
+pub use lent::open_nil_lent;
 pub use value::LEVELS;
 pub use value::Reading;

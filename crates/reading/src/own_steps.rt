@@ -1,8 +1,9 @@
 // What comes next inside an element by its type's own steps, where a schema is asked for one opening only.
 use crate::coming::Coming;
+use crate::coming::Opening;
 use crate::coming::coming_of;
 use crate::coming::join;
-use crate::heads::bears_in;
+use crate::heads::opens_in;
 use schema::STEPS;
 use schema::Schema;
 use schema::Span;
@@ -18,11 +19,11 @@ ghost use Rattle.sdtd.specs.Limits.{mostTypes, mostStates, mostSteps};
 ghost use Rattle.sdtd.specs.Schema.{step};
 ghost use Rattle.schema.specs.States.{member};
 ghost use Rattle.schema.specs.Value.{offset, stepAt};
-ghost use Rattle.reading.specs.Coming.{least, joins, gathered, stepTaken, stepMoves, movesBySteps, comingBy};
+ghost use Rattle.reading.specs.Coming.{least, joins, gathered, kindBy, stepTaken, stepMoves, movesBySteps, comingBy};
 
-// Under which tag a step is asked for, from which states, and into which live states of its type.
+// For which opening a step is asked, from which states, and into which live states of its type.
 struct Asked {
-    pub g: Tag,
+    pub opening: Opening,
     pub states: u32,
     pub own: u32,
 }
@@ -37,24 +38,26 @@ fn in_set(set: u32, q: u8) -> bool
 // Is a step from the state p by the type j to q taken? Then q is a state.
 fn step_taken<'a>(
     tag: &'a [u8; TYPES],
-    live: &'a [u32; TYPES],
+    ways: &'a [u8; TYPES],
     asked: Asked,
     p: u8,
     j: TypeNo,
     q: u8,
 ) -> bool
-    ensures { λ r. ⌜ (r ≡ stepTaken (now (tag .entry)) (now (live .entry)) (asked .own) (asked .states) (asked .g .0) (step p (j .0) q))
+    ensures { λ r. ⌜ (r ≡ stepTaken (now (tag .entry)) (now (ways .entry)) (asked .own) (asked .states) (kindBy (asked .opening .nil))
+        (asked .opening .tag .0) (step p (j .0) q))
         × (T r → q < mostStates) ⌝ }
 {
     let a = j.0 as usize % TYPES;
-    let g = asked.g;
+    let opening = asked.opening;
+    let g = opening.tag;
     if !Tag(tag[a]).same(g) {
         return false;
     }
     if !StateSet(asked.states).has(p) {
         return false;
     }
-    if !bears_in(live, a) {
+    if !opens_in(ways, a, opening.nil) {
         return false;
     }
     in_set(asked.own, q)
@@ -63,7 +66,7 @@ fn step_taken<'a>(
 // That step, if it is taken, after what came so far.
 fn join_step<'a>(
     tag: &'a [u8; TYPES],
-    live: &'a [u32; TYPES],
+    ways: &'a [u8; TYPES],
     asked: Asked,
     p: u8,
     j: TypeNo,
@@ -72,10 +75,11 @@ fn join_step<'a>(
     kept: &'a mut u32,
 )
     ensures { λ _. ⌜ least (now (of .exit)) (now (kept .exit))
-        ≡ joins (stepMoves (now (tag .entry)) (now (live .entry)) (asked .own) (asked .states) (asked .g .0) (step p (j .0) q))
+        ≡ joins (stepMoves (now (tag .entry)) (now (ways .entry)) (asked .own) (asked .states) (kindBy (asked .opening .nil)) (asked .opening .tag .0)
+        (step p (j .0) q))
         (least (now (of .entry)) (now (kept .entry))) ⌝ }
 {
-    if !step_taken(tag, live, asked, p, j, q) {
+    if !step_taken(tag, ways, asked, p, j, q) {
         return;
     }
     join(of, kept, j.0 as u32, q);
@@ -88,12 +92,12 @@ fn coming_span<'a>(
     to: &'a [u8; STEPS],
     span: Span,
     tag: &'a [u8; TYPES],
-    live: &'a [u32; TYPES],
+    ways: &'a [u8; TYPES],
     asked: Asked,
 ) -> Coming
     requires { ⌜ span .start + span .n ≤ mostSteps ⌝ }
-    ensures { λ r. ⌜ r ≡ comingBy (gathered (λ i. stepMoves (now (tag .entry)) (now (live .entry)) (asked .own) (asked .states) (asked .g .0)
-        (stepAt (now (from .entry)) (now (by .entry)) (now (to .entry)) i)) (span .start) (span .n)) ⌝ }
+    ensures { λ r. ⌜ r ≡ comingBy (gathered (λ i. stepMoves (now (tag .entry)) (now (ways .entry)) (asked .own) (asked .states) (kindBy (asked .opening .nil))
+        (asked .opening .tag .0) (stepAt (now (from .entry)) (now (by .entry)) (now (to .entry)) i)) (span .start) (span .n)) ⌝ }
 {
     let mut of = TYPES as u32;
     let mut kept = StateSet::NONE.0;
@@ -102,7 +106,7 @@ fn coming_span<'a>(
     while i < end {
         join_step(
             tag,
-            live,
+            ways,
             asked,
             from[i],
             TypeNo(by[i]),
@@ -129,16 +133,18 @@ fn start_of(steps: [u16; TYPES], a: usize) -> usize
     start
 }
 
-// What comes next under the tag g from the states of the set, by the steps of the type a; `live` has the live states of each type.
+// What comes next from the states of the set, by the steps of the type a; `live` has the live states of each type, `ways` in which ways it bears a
+// tree.
 pub(crate) fn coming_steps(
     schema: Schema,
     live: [u32; TYPES],
+    ways: [u8; TYPES],
     a: TypeNo,
     states: u32,
-    g: Tag,
+    opening: Opening,
 ) -> Coming
     requires { ⌜ (a .0 < mostTypes) × (offset (schema .steps) (a .0) + getD (schema .steps) (a .0) 0 ≤ mostSteps) ⌝ }
-    ensures { λ r. ⌜ r ≡ comingBy (movesBySteps schema live (a .0) states (g .0)) ⌝ }
+    ensures { λ r. ⌜ r ≡ comingBy (movesBySteps schema live ways (a .0) states (kindBy (opening .nil)) (opening .tag .0)) ⌝ }
 {
     let steps = schema.steps;
     let inner = a.0 as usize;
@@ -147,14 +153,18 @@ pub(crate) fn coming_steps(
         n: steps[inner] as usize,
     };
     let own = live[inner];
-    let asked = Asked { g, states, own };
+    let asked = Asked {
+        opening,
+        states,
+        own,
+    };
     coming_span(
         &schema.from,
         &schema.by,
         &schema.to,
         span,
         &schema.tag,
-        &live,
+        &ways,
         asked,
     )
 }

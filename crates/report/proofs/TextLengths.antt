@@ -10,6 +10,7 @@ use lib.ListN.{length, take, getD, length-append, length-take}
 use Rattle.sdtd.proofs.Basics.{cond-both}
 use Rattle.competition.specs.Witness.{headOf}
 use Rattle.competition.specs.declared.witness.WitnessHead.{WitnessHead}
+use Rattle.sdtd.specs.Tree.{plain, nil}
 use Rattle.sdtd.specs.Document.{opening, closing, finish}
 use Rattle.events.specs.Events.{Events, ends, stray, event, eventsOf}
 use Rattle.reading.specs.declared.event_file.EventFile.{EventFile}
@@ -49,14 +50,17 @@ module _ (m : ℕ) where
   outlined (b ∷ []) k = cond-both (Outlined 1) (eqb b 0x2f) (event finish ends) stray (λ level h. tt) (λ level h. tt)
   outlined (b ∷ (g ∷ rest)) (k, (l, more)) =
       let n = suc (suc (length rest)) in
-      let opens = event (opening g) (eventsOf rest) in
+      let opens = event (opening plain g) (eventsOf rest) in
+      let opens-nil = event (opening nil g) (eventsOf rest) in
       let closes = event (closing g) (eventsOf rest) in
       let ended = event finish (eventsOf (g ∷ rest)) in
-      let third = cond (eqb b 0x2f) ended stray in
+      let last = cond (eqb b 0x2f) ended stray in
+      let third = cond (eqb b 0x23) opens-nil last in
       cond-both (Outlined n) (eqb b 0x21) opens (cond (eqb b 0x22) closes third)
       (λ level h. (omega arith, l, outlined rest more (suc level) (omega arith)))
       (cond-both (Outlined n) (eqb b 0x22) closes third (λ level h. outlined rest more (level - 1) (omega arith))
-      (cond-both (Outlined n) (eqb b 0x2f) ended stray (λ level h. outlined (g ∷ rest) (l, more) level (omega arith)) (λ level h. tt)))
+      (cond-both (Outlined n) (eqb b 0x23) opens-nil last (λ level h. (omega arith, l, outlined rest more (suc level) (omega arith)))
+      (cond-both (Outlined n) (eqb b 0x2f) ended stray (λ level h. outlined (g ∷ rest) (l, more) level (omega arith)) (λ level h. tt))))
 
 -- an opening's line
 line-long : (level tag type : ℕ) → level ≤ mostEvents → tag < 256 → type < 256 → length (openingLine level tag type) ≤ mostLine

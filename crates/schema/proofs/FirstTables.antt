@@ -72,6 +72,7 @@ pub record OwnStep (v : Schema) (a : ℕ) (s : Step) : Type 0 where
   pub given : List·Memᴰ s (own (v .steps) (forth v) a)
   pub from : s .from < mostStates
   pub by : s .by % mostTypes ≡ s .by
+  pub by-type : s .by < v .types
   pub to : s .to < mostStates
 
 module _ {v : Schema} (fits : Fits v) (within : WithinLimits (meaning v)) where
@@ -108,6 +109,7 @@ module _ {v : Schema} (fits : Fits v) (within : WithinLimits (meaning v)) where
         given = rw (own-steps a l) at m;
         from = w .from;
         by = mod-eq-of-lt (omega (arith, w .by));
+        by-type = omega (arith, w .by, types-count v);
         to = w .to;
       }
 

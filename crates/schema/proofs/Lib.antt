@@ -1,6 +1,7 @@
 -- Laws of the values and of what the loops compute.
 pub mod Bits
 pub mod Values
+pub mod WaysLaws
 pub mod RootLaws
 pub mod LimitLaws
 pub mod RowLaws

@@ -59,34 +59,34 @@ picked-cons p e es = go (eqb (fromIn e) p)
     go true = refl
     go false = refl
 
-pub counted-cons : (tag bears : List ℕ) (own : ℕ) (s : Step) (ss : List Step)
-    → counted tag bears own (s ∷ ss) ≡ countedStep tag bears own s ++ counted tag bears own ss
+pub counted-cons : (tag ways : List ℕ) (own : ℕ) (s : Step) (ss : List Step)
+    → counted tag ways own (s ∷ ss) ≡ countedStep tag ways own s ++ counted tag ways own ss
 unfolding counted
-counted-cons tag bears own s ss = go (countsBy bears own s)
+counted-cons tag ways own s ss = go (countsBy ways own s)
   where
     go : (b : Bool)
-        → cond b (entryBy tag s ∷ counted tag bears own ss) (counted tag bears own ss) ≡ cond b (entryBy tag s ∷ []) [] ++ counted tag bears own ss
+        → cond b (entryBy tag ways s ∷ counted tag ways own ss) (counted tag ways own ss) ≡ cond b (entryBy tag ways s ∷ []) [] ++ counted tag ways own ss
     go true = refl
     go false = refl
 
-pub counted-one : (tag bears : List ℕ) (own : ℕ) (s : Step) → length (countedStep tag bears own s) ≤ 1
-counted-one tag bears own s = go (countsBy bears own s)
+pub counted-one : (tag ways : List ℕ) (own : ℕ) (s : Step) → length (countedStep tag ways own s) ≤ 1
+counted-one tag ways own s = go (countsBy ways own s)
   where
-    go : (b : Bool) → length (cond b (entryBy tag s ∷ []) []) ≤ 1
+    go : (b : Bool) → length (cond b (entryBy tag ways s ∷ []) []) ≤ 1
     go true = omega arith
     go false = omega arith
 
 -- the steps that count are no more than the steps
-pub counted-most : (tag bears : List ℕ) (own : ℕ) (ss : List Step) → length (counted tag bears own ss) ≤ length ss
+pub counted-most : (tag ways : List ℕ) (own : ℕ) (ss : List Step) → length (counted tag ways own ss) ≤ length ss
 unfolding counted
-counted-most tag bears own [] = omega arith
-counted-most tag bears own (s ∷ ss) =
+counted-most tag ways own [] = omega arith
+counted-most tag ways own (s ∷ ss) =
     omega (
       arith,
-      ap length (counted-cons tag bears own s ss),
-      length-append (countedStep tag bears own s) (counted tag bears own ss),
-      counted-one tag bears own s,
-      counted-most tag bears own ss,
+      ap length (counted-cons tag ways own s ss),
+      length-append (countedStep tag ways own s) (counted tag ways own ss),
+      counted-one tag ways own s,
+      counted-most tag ways own ss,
     )
 
 -- how many of the entries lead from the state p or a larger one

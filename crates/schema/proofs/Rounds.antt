@@ -13,9 +13,9 @@ use lib.ListN.{length, getD, set, take, replicate, length-map, List·getD-eq-def
 use lib.Seq.{take-suc, set-at, length-take-le}
 use Rattle.sdtd.specs.Limits.{mostTypes, mostStates, mostSteps}
 use Rattle.sdtd.specs.Schema.{Step}
-use Rattle.schema.specs.States.{member, bearsIn}
+use Rattle.schema.specs.States.{member}
 use Rattle.schema.specs.Value.{upFrom, stepsOf, stepAt, offset}
-use Rattle.schema.specs.Spread.{spreadSet, settleSet, iterate, Settled, spanAt, startStates, bearing}
+use Rattle.schema.specs.Spread.{spreadSet, settleSet, iterate, Settled, spanAt, startStates}
 use Rattle.schema.proofs.Bits.{absent, absent-all, absent-falls, absentIn, absent-in-falls}
 use Rattle.schema.proofs.Values.{steps-cons, offset-step, offset-up, up-count, map-up}
 use Rattle.schema.proofs.SpreadLaws.{set-grown, Sets, Growth}
@@ -51,20 +51,6 @@ fill-next xs i n d e l m =
     let q : n - i ≡ suc (n - (i + 1)) = omega arith in
     let t : length (take i xs) ≡ i = length-take-le i xs (omega arith) in
     rw (q, set-at _ _ _ _ i t, add-one i, take-suc xs i e l, append-assoc)
-
--- the types that bear a tree, an entry each
-pub bearing-long : (table : List ℕ) → length (bearing table) ≡ mostTypes
-bearing-long table = length-map (upFrom 0 mostTypes) (bearsIn table) ∙ up-count 0 mostTypes
-
-pub bearing-at : (table : List ℕ) → length table ≡ mostTypes → (a : ℕ) → getD (bearing table) a false ≡ bearsIn table a
-bearing-at table l a =
-    elim (decLt a mostTypes) [
-      | yes h ↦ map-up (bearsIn table) false 0 mostTypes a h ∙ ap (bearsIn table) (zero-add a)
-      | no h ↦
-          let past : mostTypes ≤ a = omega arith in
-          List·getD-eq-default (bearing table) false (rw (bearing-long table) past)
-          ∙ sym (ap (member 0) (List·getD-eq-default table 0 (rw l past)))
-    ]
 
 start-below : (n a : ℕ) → getD (replicate n 1) a 0 < 2 ^ mostStates
 start-below zero a = omega arith

@@ -13,7 +13,8 @@ use lib.Seq.{getD-set-same, getD-set-other, set-getD, ext-getD}
 use Rattle.sdtd.specs.Limits.{mostTypes, mostStates}
 use Rattle.sdtd.specs.Schema.{Step}
 use Rattle.sdtd.proofs.Basics.{cond-either, and-parts, and-both}
-use Rattle.schema.specs.States.{member, bearsIn}
+use Rattle.schema.specs.States.{member}
+use Rattle.schema.specs.Ways.{bearsIn}
 use Rattle.schema.specs.Value.{offset}
 use Rattle.schema.specs.Spread.{spreadStep, spreadSet, settleSet, spreadAll, iterate, Settled}
 use Rattle.schema.proofs.Bits.{insert-below, member-insert, same-members}

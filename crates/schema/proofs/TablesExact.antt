@@ -1,6 +1,6 @@
 -- The tables that the rounds of trimming settle at are exactly the definitions.
 use mathlib.Core.Path.{_≡_, refl}
-use mathlib.Core.Logic.{_↔_}
+use mathlib.Core.Logic.{_↔_, inl, inr, ⊎-elim}
 use mathlib.Core.Bool.{Bool, true, false}
 use mathlib.Core.List.{List, [], _∷_, _++_, List·Memᴰ}
 use Prim.Native.Nat.{ℕ, _<_}
@@ -9,27 +9,24 @@ use lib.Dec.{T}
 use lib.ListN.{length, getD}
 use Rattle.sdtd.specs.Limits.{mostTypes}
 use Rattle.sdtd.specs.Schema.{Step, blockOf, WithinLimits, Leads, stay, go}
-use Rattle.sdtd.specs.Schema.{Schema as Meaning}
 use Rattle.sdtd.specs.Tree.{IsRoot}
 use Rattle.sdtd.specs.Trim.{Bears, AllBear, none, both, Live, Reached}
 use Rattle.sdtd.proofs.Within.{root-below}
 use Rattle.sdtd.proofs.Automata.{leads-append, all-append}
-use Rattle.sdtd.proofs.Fixpoint.{LiveClosed, live-closed, live-exact, bears-live, Forward, ReachedClosed, reached-closed, reached-exact}
-use Rattle.schema.specs.States.{member, bearsIn}
+use Rattle.sdtd.proofs.Fixpoint.{LiveClosed, live-closed, live-exact, Forward, ReachedClosed, reached-closed, reached-exact}
+use Rattle.schema.specs.States.{member}
+use Rattle.schema.specs.Ways.{bearsIn}
 use Rattle.schema.specs.Value.{stepsOf, rootsOf, meaning}
-use Rattle.schema.specs.Trimming.{LiveExactly, BearsExactly, MarksExactly, Exact}
-use Rattle.schema.specs.Spread.{spreadAll, Settled, stepsIn, reaches, Reaching, first, next, ReachedFrom, firstSets, startStates, bearing}
+use Rattle.schema.specs.Trimming.{LiveExactly, WaysExactly, MarksExactly, Exact}
+use Rattle.schema.specs.Spread.{spreadAll, Settled, stepsIn, reaches, Reaching, first, next, ReachedFrom, firstSets, startStates, waysBy}
 use Rattle.schema.specs.declared.value.Schema.{Schema}
-use Rattle.schema.proofs.Rounds.{bearing-at, start-sets}
+use Rattle.schema.proofs.WaysLaws.{bears-in, bears-by, ways-exactly}
+use Rattle.schema.proofs.Rounds.{start-sets}
 use Rattle.schema.proofs.SpreadLaws.{settled-keeps, byBearing, own, Table, round-keeps, settled-takes}
 use Rattle.schema.proofs.FirstTables.{Fits, OwnStep, back, forth, turned, firstLive, types-most}
 use Rattle.schema.proofs.FirstTables.{own-steps, steps-in, own-step, own-back, accepts, first-long, first-below}
 use Rattle.schema.proofs.FirstTables.{start-only, start-in}
 use Rattle.schema.proofs.ReachLaws.{test-says, test-passes}
-
--- a table of exactly the live states says which types bear a tree
-pub bears-in : (S : Meaning) (table : List ℕ) → LiveExactly S table → BearsExactly S table
-bears-in S table exact j = (λ m. bears-live .1 (exact j 0 .0 m), λ b. exact j 0 .1 (bears-live .0 b))
 
 -- the table marks exactly the root types
 abbrev RootsMarked : Schema → List Bool → Type 0
@@ -45,10 +42,10 @@ roots-marked v table within marks a = (
 
 -- the two rounds
 abbrev liveRound : Schema → List ℕ → List ℕ
-liveRound v t = spreadAll (v .steps) (forth v) (λ u. u) 0 0 (v .types) t
+liveRound v t = spreadAll (v .steps) (forth v) (waysBy (v .nillable) (v .types)) 0 0 (v .types) t
 
 abbrev forwardRound : Schema → List ℕ → List ℕ → List ℕ
-forwardRound v bears t = spreadAll (v .steps) (turned v) (λ u. bears) 0 0 (v .types) t
+forwardRound v ways t = spreadAll (v .steps) (turned v) (λ u. ways) 0 0 (v .types) t
 
 -- what the tables on the way have
 abbrev LiveTable : Schema → List ℕ → Type 0
@@ -73,14 +70,17 @@ module _
       }
 
   live-rule :
-      (t : List ℕ) → LiveTable v t → (a : ℕ) (s : Step) → a < v .types → List·Memᴰ s (own (v .steps) (forth v) a) → T (byBearing t s)
+      (t : List ℕ) → LiveTable v t → (a : ℕ) (s : Step) → a < v .types → List·Memᴰ s (own (v .steps) (forth v) a)
+      → T (byBearing (waysBy (v .nillable) (v .types) t) s)
       → Live (meaning v) a (s .to) → Live (meaning v) a (s .from)
   live-rule t k a s l i b to =
       let m = rw (← own-steps fits within a l) at i in
-      live-closed .step a s m (k .sound (s .by) 0 (rw (own-step fits within a s m .by) at b)) to
+      let o = own-step fits within a s m in
+      let starts = bears-by v (types-most fits within) t (s .by) (o .by-type) .0 (rw (o .by) at b) in
+      live-closed .step a s m (⊎-elim (λ p. inl (k .sound (s .by) 0 p)) (λ n. inr n) starts) to
 
   live-round : (t : List ℕ) → LiveTable v t → LiveTable v (liveRound v t)
-  live-round t k = round-keeps (v .steps) (forth v) (λ u. u) (v .types) 0 0 t refl (omega (arith, types-most fits within)) k (λ u h a s l. live-rule u h a s (omega arith))
+  live-round t k = round-keeps (v .steps) (forth v) (waysBy (v .nillable) (v .types)) (v .types) 0 0 t refl (omega (arith, types-most fits within)) k (λ u h a s l. live-rule u h a s (omega arith))
 
   live-table : LiveTable v live
   live-table = settled-keeps (LiveTable v) live-round live-first settled
@@ -92,8 +92,9 @@ module _
         step =
             λ a s m b to.
             let o = own-step fits within a s m in
-            settled-takes (v .steps) (forth v) (λ u. u) (v .types) live (types-most fits within) (live-table .sets)
-            (settled .settled) a s (o .type) (o .given) (o .from) (rw (o .by) b) to;
+            settled-takes (v .steps) (forth v) (waysBy (v .nillable) (v .types)) (v .types) live (types-most fits within) (live-table .sets)
+            (settled .settled) a s (o .type) (o .given) (o .from)
+            (rw (o .by) (bears-by v (types-most fits within) live (s .by) (o .by-type) .1 b)) to;
       }
 
   live-is : (a q : ℕ) → Live (meaning v) a q ↔ T (member q (getD live a 0))
@@ -102,17 +103,17 @@ module _
 -- the table that the first loop settles at
 pub live-exactly :
     {v : Schema} {live : List ℕ} → Fits v → WithinLimits (meaning v)
-    → Settled (λ t. spreadAll (v .steps) (stepsOf (v .from) (v .by) (v .to)) (λ u. u) 0 0 (v .types) t) (firstSets (v .types) (v .accepting)) live
+    → Settled (λ t. spreadAll (v .steps) (stepsOf (v .from) (v .by) (v .to)) (waysBy (v .nillable) (v .types)) 0 0 (v .types) t) (firstSets (v .types) (v .accepting)) live
     → LiveExactly (meaning v) live
 live-exactly fits within l a q = (live-is fits within l a q .1, live-is fits within l a q .0)
 
 module _
-    {v : Schema} (fits : Fits v) (within : WithinLimits (meaning v)) (live : List ℕ) (long : length live ≡ mostTypes)
-    (exactly : LiveExactly (meaning v) live) where
-  bears-is : (a : ℕ) → Bears (meaning v) a ↔ T (bearsIn live a)
-  bears-is a = let b = bears-in (meaning v) live exactly a in (b .1, b .0)
+    {v : Schema} (fits : Fits v) (within : WithinLimits (meaning v)) (live ways : List ℕ)
+    (exactly : LiveExactly (meaning v) live) (opened : WaysExactly (meaning v) ways) where
+  bears-is : (a : ℕ) → Bears (meaning v) a ↔ T (bearsIn ways a)
+  bears-is a = let b = bears-in (meaning v) ways opened a in (b .1, b .0)
 
-  module _ {forward : List ℕ} (onward : Settled (forwardRound v live) startStates forward) where
+  module _ {forward : List ℕ} (onward : Settled (forwardRound v ways) startStates forward) where
     forward-first : ForwardTable v startStates
     forward-first =
         record {
@@ -122,16 +123,16 @@ module _
         }
 
     forward-rule :
-        (a : ℕ) (s : Step) → a < v .types → List·Memᴰ s (own (v .steps) (turned v) a) → T (byBearing live s)
+        (a : ℕ) (s : Step) → a < v .types → List·Memᴰ s (own (v .steps) (turned v) a) → T (byBearing ways s)
         → Forward (meaning v) a (s .to) → Forward (meaning v) a (s .from)
     forward-rule a s l i b f =
         let m = rw (← own-steps fits within a l) at (own-back (v .to) (v .by) (v .from) (v .steps) a s i) in
         let c = bears-is (s .by) .1 (rw (own-step fits within a (back s) m .by) at b) in
         record { word = f .word ++ (s .by ∷ []); leads = leads-append (f .leads) (go m stay); bear = all-append (f .bear) (both c none) }
 
-    forward-round : (t : List ℕ) → ForwardTable v t → ForwardTable v (forwardRound v live t)
+    forward-round : (t : List ℕ) → ForwardTable v t → ForwardTable v (forwardRound v ways t)
     forward-round t k =
-        round-keeps (v .steps) (turned v) (λ u. live) (v .types) 0 0 t refl (omega (arith, types-most fits within)) k (λ u h a s l. forward-rule a s (omega arith))
+        round-keeps (v .steps) (turned v) (λ u. ways) (v .types) 0 0 t refl (omega (arith, types-most fits within)) k (λ u h a s l. forward-rule a s (omega arith))
 
     forward-table : ForwardTable v forward
     forward-table = settled-keeps (ForwardTable v) forward-round forward-first onward
@@ -141,7 +142,7 @@ module _
         → T (member (s .from) (getD forward a 0)) → T (member (s .to) (getD forward a 0))
     forward-takes a s i b m =
         let o = own-step fits within a s i in
-        settled-takes (v .steps) (turned v) (λ u. live) (v .types) forward (types-most fits within) (forward-table .sets) (onward .settled)
+        settled-takes (v .steps) (turned v) (λ u. ways) (v .types) forward (types-most fits within) (forward-table .sets) (onward .settled)
         a (back s) (o .type) (own-back (v .from) (v .by) (v .to) (v .steps) a s (o .given)) (o .to)
         (rw (o .by) (bears-is (s .by) .0 b)) m
 
@@ -158,27 +159,27 @@ module _
         let n = types-most fits within in
         along a (f .leads) (f .bear) (forward-table .grown a 0 (start-in mostTypes a (omega arith)))
 
-    sound : {roots : List Bool} → RootsMarked v roots → {a : ℕ} → Reaching (ownSteps v) live forward live roots a → Reached (meaning v) a
+    sound : {roots : List Bool} → RootsMarked v roots → {a : ℕ} → Reaching (ownSteps v) ways forward live roots a → Reached (meaning v) a
     sound are (first {a = a} l t) = reached-closed .root a (are a .0 t)
     sound are (next {a = a} s r i t) =
         let m = rw (steps-in fits within a) at i in
         let e = own-step fits within a s m .by in
-        let c = test-says live (getD forward a 0) (getD live a 0) t in
+        let c = test-says ways (getD forward a 0) (getD live a 0) t in
         let b = bears-is (s .by) .1 (rw e at (c .by)) in
         rw e (reached-closed .step a s (sound are r) m (forward-table .sound a (s .from) (c .from)) b (exactly a (s .to) .0 (c .to)))
 
     reaches-own :
         (a : ℕ) (s : Step) → OwnStep v a s → Forward (meaning v) a (s .from) → Bears (meaning v) (s .by) → Live (meaning v) a (s .to)
-        → T (reaches live (getD forward a 0) (getD live a 0) s)
+        → T (reaches ways (getD forward a 0) (getD live a 0) s)
     reaches-own a s o f b l =
-        test-passes live (getD forward a 0) (getD live a 0)
+        test-passes ways (getD forward a 0) (getD live a 0)
         (record {
           from = forward-has a (s .from) (o .type) f;
           by = rw (o .by) (bears-is (s .by) .0 b);
           to = exactly a (s .to) .1 l;
         })
 
-    closed : {roots : List Bool} → RootsMarked v roots → ReachedClosed (meaning v) (Reaching (ownSteps v) live forward live roots)
+    closed : {roots : List Bool} → RootsMarked v roots → ReachedClosed (meaning v) (Reaching (ownSteps v) ways forward live roots)
     closed are =
         record {
           root = λ a e. first (root-below within e) (are a .1 e);
@@ -188,12 +189,12 @@ module _
               rw (o .by) at (next s r (rw (steps-in fits within a) m) (reaches-own a s o f b l));
         }
 
-    exact : {roots reached : List Bool} → RootsMarked v roots → ReachedFrom (ownSteps v) live forward live roots reached
-        → Exact (meaning v) (record { inside = true; live = live; bears = bearing live; reached = reached })
+    exact : {roots reached : List Bool} → RootsMarked v roots → ReachedFrom (ownSteps v) ways forward live roots reached
+        → Exact (meaning v) (record { inside = true; live = live; ways = ways; reached = reached })
     exact are marked =
         record {
           live = exactly;
-          bears = λ a. rw (bearing-at live long a) (bears-is a .1, bears-is a .0);
+          ways = opened;
           reached =
               λ a.
               let e = reached-exact (closed are) (λ b. sound are) a in (λ t. e .1 (marked a .0 t), λ r. marked a .1 (e .0 r));
@@ -201,10 +202,11 @@ module _
 
 -- the tables that the next two loops end with
 pub tables-exact :
-    {v : Schema} {forward : List ℕ} {roots reached : List Bool} → Fits v → WithinLimits (meaning v) → (live : List ℕ) → length live ≡ mostTypes
-    → LiveExactly (meaning v) live
-    → Settled (λ t. spreadAll (v .steps) (stepsOf (v .to) (v .by) (v .from)) (λ u. live) 0 0 (v .types) t) startStates forward
+    {v : Schema} {forward : List ℕ} {roots reached : List Bool} → Fits v → WithinLimits (meaning v) → (live ways : List ℕ)
+    → LiveExactly (meaning v) live → WaysExactly (meaning v) ways
+    → Settled (λ t. spreadAll (v .steps) (stepsOf (v .to) (v .by) (v .from)) (λ u. ways) 0 0 (v .types) t) startStates forward
     → MarksExactly (rootsOf (v .root) (v .roots)) roots
-    → ReachedFrom (stepsIn (v .steps) (stepsOf (v .from) (v .by) (v .to)) (v .types)) live forward live roots reached
-    → Exact (meaning v) (record { inside = true; live = live; bears = bearing live; reached = reached })
-tables-exact {v} {roots = roots} fits within live long exactly f m r = exact fits within live long exactly f (roots-marked v roots within m) r
+    → ReachedFrom (stepsIn (v .steps) (stepsOf (v .from) (v .by) (v .to)) (v .types)) ways forward live roots reached
+    → Exact (meaning v) (record { inside = true; live = live; ways = ways; reached = reached })
+tables-exact {v} {roots = roots} fits within live ways exactly opened f m r =
+    exact fits within live ways exactly opened f (roots-marked v roots within m) r

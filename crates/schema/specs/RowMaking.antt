@@ -7,25 +7,26 @@ use lib.ListN.{length, getD, set, take, replicate}
 use Rattle.sdtd.specs.Limits.{mostTypes, mostSteps}
 use Rattle.sdtd.specs.Schema.{Step}
 use Rattle.schema.specs.Putting.{putAll}
-use Rattle.schema.specs.States.{member, bearsIn}
+use Rattle.schema.specs.States.{member}
+use Rattle.schema.specs.Ways.{mostWays, bearsIn}
 use Rattle.schema.specs.Rows.{entry, fromIn, mostRows}
 
--- a step counts, by a table that tells which types bear a tree and by the live states of the type that has it
+-- a step counts, by a table that tells in which ways types bear a tree and by the live states of the type that has it
 unfoldable pub countsBy : List ℕ → ℕ → Step → Bool
-countsBy bears own s = bearsIn bears (s .by % mostTypes) && member (s .to) own
+countsBy ways own s = bearsIn ways (s .by % mostTypes) && member (s .to) own
 
--- its entry, by a table of tags
-abbrev pub entryBy : List ℕ → Step → ℕ
-entryBy tag s = entry (s .from) (s .to) (s .by) (getD tag (s .by % mostTypes) 0)
+-- its entry, by a table of tags and one of ways
+abbrev pub entryBy : List ℕ → List ℕ → Step → ℕ
+entryBy tag ways s = entry (s .from) (s .to) (s .by) (getD tag (s .by % mostTypes) 0) (getD ways (s .by % mostTypes) 0 % mostWays)
 
 -- the step's entry, if it counts
 abbrev pub countedStep : List ℕ → List ℕ → ℕ → Step → List ℕ
-countedStep tag bears own s = cond (countsBy bears own s) (entryBy tag s ∷ []) []
+countedStep tag ways own s = cond (countsBy ways own s) (entryBy tag ways s ∷ []) []
 
 -- the entries of the steps that count, in the order of the steps
 unfoldable pub counted : List ℕ → List ℕ → ℕ → List Step → List ℕ
-counted tag bears own [] = []
-counted tag bears own (s ∷ ss) = cond (countsBy bears own s) (entryBy tag s ∷ counted tag bears own ss) (counted tag bears own ss)
+counted tag ways own [] = []
+counted tag ways own (s ∷ ss) = cond (countsBy ways own s) (entryBy tag ways s ∷ counted tag ways own ss) (counted tag ways own ss)
 
 -- the entries that lead from the state p
 unfoldable pub picked : ℕ → List ℕ → List ℕ

@@ -7,6 +7,7 @@ use lib.ListN.{length, getD}
 use Rattle.sdtd.specs.Limits.{mostTags, mostTypes, mostStates, mostSteps}
 use Rattle.sdtd.specs.Schema.{Step, Schema, blockOf, tagOf}
 use Rattle.sdtd.specs.Trim.{Bears, Live}
+use Rattle.schema.specs.Ways.{mostWays, WaysFor}
 
 -- the step s of the type a counts, in rows: it is by a tree-bearing type, into a live state
 pub record Counts (S : Schema) (a : ℕ) (s : Step) : Type 0 where
@@ -18,9 +19,10 @@ pub record Counts (S : Schema) (a : ℕ) (s : Step) : Type 0 where
 abbrev pub typeRoom : ℕ
 typeRoom = 512
 
--- An entry is one number. From the lowest digit on: a step's state `from`, its state `to`, its type, and that type's tag.
-abbrev pub entry : ℕ → ℕ → ℕ → ℕ → ℕ
-entry from to by tag = from + mostStates * (to + mostStates * (by + typeRoom * tag))
+-- An entry is one number. From the lowest digit on: a step's state `from`, its state `to`, its type, that type's tag, and by which kinds of
+-- opening the type bears a tree.
+abbrev pub entry : ℕ → ℕ → ℕ → ℕ → ℕ → ℕ
+entry from to by tag ways = from + mostStates * (to + mostStates * (by + typeRoom * (tag + mostTags * ways)))
 
 abbrev pub fromIn : ℕ → ℕ
 fromIn e = e % mostStates
@@ -35,9 +37,12 @@ byIn e = e / (mostStates * mostStates) % mostTypes
 abbrev pub tagIn : ℕ → ℕ
 tagIn e = e / (mostStates * mostStates * typeRoom) % mostTags
 
--- the entry of a step of the schema
-abbrev pub entryOf : Schema → Step → ℕ
-entryOf S s = entry (s .from) (s .to) (s .by) (tagOf S (s .by))
+abbrev pub waysIn : ℕ → ℕ
+waysIn e = e / (mostStates * mostStates * typeRoom * mostTags) % mostWays
+
+-- the entry of a step of the schema, where its type bears a tree in these ways
+abbrev pub entryOf : Schema → Step → ℕ → ℕ
+entryOf S s ways = entry (s .from) (s .to) (s .by) (tagOf S (s .by)) ways
 
 -- a row for each state of each type
 abbrev pub mostRows : ℕ
@@ -59,7 +64,9 @@ pub record EntryFor (S : Schema) (a p e : ℕ) : Type 0 where
   pub step : Step
   pub counts : Counts S a step
   pub from : step .from ≡ p
-  pub is : e ≡ entryOf S step
+  pub ways : ℕ
+  pub opened : WaysFor S (step .by) ways
+  pub is : e ≡ entryOf S step ways
 
 -- each row begins, and so ends, inside the table of entries
 abbrev pub RowsInside : List ℕ → Type 0

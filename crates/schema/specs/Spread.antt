@@ -8,17 +8,18 @@ use lib.Dec.{T, ltb}
 use lib.ListN.{getD, set, take, replicate}
 use Rattle.sdtd.specs.Limits.{mostTypes, mostStates}
 use Rattle.sdtd.specs.Schema.{Step}
-use Rattle.schema.specs.States.{member, insert, bearsIn, noStates, onlyStart}
+use Rattle.schema.specs.States.{member, insert, noStates, onlyStart}
 use Rattle.schema.specs.Value.{upFrom, offset}
+use Rattle.schema.specs.Ways.{bearsIn}
 use Rattle.schema.specs.declared.span.Span.{Span}
 
 -- a step by a tree-bearing type with its state `to` in the set adds its state `from`
 unfoldable pub spreadStep : List ℕ → Step → ℕ → ℕ
-spreadStep bears s x = cond (bearsIn bears (s .by % mostTypes) && member (s .to) x) (insert (s .from) x) x
+spreadStep ways s x = cond (bearsIn ways (s .by % mostTypes) && member (s .to) x) (insert (s .from) x) x
 
 unfoldable pub spreadSet : List ℕ → List Step → ℕ → ℕ
-spreadSet bears [] x = x
-spreadSet bears (s ∷ ss) x = spreadSet bears ss (spreadStep bears s x)
+spreadSet ways [] x = x
+spreadSet ways (s ∷ ss) x = spreadSet ways ss (spreadStep ways s x)
 
 -- the round, n times
 unfoldable pub iterate : {A : Type 0} → (A → A) → ℕ → A → A
@@ -27,10 +28,10 @@ iterate round (suc n) t = iterate round n (round t)
 
 -- the steps gone over as often as there are states; once more would add nothing
 unfoldable pub settleSet : List ℕ → List Step → ℕ → ℕ
-settleSet bears ss x = iterate (spreadSet bears ss) mostStates x
+settleSet ways ss x = iterate (spreadSet ways ss) mostStates x
 
 -- one round over n types from the type a on, whose steps begin at the place s; `part s k` are the k steps from the place s on, and
--- `tells sets` is the table that tells which types bear a tree
+-- `tells sets` is the table that tells in which ways types bear a tree
 unfoldable pub spreadAll : List ℕ → (ℕ → ℕ → List Step) → (List ℕ → List ℕ) → ℕ → ℕ → ℕ → List ℕ → List ℕ
 spreadAll steps part tells a s zero sets = sets
 spreadAll steps part tells a s (suc n) sets =
@@ -58,18 +59,18 @@ Starts steps types table = (a : ℕ) → a < types → getD table a 0 ≡ offset
 
 -- the step goes from a state that children reach, by a tree-bearing type, to a live state
 abbrev pub reaches : List ℕ → ℕ → ℕ → Step → Bool
-reaches bears forward live s = member (s .from) forward && bearsIn bears (s .by % mostTypes) && member (s .to) live
+reaches ways forward live s = member (s .from) forward && bearsIn ways (s .by % mostTypes) && member (s .to) live
 
 -- a marked type is reached, and the type of each such step of a reached type
-pub data Reaching (own : ℕ → List Step) (bears forward live : List ℕ) (marked : List Bool) : ℕ → Type 0 where
-  first : {a : ℕ} → a < mostTypes → T (getD marked a false) → Reaching own bears forward live marked a
+pub data Reaching (own : ℕ → List Step) (ways forward live : List ℕ) (marked : List Bool) : ℕ → Type 0 where
+  first : {a : ℕ} → a < mostTypes → T (getD marked a false) → Reaching own ways forward live marked a
   next :
-      {a : ℕ} (s : Step) → Reaching own bears forward live marked a → List·Memᴰ s (own a)
-      → T (reaches bears (getD forward a 0) (getD live a 0) s) → Reaching own bears forward live marked (s .by % mostTypes)
+      {a : ℕ} (s : Step) → Reaching own ways forward live marked a → List·Memᴰ s (own a)
+      → T (reaches ways (getD forward a 0) (getD live a 0) s) → Reaching own ways forward live marked (s .by % mostTypes)
 
 -- the table has exactly those types
 abbrev pub ReachedFrom : (ℕ → List Step) → List ℕ → List ℕ → List ℕ → List Bool → List Bool → Type 0
-ReachedFrom own bears forward live marked table = (a : ℕ) → T (getD table a false) ↔ Reaching own bears forward live marked a
+ReachedFrom own ways forward live marked table = (a : ℕ) → T (getD table a false) ↔ Reaching own ways forward live marked a
 
 -- which types are reached, and the first `count` entries of the queue
 pub record Queued : Type 0 where
@@ -93,9 +94,9 @@ joinMarked marked a (suc n) m = joinMarked marked (suc a) n (cond (getD marked a
 
 -- the steps of a type, one after another: each that reaches its type has it join
 unfoldable pub reachSteps : List ℕ → ℕ → ℕ → List Step → Queued → Queued
-reachSteps bears forward live [] m = m
-reachSteps bears forward live (s ∷ ss) m =
-    reachSteps bears forward live ss (cond (reaches bears forward live s) (joinType (s .by % mostTypes) m) m)
+reachSteps ways forward live [] m = m
+reachSteps ways forward live (s ∷ ss) m =
+    reachSteps ways forward live ss (cond (reaches ways forward live s) (joinType (s .by % mostTypes) m) m)
 
 -- the first n entries, and nothing in the others
 unfoldable pub firstSets : ℕ → List ℕ → List ℕ
@@ -109,6 +110,11 @@ startStates = replicate mostTypes onlyStart
 unfoldable pub markType : ℕ → List Bool → List Bool
 markType a table = cond (ltb a mostTypes) (set table a true) table
 
--- which types bear a tree, by the table
-abbrev pub bearing : List ℕ → List Bool
-bearing table = map (bearsIn table) (upFrom 0 mostTypes)
+-- the number of a type's ways, by whether it bears a tree opened plainly and whether it is nillable
+abbrev pub waysOf : Bool → Bool → ℕ
+waysOf plainly nillable = cond nillable (cond plainly 2 3) (cond plainly 1 0)
+
+-- in which ways each of the types bears a tree, by a table of their live states; 0 for the others
+unfoldable pub waysBy : List Bool → ℕ → List ℕ → List ℕ
+waysBy nillable types live =
+    map (λ a. waysOf (member 0 (getD live a 0)) (getD nillable a false)) (upFrom 0 types) ++ replicate (mostTypes - types) 0

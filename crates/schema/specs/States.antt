@@ -3,7 +3,6 @@ use mathlib.Core.Bool.{Bool, false, cond, _&&_, _||_}
 use mathlib.Core.List.{List, [], _∷_, _++_}
 use Prim.Native.Nat.{ℕ, zero, suc, _+_, _/_, _%_, _^_}
 use lib.Dec.{eqb, ltb}
-use lib.ListN.{getD}
 use Rattle.sdtd.specs.Limits.{mostStates}
 
 -- the state s is in the set x; no state of `mostStates` or more is in a set below 2 ^ mostStates
@@ -38,7 +37,3 @@ membersBelow (suc n) x = membersBelow n x ++ cond (member n x) (n ∷ []) []
 -- the states of the set, rising
 abbrev pub members : ℕ → List ℕ
 members x = membersBelow mostStates x
-
--- the table of sets says that the type j bears a tree: state 0 is in its set
-abbrev pub bearsIn : List ℕ → ℕ → Bool
-bearsIn table j = member 0 (getD table j 0)

@@ -8,8 +8,9 @@ use lib.Dec.{T}
 use lib.ListN.{getD, replicate}
 use Rattle.sdtd.specs.Limits.{mostTypes, mostSteps}
 use Rattle.sdtd.specs.Schema.{Schema, WithinLimits}
-use Rattle.sdtd.specs.Trim.{Bears, Live, Reached, trimmedByTests}
-use Rattle.schema.specs.States.{member, noStates, bearsIn}
+use Rattle.sdtd.specs.Trim.{Live, Reached, trimmedByTests}
+use Rattle.schema.specs.States.{member, noStates}
+use Rattle.schema.specs.Ways.{bearsIn, WaysFor}
 use Rattle.schema.specs.Rows.{mostRows, RowsMean}
 use Rattle.schema.specs.declared.tables.Trimming.{Trimming}
 use Rattle.schema.specs.declared.tables.LiveStates.{LiveStates}
@@ -18,9 +19,9 @@ use Rattle.schema.specs.declared.tables.LiveStates.{LiveStates}
 abbrev pub LiveExactly : Schema → List ℕ → Type 0
 LiveExactly S table = (a q : ℕ) → T (member q (getD table a 0)) ↔ Live S a q
 
--- the table of sets tells exactly which types bear a tree
-abbrev pub BearsExactly : Schema → List ℕ → Type 0
-BearsExactly S table = (j : ℕ) → T (bearsIn table j) ↔ Bears S j
+-- the table tells exactly by which kinds of opening types bear a tree
+abbrev pub WaysExactly : Schema → List ℕ → Type 0
+WaysExactly S table = (j : ℕ) → WaysFor S j (getD table j 0)
 
 -- the table, which has an entry for each number below `mostTypes`, marks exactly the types of the list
 abbrev pub MarksExactly : List ℕ → List Bool → Type 0
@@ -29,17 +30,17 @@ MarksExactly types table = (a : ℕ) → T (getD table a false) ↔ ((a < mostTy
 -- each table is exactly the definition
 pub record Exact (S : Schema) (t : Trimming) : Type 0 where
   pub live : LiveExactly S (t .live)
-  pub bears : (a : ℕ) → T (getD (t .bears) a false) ↔ Bears S a
+  pub ways : WaysExactly S (t .ways)
   pub reached : (a : ℕ) → T (getD (t .reached) a false) ↔ Reached S a
 
--- The schema trimmed by the tables: a type is kept that is in `reached` and `bears`, and of it each step by a type in `bears` between states
--- in `live`.
+-- The schema trimmed by the tables: a type is kept that is in `reached` and bears a tree by `ways`, and of it each step by a type that bears one
+-- between states in `live`.
 abbrev pub trimmedByTables : Trimming → Schema → Schema
 trimmedByTables t S =
     trimmedByTests
     (record {
       reached = λ a. getD (t .reached) a false;
-      bears = λ a. getD (t .bears) a false;
+      bears = bearsIn (t .ways);
       live = λ a q. member q (getD (t .live) a 0);
     })
     S
@@ -50,7 +51,7 @@ nothing =
     record {
       inside = false;
       live = replicate mostTypes noStates;
-      bears = replicate mostTypes false;
+      ways = replicate mostTypes 0;
       reached = replicate mostTypes false;
     }
 
@@ -60,11 +61,12 @@ pub record TrimMeans (S : Schema) (t : Trimming) : Type 0 where
   pub exact : WithinLimits S → Exact S t
   pub outside : ¬ WithinLimits S → t ≡ nothing
 
--- the live states of a schema inside the limits, and nothing outside them
+-- the live states of a schema inside the limits and in which ways its types bear a tree, and nothing outside them
 pub record LiveMeans (S : Schema) (r : LiveStates) : Type 0 where
   pub inside : T (r .inside) ↔ WithinLimits S
   pub live : WithinLimits S → LiveExactly S (r .live)
-  pub outside : ¬ WithinLimits S → r .live ≡ replicate mostTypes noStates
+  pub ways : WithinLimits S → WaysExactly S (r .ways)
+  pub outside : ¬ WithinLimits S → (r .live ≡ replicate mostTypes noStates) × (r .ways ≡ replicate mostTypes 0)
 
 -- the tables lent have the rows of a schema inside the limits, and zeros outside them
 pub record RowsLent (S : Schema) (entries begins : List ℕ) : Type 0 where

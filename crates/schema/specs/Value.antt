@@ -1,4 +1,5 @@
 -- The schema that a value states: total, whatever the value.
+use mathlib.Core.Bool.{false}
 use mathlib.Core.List.{List, [], _∷_, map}
 use Prim.Native.Nat.{ℕ, zero, suc, _+_}
 use lib.ListN.{getD, take}
@@ -33,6 +34,7 @@ unfoldable pub blockAt : Schema → ℕ → Block
 blockAt v a =
     record {
       tag = getD (v .tag) a 0;
+      nillable = getD (v .nillable) a false;
       states = getD (v .states) a 0;
       accepting = members (getD (v .accepting) a 0);
       steps = stepsOf (v .from) (v .by) (v .to) (offset (v .steps) a) (getD (v .steps) a 0);

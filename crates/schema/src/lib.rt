@@ -9,6 +9,7 @@ mod spread;
 mod state_set;
 mod tables;
 mod value;
+mod ways;
 
 pub use entry::Entry;
 pub use entry::TYPE_PLACE;
@@ -30,3 +31,6 @@ pub use value::STEPS;
 pub use value::Schema;
 pub use value::TAGS;
 pub use value::TYPES;
+pub use ways::WAYS;
+pub use ways::opens_as_nil;
+pub use ways::opens_plainly;

@@ -1,9 +1,9 @@
 // Types that the roots' words reach: a queue of them, each gone over once.
 use crate::span::Span;
-use crate::spread::bears_in;
 use crate::state_set::StateSet;
 use crate::value::STEPS;
 use crate::value::TYPES;
+use crate::ways::bears_in;
 use sdtd::TypeNo;
 ghost use mathlib.Core.Path.{_≡_};
 ghost use Prim.Native.Nat.{_+_, _%_, _≤_};
@@ -11,9 +11,9 @@ ghost use Rattle.sdtd.specs.Limits.{mostTypes, mostSteps};
 ghost use Rattle.schema.specs.Value.{stepsOf, offset};
 ghost use Rattle.schema.specs.Spread.{reaches, queued, joinType, joinMarked, reachSteps, Starts, spanAt};
 
-// Tables of sets of states, an entry for each type: which types bear a tree, the states that children reach, the live states.
+// Tables with an entry for each type: the ways in which it bears a tree, the states that children reach, the live states.
 pub(crate) struct StateTables {
-    pub(crate) bears: [u32; TYPES],
+    pub(crate) ways: [u8; TYPES],
     pub(crate) forward: [u32; TYPES],
     pub(crate) live: [u32; TYPES],
 }
@@ -61,13 +61,13 @@ pub(crate) fn span_at<'a>(
 
 // Does the step go from a state in `forward`, by a tree-bearing type, to a state in `live`?
 // Inside the limits the remainder changes nothing: a type is below TYPES.
-fn reaches(from: u8, by: TypeNo, to: u8, bears: &[u32; TYPES], forward: u32, live: u32) -> bool
-    ensures { λ r. ⌜ r ≡ reaches (now (bears .entry)) forward live (record { from = from; by = by .0; to = to }) ⌝ }
+fn reaches(from: u8, by: TypeNo, to: u8, ways: &[u8; TYPES], forward: u32, live: u32) -> bool
+    ensures { λ r. ⌜ r ≡ reaches (now (ways .entry)) forward live (record { from = from; by = by .0; to = to }) ⌝ }
 {
     if !StateSet(forward).has(from) {
         return false;
     }
-    if !bears_in(bears, by.0 as usize % TYPES) {
+    if !bears_in(ways, by.0 as usize % TYPES) {
         return false;
     }
     StateSet(live).has(to)
@@ -122,14 +122,14 @@ pub(crate) fn reach_steps<'a>(
     by: &'a [u8; STEPS],
     to: &'a [u8; STEPS],
     own: TypeSteps,
-    bears: &'a [u32; TYPES],
+    ways: &'a [u8; TYPES],
     reached: &mut [bool; TYPES],
     queue: &mut [u8; TYPES],
     count: usize,
 ) -> usize
     requires { ⌜ own .span .start + own .span .n ≤ mostSteps ⌝ }
     ensures { λ r. ⌜ queued (now (reached .exit)) (now (queue .exit)) r
-        ≡ reachSteps (now (bears .entry)) (own .forward) (own .live)
+        ≡ reachSteps (now (ways .entry)) (own .forward) (own .live)
         (stepsOf (now (from .entry)) (now (by .entry)) (now (to .entry)) (own .span .start) (own .span .n))
         (queued (now (reached .entry)) (now (queue .entry)) count) ⌝ }
 {
@@ -140,7 +140,7 @@ pub(crate) fn reach_steps<'a>(
     let mut i = own.span.start;
     while i < end {
         let b = TypeNo(by[i]);
-        if reaches(from[i], b, to[i], bears, forward, live) {
+        if reaches(from[i], b, to[i], ways, forward, live) {
             joined = join(reached, queue, joined, b);
         }
         i += 1;

@@ -2,12 +2,12 @@
 use crate::entry::Entry;
 use crate::entry::entry_of;
 use crate::span::Span;
-use crate::spread::bears_in;
 use crate::state_set::StateSet;
 use crate::value::STATES;
 use crate::value::STEPS;
 use crate::value::Schema;
 use crate::value::TYPES;
+use crate::ways::bears_in;
 use sdtd::Tag;
 use sdtd::TypeNo;
 ghost use mathlib.Core.Path.{_≡_};
@@ -17,7 +17,7 @@ ghost use lib.ListN.{length, getD, take};
 ghost use Rattle.sdtd.specs.Limits.{mostTypes, mostStates, mostSteps};
 ghost use Rattle.sdtd.specs.Schema.{WithinLimits};
 ghost use Rattle.schema.specs.Value.{stepsOf, meaning};
-ghost use Rattle.schema.specs.Trimming.{LiveExactly, BearsExactly};
+ghost use Rattle.schema.specs.Trimming.{LiveExactly, WaysExactly};
 ghost use Rattle.schema.specs.Rows.{mostRows, RowsMean};
 ghost use Rattle.schema.specs.Putting.{putAll};
 ghost use Rattle.schema.specs.RowMaking.{countsBy, countedStep, picked, counted as countedBy, rowTables, noRows, addRow, addRows, endsAt};
@@ -30,10 +30,10 @@ pub const BEGINS: usize = ROWS + 1;
 
 // Does a step by the type j to the state q count, where `own` are the live states of the type that has it?
 // Inside the limits the remainder changes nothing: a type is below TYPES.
-fn counts(bears: &[u32; TYPES], own: u32, from: u8, j: TypeNo, q: u8) -> bool
-    ensures { λ r. ⌜ r ≡ countsBy (now (bears .entry)) own (record { from = from; by = j .0; to = q }) ⌝ }
+fn counts(ways: &[u8; TYPES], own: u32, from: u8, j: TypeNo, q: u8) -> bool
+    ensures { λ r. ⌜ r ≡ countsBy (now (ways .entry)) own (record { from = from; by = j .0; to = q }) ⌝ }
 {
-    if !bears_in(bears, j.0 as usize % TYPES) {
+    if !bears_in(ways, j.0 as usize % TYPES) {
         return false;
     }
     StateSet(own).has(q)
@@ -44,7 +44,7 @@ fn keep_step<'a>(
     kept: &'a mut [u32; STEPS],
     n: usize,
     tag: &'a [u8; TYPES],
-    bears: &'a [u32; TYPES],
+    ways: &'a [u8; TYPES],
     own: u32,
     from: u8,
     by: TypeNo,
@@ -52,13 +52,14 @@ fn keep_step<'a>(
 ) -> usize
     requires { ⌜ n < mostSteps ⌝ }
     ensures { λ r. ⌜ (now (kept .exit)
-        ≡ putAll (countedStep (now (tag .entry)) (now (bears .entry)) own (record { from = from; by = by .0; to = to })) n (now (kept .entry)))
-        × (r ≡ n + length (countedStep (now (tag .entry)) (now (bears .entry)) own (record { from = from; by = by .0; to = to }))) ⌝ }
+        ≡ putAll (countedStep (now (tag .entry)) (now (ways .entry)) own (record { from = from; by = by .0; to = to })) n (now (kept .entry)))
+        × (r ≡ n + length (countedStep (now (tag .entry)) (now (ways .entry)) own (record { from = from; by = by .0; to = to }))) ⌝ }
 {
-    if !counts(bears, own, from, by, to) {
+    if !counts(ways, own, from, by, to) {
         return n;
     }
-    let entry = entry_of(from, to, by, Tag(tag[by.0 as usize % TYPES]));
+    let b = by.0 as usize % TYPES;
+    let entry = entry_of(from, to, by, Tag(tag[b]), ways[b]);
     kept[n] = entry.0;
     n + 1
 }
@@ -71,21 +72,21 @@ fn counted<'a>(
     to: &'a [u8; STEPS],
     span: Span,
     tag: &'a [u8; TYPES],
-    bears: &'a [u32; TYPES],
+    ways: &'a [u8; TYPES],
     own: u32,
 ) -> usize
     requires { ⌜ span .start + span .n ≤ mostSteps ⌝ }
     ensures { λ r. ⌜ (now (kept .exit)
-        ≡ putAll (countedBy (now (tag .entry)) (now (bears .entry)) own
+        ≡ putAll (countedBy (now (tag .entry)) (now (ways .entry)) own
         (stepsOf (now (from .entry)) (now (by .entry)) (now (to .entry)) (span .start) (span .n))) 0 (now (kept .entry)))
-        × (r ≡ length (countedBy (now (tag .entry)) (now (bears .entry)) own
+        × (r ≡ length (countedBy (now (tag .entry)) (now (ways .entry)) own
         (stepsOf (now (from .entry)) (now (by .entry)) (now (to .entry)) (span .start) (span .n)))) ⌝ }
 {
     let end = span.start + span.n;
     let mut n = 0;
     let mut i = span.start;
     while i < end {
-        n = keep_step(kept, n, tag, bears, own, from[i], TypeNo(by[i]), to[i]);
+        n = keep_step(kept, n, tag, ways, own, from[i], TypeNo(by[i]), to[i]);
         i += 1;
     }
     n
@@ -199,15 +200,15 @@ pub(crate) fn clear_rows<'a>(entries: &'a mut [u32; STEPS], begins: &'a mut [u16
     *begins = [0; BEGINS];
 }
 
-// The rows of a schema inside the limits, by tables of exactly the types that bear a tree and exactly the live states, into tables of zeros.
+// The rows of a schema inside the limits, by tables of exactly the ways in which types bear a tree and exactly the live states, into tables of zeros.
 pub(crate) fn make_rows<'a>(
     schema: Schema,
-    bears: &'a [u32; TYPES],
+    ways: &'a [u8; TYPES],
     live: &'a [u32; TYPES],
     entries: &'a mut [u32; STEPS],
     begins: &'a mut [u16; BEGINS],
 )
-    requires { ⌜ WithinLimits (meaning schema) × BearsExactly (meaning schema) (now bears) × LiveExactly (meaning schema) (now live)
+    requires { ⌜ WithinLimits (meaning schema) × WaysExactly (meaning schema) (now ways) × LiveExactly (meaning schema) (now live)
         × (rowTables (now entries) (now begins) ≡ noRows) ⌝ }
     ensures { λ _. ⌜ RowsMean (meaning schema) (now (entries .exit)) (now (begins .exit)) ⌝ }
 {
@@ -229,7 +230,7 @@ pub(crate) fn make_rows<'a>(
             &schema.to,
             span,
             &schema.tag,
-            bears,
+            ways,
             own,
         );
         at = type_rows(entries, begins, a, at, &kept, count, states[a]);

@@ -1,4 +1,4 @@
-// Trimming: which states are live, which types bear a tree, which types are reached; and the rows, in tables that the caller lends.
+// Trimming: which states are live, in which ways types bear a tree, which types are reached; and the rows, in tables that the caller lends.
 use crate::limits::within;
 use crate::reach::StateTables;
 use crate::reach::TypeSteps;
@@ -10,7 +10,6 @@ use crate::roots::root_types;
 use crate::rows::BEGINS;
 use crate::rows::clear_rows;
 use crate::rows::make_rows;
-use crate::spread::bears_in;
 use crate::spread::live_all;
 use crate::spread::same_sets;
 use crate::spread::spread_all;
@@ -18,21 +17,23 @@ use crate::state_set::StateSet;
 use crate::value::STEPS;
 use crate::value::Schema;
 use crate::value::TYPES;
+use crate::ways::ways_by;
 ghost use mathlib.Core.Path.{_≡_};
 ghost use Prim.Native.Nat.{_≤_};
 ghost use lib.Dec.{T};
 ghost use Rattle.sdtd.specs.Limits.{mostTypes, mostSteps};
 ghost use Rattle.sdtd.specs.Schema.{WithinLimits};
 ghost use Rattle.schema.specs.Value.{stepsOf, offset, meaning};
-ghost use Rattle.schema.specs.Spread.{spreadAll, Settled, stepsIn, ReachedFrom, firstSets, startStates, bearing};
-ghost use Rattle.schema.specs.Trimming.{LiveExactly, Exact, TrimMeans, LiveMeans, RowsLent};
+ghost use Rattle.schema.specs.Spread.{spreadAll, Settled, stepsIn, ReachedFrom, firstSets, startStates, waysBy};
+ghost use Rattle.schema.specs.Trimming.{LiveExactly, WaysExactly, Exact, TrimMeans, LiveMeans, RowsLent};
 
-// Whether a schema is inside the limits. At the place a: the live states of the type a as a set, whether it bears a tree, whether it is reached.
+// Whether a schema is inside the limits. At the place a: the live states of the type a as a set, by which kinds of opening it bears a tree,
+// whether it is reached.
 #[repr(C)]
 pub struct Trimming {
     pub inside: bool,
     pub live: [u32; TYPES],
-    pub bears: [bool; TYPES],
+    pub ways: [u8; TYPES],
     pub reached: [bool; TYPES],
 }
 
@@ -50,7 +51,8 @@ fn first_sets(sets: [u32; TYPES], types: usize) -> [u32; TYPES]
     kept
 }
 
-// The live states: those before a step by a tree-bearing type to a live state are added, round by round, to the accepting ones.
+// The live states: those before a step by a tree-bearing type to a live state are added, round by round, to the accepting ones; and in which ways the
+// types bear a tree.
 fn live_states<'a>(
     from: &'a [u8; STEPS],
     by: &'a [u8; STEPS],
@@ -58,18 +60,26 @@ fn live_states<'a>(
     steps: &'a [u16; TYPES],
     types: usize,
     accepting: [u32; TYPES],
-) -> [u32; TYPES]
+    nillable: [bool; TYPES],
+) -> LiveStates
     requires { ⌜ (types ≤ mostTypes) × (offset (now steps) types ≤ mostSteps) ⌝ }
-    ensures { λ r. ⌜ Settled
-        (λ t. spreadAll (now (steps .entry)) (stepsOf (now (from .entry)) (now (by .entry)) (now (to .entry))) (λ u. u) 0 0 types t)
-        (firstSets types accepting) r ⌝ }
+    ensures { λ r. ⌜ T (r .inside)
+        × Settled
+        (λ t. spreadAll (now (steps .entry)) (stepsOf (now (from .entry)) (now (by .entry)) (now (to .entry))) (waysBy nillable types) 0 0 types t)
+        (firstSets types accepting) (r .live)
+        × (r .ways ≡ waysBy nillable types (r .live)) ⌝ }
 {
     let mut live = first_sets(accepting, types);
+    let mut ways = ways_by(nillable, types, live);
     loop {
         let before = live;
-        live_all(from, by, to, steps, types, &mut live);
+        live_all(from, by, to, steps, types, &nillable, &mut ways, &mut live);
         if same_sets(&before, &live, types) {
-            return live;
+            return LiveStates {
+                inside: true,
+                live,
+                ways,
+            };
         }
     }
 }
@@ -81,17 +91,17 @@ fn forward_states<'a>(
     to: &'a [u8; STEPS],
     steps: &'a [u16; TYPES],
     types: usize,
-    bears: &'a [u32; TYPES],
+    ways: &'a [u8; TYPES],
 ) -> [u32; TYPES]
     requires { ⌜ (types ≤ mostTypes) × (offset (now steps) types ≤ mostSteps) ⌝ }
     ensures { λ r. ⌜ Settled
-        (λ t. spreadAll (now (steps .entry)) (stepsOf (now (to .entry)) (now (by .entry)) (now (from .entry))) (λ _. now (bears .entry)) 0 0 types t)
+        (λ t. spreadAll (now (steps .entry)) (stepsOf (now (to .entry)) (now (by .entry)) (now (from .entry))) (λ _. now (ways .entry)) 0 0 types t)
         startStates r ⌝ }
 {
     let mut forward = [StateSet::START.0; TYPES];
     loop {
         let before = forward;
-        spread_all(to, by, from, steps, types, bears, &mut forward);
+        spread_all(to, by, from, steps, types, ways, &mut forward);
         if same_sets(&before, &forward, types) {
             return forward;
         }
@@ -111,7 +121,7 @@ fn reached_types<'a>(
     requires { ⌜ (types ≤ mostTypes) × (offset (now steps) types ≤ mostSteps) ⌝ }
     ensures { λ r. ⌜ ReachedFrom
         (stepsIn (now (steps .entry)) (stepsOf (now (from .entry)) (now (by .entry)) (now (to .entry))) types)
-        (tables .bears) (tables .forward) (tables .live) (now (roots .entry)) r ⌝ }
+        (tables .ways) (tables .forward) (tables .live) (now (roots .entry)) r ⌝ }
 {
     let starts = starts(steps, types);
     let mut reached = [false; TYPES];
@@ -128,33 +138,21 @@ fn reached_types<'a>(
             forward,
             live,
         };
-        let bears = &tables.bears;
-        count = reach_steps(from, by, to, own, bears, &mut reached, &mut queue, count);
+        let ways = &tables.ways;
+        count = reach_steps(from, by, to, own, ways, &mut reached, &mut queue, count);
         at += 1;
     }
     reached
 }
 
-// Which types bear a tree, by the table.
-fn bearing_types(table: [u32; TYPES]) -> [bool; TYPES]
-    ensures { λ r. ⌜ r ≡ bearing table ⌝ }
-{
-    let mut bears = [false; TYPES];
-    let mut a = 0;
-    while a < TYPES {
-        bears[a] = bears_in(&table, a);
-        a += 1;
-    }
-    bears
-}
-
-// Whether a schema is inside the limits, and the live states of each type as a set.
+// Whether a schema is inside the limits; the live states of each type as a set, and by which kinds of opening it bears a tree.
 pub struct LiveStates {
     pub inside: bool,
     pub live: [u32; TYPES],
+    pub ways: [u8; TYPES],
 }
 
-// The live states of a schema inside the limits; nothing for any other.
+// The live states of a schema inside the limits, and in which ways its types bear a tree; nothing for any other.
 pub fn live(schema: Schema) -> LiveStates
     ensures { λ r. ⌜ LiveMeans (meaning schema) r ⌝ }
 {
@@ -162,23 +160,23 @@ pub fn live(schema: Schema) -> LiveStates
         return LiveStates {
             inside: false,
             live: [StateSet::NONE.0; TYPES],
+            ways: [0; TYPES],
         };
     }
     let types = schema.types as usize;
-    let accepting = schema.accepting;
-    let live = live_states(
+    live_states(
         &schema.from,
         &schema.by,
         &schema.to,
         &schema.steps,
         types,
-        accepting,
-    );
-    LiveStates { inside: true, live }
+        schema.accepting,
+        schema.nillable,
+    )
 }
 
-// The live states of a schema inside the limits; its steps that count go in rows to the lent tables: their entries, and where each row begins. For
-// any other no state is live, and the lent tables are zeros.
+// The same of a schema inside the limits; its steps that count go in rows to the lent tables: their entries, and where each row begins. For
+// any other there is nothing, and the lent tables are zeros.
 pub fn live_rows<'a>(
     schema: Schema,
     entries: &'a mut [u32; STEPS],
@@ -188,20 +186,15 @@ pub fn live_rows<'a>(
 {
     clear_rows(entries, begins);
     let found = live(schema);
-    let live = found.live;
-    if !found.inside {
-        return LiveStates {
-            inside: false,
-            live,
-        };
+    if found.inside {
+        make_rows(schema, &found.ways, &found.live, entries, begins);
     }
-    make_rows(schema, &live, &live, entries, begins);
-    LiveStates { inside: true, live }
+    found
 }
 
-// The tables of a schema inside the limits, by its live states.
-fn trim_inside(schema: Schema, live: [u32; TYPES]) -> Trimming
-    requires { ⌜ WithinLimits (meaning schema) × LiveExactly (meaning schema) live ⌝ }
+// The tables of a schema inside the limits, by its live states and the ways in which its types bear a tree.
+fn trim_inside(schema: Schema, live: [u32; TYPES], ways: [u8; TYPES]) -> Trimming
+    requires { ⌜ WithinLimits (meaning schema) × LiveExactly (meaning schema) live × WaysExactly (meaning schema) ways ⌝ }
     ensures { λ r. ⌜ T (r .inside) × Exact (meaning schema) r ⌝ }
 {
     let types = schema.types as usize;
@@ -212,10 +205,10 @@ fn trim_inside(schema: Schema, live: [u32; TYPES]) -> Trimming
         &schema.to,
         &schema.steps,
         types,
-        &live,
+        &ways,
     );
     let tables = StateTables {
-        bears: live,
+        ways,
         forward,
         live,
     };
@@ -228,11 +221,10 @@ fn trim_inside(schema: Schema, live: [u32; TYPES]) -> Trimming
         tables,
         &roots,
     );
-    let bears = bearing_types(live);
     Trimming {
         inside: true,
         live,
-        bears,
+        ways,
         reached,
     }
 }
@@ -248,14 +240,15 @@ pub fn trim<'a>(
     clear_rows(entries, begins);
     let found = live(schema);
     let live = found.live;
+    let ways = found.ways;
     if !found.inside {
         return Trimming {
             inside: false,
             live,
-            bears: [false; TYPES],
+            ways,
             reached: [false; TYPES],
         };
     }
-    make_rows(schema, &live, &live, entries, begins);
-    trim_inside(schema, live)
+    make_rows(schema, &ways, &live, entries, begins);
+    trim_inside(schema, live, ways)
 }

@@ -12,7 +12,7 @@ pub const STATES: u8 = 32;
 pub const STEPS: usize = 1024;
 
 // The table entries are bare numbers: a type in `root` and `by`, a tag in `tag`, a set of states in `accepting`, a state in `from` and `to`.
-// The first `roots` entries of `root` are the root types, in the file's order.
+// The first `roots` entries of `root` are the root types, in the file's order. `nillable[a]` says that the type a is nillable.
 // The steps stand in the order of their types, `steps[a]` of them for the type a.
 #[repr(C)]
 pub struct Schema {
@@ -23,6 +23,7 @@ pub struct Schema {
     pub tag: [u8; TYPES],
     pub states: [u8; TYPES],
     pub accepting: [u32; TYPES],
+    pub nillable: [bool; TYPES],
     pub steps: [u16; TYPES],
     pub from: [u8; STEPS],
     pub by: [u8; STEPS],

@@ -1,5 +1,5 @@
--- The starred samples that are schema files, from their bytes.
-use mathlib.Core.Path.{refl, sym, subst}
+-- The starred samples that are schema files, and files with NIL, from their bytes.
+use mathlib.Core.Path.{_≡_, refl, sym, subst}
 use mathlib.Core.Logic.{inl, inr}
 use mathlib.Core.List.{List, [], _∷_, _++_}
 use Prim.Native.Nat.{ℕ, _≤_}
@@ -12,14 +12,19 @@ use Rattle.sdtd.specs.Competition.{Competition, Witness}
 use Rattle.sdtd.specs.Competition.{Accepted as IsAccepted}
 use Rattle.sdtd.proofs.Basics.{_&_}
 use Rattle.sdtd.proofs.Verdicts.{refused-not-fine}
-use Rattle.sdtd.proofs.SampleSchemas.{acceptedR, acceptedNoD, acceptedTwoTypes, acceptedLastButOne, acceptedOptional}
+use Rattle.sdtd.proofs.SampleSchemas.{acceptedR, acceptedNoD, acceptedTwoTypes, acceptedLastButOne, acceptedOptional, acceptedRacks}
 use Rattle.sdtd.proofs.SampleSchemas.{refusedChoice, refusedTwoWays, bearsNoneEndless}
 use Rattle.schema.specs.States.{insert, membersBelow}
-use Rattle.command.specs.Command.{commandOf}
-use Rattle.commands.specs.File.{Stated, nothingStated, Commands, stopped, states, after, commandsFrom, commands, schemaBy, StatesSchema}
+use Rattle.command.specs.Command.{addedCommand, commandOf}
+use Rattle.expression.specs.Tests.{ofEach}
+use Rattle.expression.specs.Content.{afterPart, contentFrom, contentAt}
+use Rattle.expression.specs.Answer.{setOf}
+use Rattle.commands.specs.File.{Stated, nothingStated, Commands, stopped, states, after, byContent, commandsFrom, commands, schemaBy, StatesSchema}
 use Rattle.schema_file.specs.Answer.{AnswerIs, AnswerBy, BufferBy}
-use Rattle.schema_file.specs.Samples.{AllHold, starredFiles, shortFiles, FilesState, fileR, fileChoice, fileNoD, fileTwoWays}
+use Rattle.schema_file.specs.Samples.{FileSample, AllHold, starredFiles, shortFiles, FilesState, fileR, fileChoice, fileNoD, fileTwoWays}
 use Rattle.schema_file.specs.Samples.{fileTwoTypes, fileLastButOne, fileOptional, fileEndless}
+use Rattle.schema_file.specs.Samples.{fileRacks, fileRacksWritten, RacksState, refusedNils, nilFiles}
+use Rattle.commands.proofs.Passing.{stopped-before}
 use Rattle.competition.proofs.Answers.{witness-competes}
 use Rattle.schema_file.proofs.Answered.{buffer-same}
 use Rattle.sdtd.specs.declared.Verdict.{Verdict}
@@ -42,6 +47,14 @@ files-state =
       eighth = record { stated = statedIn (commands (fileLastButOne .bytes)); passes = refl; known = refl; schema = refl };
       ninth = record { stated = statedIn (commands (fileOptional .bytes)); passes = refl; known = refl; schema = refl };
       tenth = record { stated = statedIn (commands (fileEndless .bytes)); passes = refl; known = refl; schema = refl };
+    }
+
+pub racks-state : RacksState
+unfolding commands commandsFrom byContent commandOf addedCommand contentAt contentFrom afterPart after insert setOf ofEach schemaBy membersBelow
+racks-state =
+    record {
+      by-states = record { stated = statedIn (commands (fileRacks .bytes)); passes = refl; known = refl; schema = refl };
+      by-expression = record { stated = statedIn (commands (fileRacksWritten .bytes)); passes = refl; known = refl; schema = refl };
     }
 
 -- the answer after DONE, asked of the schema
@@ -91,9 +104,35 @@ starred-files-hold =
     & (λ was l. treeless-file (files-state .tenth) was l (bearsNoneEndless .1))
     & tt
 
+-- the commands stop each file with the answer's number and place
+abbrev StopsAs : List ℕ → Verdict → Type 0
+StopsAs file Fine = ⊥
+StopsAs file (RefusedAt n p) = commands file ≡ stopped n p
+
+abbrev AllStop : List FileSample → Type 0
+AllStop [] = Unit
+AllStop (s ∷ ss) = (StopsAs (s .bytes) (s .answer) × (s .witness ≡ [])) × AllStop ss
+
+stops : (file : List ℕ) (a : Verdict) {witness : List ℕ} → StopsAs file a → witness ≡ [] → (was : List ℕ) → leastWitness ≤ length was
+    → AnswerIs file was a × BufferBy (commands file) was (witness ++ drop (length witness) was) a
+stops file Fine k e was l = absurd k
+stops file (RefusedAt n p) k e was l =
+    rw e (
+      inr (l, subst (λ (c : Commands). AnswerBy c (RefusedAt n p)) (sym k) refl),
+      buffer-same (commands file) was n p (λ z. stopped-before file k (omega arith) (omega arith)),
+    )
+
+all-stop : (ss : List FileSample) → AllStop ss → AllHold ss
+all-stop [] k = tt
+all-stop (s ∷ ss) k = (stops (s .bytes) (s .answer) (k .0 .0) (k .0 .1), all-stop ss (k .1))
+
 pub short-files-hold : AllHold shortFiles
 unfolding commands commandsFrom commandOf after
-short-files-hold =
-    (λ was l. (inr (l, refl), buffer-same (commands (0x10 ∷ 0x20 ∷ [])) was 2 2 (omega arith)))
-    & (λ was l. (inr (l, refl), buffer-same (commands (0x10 ∷ 0x21 ∷ [])) was 4 0 (omega arith)))
-    & tt
+short-files-hold = all-stop shortFiles ((refl, refl) & (refl, refl) & tt)
+
+pub nil-files-hold : AllHold nilFiles
+unfolding commands commandsFrom byContent commandOf addedCommand contentAt contentFrom ofEach after
+nil-files-hold =
+    (λ was l. accepted-file (racks-state .by-states) was l acceptedRacks)
+    & (λ was l. accepted-file (racks-state .by-expression) was l acceptedRacks)
+    & all-stop refusedNils ((refl, refl) & (refl, refl) & (refl, refl) & (refl, refl) & (refl, refl) & (refl, refl) & tt)

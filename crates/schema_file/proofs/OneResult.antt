@@ -1,5 +1,6 @@
 -- The promise leaves one result: a file with a buffer has one answer, and one schema value beside it, every entry of its tables included.
 use mathlib.Core.Path.{_≡_, refl, sym, ap, subst, _∙_}
+use mathlib.Core.Bool.{false}
 use mathlib.Core.List.{List, List·Memᴰ}
 use Prim.Native.Nat.{ℕ, zero, suc, _+_, _-_, _^_, _≤_, _<_}
 use native.Mathlib.Decide.{decLt}
@@ -17,7 +18,7 @@ use Rattle.schema.proofs.Bits.{same-members, mem-members}
 use Rattle.schema.proofs.Values.{steps-cons, steps-count, offset-step, map-up, types-count, block-of}
 use Rattle.schema.proofs.RootLaws.{roots-count}
 use Rattle.commands.specs.File.{Commands, stopped, states, commands}
-use Rattle.commands.specs.Value.{EmptyFrom, UnusedEmpty, StatedValue}
+use Rattle.commands.specs.Value.{HoldsFrom, EmptyFrom, UnusedEmpty, StatedValue}
 use Rattle.schema_file.specs.Answer.{OfStated, FileMeans}
 use Rattle.sdtd.specs.declared.Verdict.{Verdict}
 use Rattle.sdtd.specs.declared.Verdict.the-variants.{Fine, RefusedAt}
@@ -30,17 +31,18 @@ pub record Shaped (v : Schema) : Type 0 where
   pub tag : length (v .tag) ≡ mostTypes
   pub states : length (v .states) ≡ mostTypes
   pub accepting : length (v .accepting) ≡ mostTypes
+  pub nillable : length (v .nillable) ≡ mostTypes
   pub steps : length (v .steps) ≡ mostTypes
   pub from : length (v .from) ≡ mostSteps
   pub by : length (v .by) ≡ mostSteps
   pub to : length (v .to) ≡ mostSteps
   pub sets : (a : ℕ) → getD (v .accepting) a 0 < 2 ^ mostStates
 
--- tables that agree below n and are empty from there on
-same-table : (n : ℕ) (l m : List ℕ) → length l ≡ length m → EmptyFrom n l → EmptyFrom n m → ((i : ℕ) → i < n → getD l i 0 ≡ getD m i 0)
-    → l ≡ m
-same-table n l m e p q same =
-    ext-getD 0 l m e (λ i b. elim (decLt i n) [ yes h ↦ same i h | no h ↦ p i (omega arith) ∙ sym (q i (omega arith)) ])
+-- tables that agree below n and hold d from there on
+same-table : {A : Type 0} (d : A) (n : ℕ) (l m : List A) → length l ≡ length m → HoldsFrom d n l → HoldsFrom d n m
+    → ((i : ℕ) → i < n → getD l i d ≡ getD m i d) → l ≡ m
+same-table d n l m e p q same =
+    ext-getD d l m e (λ i b. elim (decLt i n) [ yes h ↦ same i h | no h ↦ p i (omega arith) ∙ sym (q i (omega arith)) ])
 
 same-set : (x y : ℕ) → x < 2 ^ mostStates → y < 2 ^ mostStates → members x ≡ members y → x ≡ y
 same-set x y b c e =
@@ -71,12 +73,12 @@ module _ {v w : Schema} (same : meaning v ≡ meaning w) (k : Shaped v) (l : Sha
       ∙ steps-count (w .from) (w .by) (w .to) (offset (w .steps) a) (getD (w .steps) a 0)
 
   -- a table with an entry for each type
-  of-types : (p q : List ℕ) → length p ≡ mostTypes → length q ≡ mostTypes → EmptyFrom (v .types) p → EmptyFrom (w .types) q
-      → ((a : ℕ) → a < v .types → getD p a 0 ≡ getD q a 0) → p ≡ q
-  of-types p q m n x y = same-table (v .types) p q (m ∙ sym n) x (rw types y)
+  of-types : {A : Type 0} (d : A) (p q : List A) → length p ≡ mostTypes → length q ≡ mostTypes → HoldsFrom d (v .types) p → HoldsFrom d (w .types) q
+      → ((a : ℕ) → a < v .types → getD p a d ≡ getD q a d) → p ≡ q
+  of-types d p q m n x y = same-table d (v .types) p q (m ∙ sym n) x (rw types y)
 
   steps : v .steps ≡ w .steps
-  steps = of-types (v .steps) (w .steps) (k .steps) (l .steps) (e .steps) (f .steps) count-at
+  steps = of-types 0 (v .steps) (w .steps) (k .steps) (l .steps) (e .steps) (f .steps) count-at
 
   -- the steps of the first n types
   step-at : (n : ℕ) → n ≤ v .types → (i : ℕ) → i < offset (v .steps) n
@@ -103,7 +105,7 @@ module _ {v w : Schema} (same : meaning v ≡ meaning w) (k : Shaped v) (l : Sha
       → ((i : ℕ) → part (stepAt (v .from) (v .by) (v .to) i) ≡ getD p i 0) → ((i : ℕ) → part (stepAt (w .from) (w .by) (w .to) i) ≡ getD q i 0)
       → p ≡ q
   of-steps part p q m n x y g h =
-      same-table (offset (v .steps) (v .types)) p q (m ∙ sym n) x (rw (steps, types) y)
+      same-table 0 (offset (v .steps) (v .types)) p q (m ∙ sym n) x (rw (steps, types) y)
       (λ i b. sym (g i) ∙ ap part (step-at (v .types) (omega arith) i b) ∙ h i)
 
   -- the roots, in order
@@ -122,7 +124,7 @@ module _ {v w : Schema} (same : meaning v ≡ meaning w) (k : Shaped v) (l : Sha
       ∙ map-up (λ n. getD (w .root) n 0) 0 0 (w .roots) i (omega (arith, roots)))
 
   root : v .root ≡ w .root
-  root = same-table (v .roots) (v .root) (w .root) (k .root ∙ sym (l .root)) (e .root) (rw roots (f .root)) root-at
+  root = same-table 0 (v .roots) (v .root) (w .root) (k .root ∙ sym (l .root)) (e .root) (rw roots (f .root)) root-at
 
   -- two values that state the same schema and are empty where it does not reach
   pub same-value : v ≡ w
@@ -133,13 +135,16 @@ module _ {v w : Schema} (same : meaning v ≡ meaning w) (k : Shaped v) (l : Sha
         types = types i;
         roots = roots i;
         root = root i;
-        tag = of-types (v .tag) (w .tag) (k .tag) (l .tag) (e .tag) (f .tag) (λ a b. ap (λ (x : Block). x .tag) (block a b)) i;
+        tag = of-types 0 (v .tag) (w .tag) (k .tag) (l .tag) (e .tag) (f .tag) (λ a b. ap (λ (x : Block). x .tag) (block a b)) i;
         states =
-            of-types (v .states) (w .states) (k .states) (l .states) (e .states) (f .states)
+            of-types 0 (v .states) (w .states) (k .states) (l .states) (e .states) (f .states)
             (λ a b. ap (λ (x : Block). x .states) (block a b)) i;
         accepting =
-            of-types (v .accepting) (w .accepting) (k .accepting) (l .accepting) (e .accepting) (f .accepting)
+            of-types 0 (v .accepting) (w .accepting) (k .accepting) (l .accepting) (e .accepting) (f .accepting)
             (λ a b. same-set _ _ (k .sets a) (l .sets a) (ap (λ (x : Block). x .accepting) (block a b))) i;
+        nillable =
+            of-types false (v .nillable) (w .nillable) (k .nillable) (l .nillable) (e .nillable) (f .nillable)
+            (λ a b. ap (λ (x : Block). x .nillable) (block a b)) i;
         steps = steps i;
         from = of-steps (λ x. x .from) (v .from) (w .from) (k .from) (l .from) (e .from) (f .from) (λ a. refl) (λ a. refl) i;
         by = of-steps (λ x. x .by) (v .by) (w .by) (k .by) (l .by) (e .by) (f .by) (λ a. refl) (λ a. refl) i;

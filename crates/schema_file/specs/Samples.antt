@@ -1,10 +1,11 @@
 -- Document 01, "Samples from the boot wall": the starred samples that are schema files, from their bytes, and one statement over the group.
+-- Beside them files with NIL.
 use mathlib.Core.List.{List, [], _∷_, _++_}
 use Prim.Native.Nat.{ℕ, _≤_}
 use lib.ListN.{length, drop}
 use Rattle.sdtd.specs.Limits.{leastWitness}
 use Rattle.sdtd.specs.Samples.{schemaR, schemaChoice, schemaNoD, schemaTwoWays, schemaTwoTypes, schemaLastButOne, schemaOptional}
-use Rattle.sdtd.specs.Samples.{schemaEndless, witnessChoice, witnessTwoWays}
+use Rattle.sdtd.specs.Samples.{schemaEndless, schemaRacks, witnessChoice, witnessTwoWays}
 use Rattle.commands.specs.File.{commands, StatesSchema}
 use Rattle.schema_file.specs.Answer.{AnswerIs, BufferBy}
 use Rattle.sdtd.specs.declared.Verdict.{Verdict}
@@ -120,6 +121,36 @@ starredFiles = fileR ∷ fileChoice ∷ fileNoD ∷ fileTwoWays ∷ fileTwoTypes
 -- two short files, not starred: `10 20` and `10 21`
 abbrev pub shortFiles : List FileSample
 shortFiles = gets (0x10 ∷ 0x20 ∷ []) (RefusedAt 2 2) ∷ gets (0x10 ∷ 0x21 ∷ []) (RefusedAt 4 0) ∷ []
+
+-- a wall of racks of one boot each, where a rack may be empty on purpose: the rack's block is in between
+abbrev racksWith : List ℕ → List ℕ
+racksWith rack = 0x10 ∷ 3 ∷ 0x11 ∷ 0 ∷ 1 ∷ 0x12 ∷ 0 ∷ 0x13 ∷ 0 ∷ 1 ∷ 0 ∷ (rack ++ leaf 2 done)
+
+-- by states, NIL between FINAL and STEP; by an expression, NIL after its 3F
+abbrev pub fileRacks : FileSample
+fileRacks = gets (racksWith (0x11 ∷ 1 ∷ 2 ∷ 0x12 ∷ 1 ∷ 0x15 ∷ 0x13 ∷ 0 ∷ 2 ∷ 1 ∷ [])) Fine
+
+abbrev pub fileRacksWritten : FileSample
+fileRacksWritten = gets (racksWith (0x11 ∷ 1 ∷ 0 ∷ 0x32 ∷ 2 ∷ 0x3f ∷ 0x15 ∷ [])) Fine
+
+-- they state one schema
+pub record RacksState : Type 0 where
+  pub by-states : StatesSchema (fileRacks .bytes) schemaRacks
+  pub by-expression : StatesSchema (fileRacksWritten .bytes) schemaRacks
+
+-- NIL where it cannot stand: before the first TYPE, after a ROOT, before the 3F; a second one in each kind of block; and FINAL after the NIL
+-- behind a 3F
+abbrev pub refusedNils : List FileSample
+refusedNils =
+    gets (0x10 ∷ 1 ∷ 0x15 ∷ []) (RefusedAt 3 2)
+    ∷ gets (0x10 ∷ 1 ∷ 0x11 ∷ 0 ∷ 1 ∷ 0x14 ∷ 0 ∷ 0x15 ∷ []) (RefusedAt 3 7)
+    ∷ gets (0x10 ∷ 1 ∷ 0x11 ∷ 0 ∷ 0 ∷ 0x15 ∷ 0x3f ∷ []) (RefusedAt 3 5)
+    ∷ gets (0x10 ∷ 1 ∷ 0x11 ∷ 0 ∷ 1 ∷ 0x15 ∷ 0x12 ∷ 0 ∷ 0x15 ∷ []) (RefusedAt 6 8)
+    ∷ gets (0x10 ∷ 1 ∷ 0x11 ∷ 0 ∷ 0 ∷ 0x3f ∷ 0x15 ∷ 0x15 ∷ []) (RefusedAt 6 7)
+    ∷ gets (0x10 ∷ 1 ∷ 0x11 ∷ 0 ∷ 0 ∷ 0x3f ∷ 0x15 ∷ 0x12 ∷ 0 ∷ []) (RefusedAt 3 7) ∷ []
+
+abbrev pub nilFiles : List FileSample
+nilFiles = fileRacks ∷ fileRacksWritten ∷ refusedNils
 
 -- the starred files state the schemas of the samples
 pub record FilesState : Type 0 where

@@ -5,6 +5,7 @@ use mathlib.Core.Logic.{inl, inr, _≢_}
 use mathlib.Core.List.{List, [], _∷_, _++_}
 use Prim.Native.Nat.{ℕ}
 use Rattle.sdtd.specs.Schema.{Schema}
+use Rattle.sdtd.specs.Tree.{Kind}
 use Rattle.sdtd.specs.Document.{Event, opening, closing, finish, Begins}
 use Rattle.sdtd.specs.Answer.{Question, Ordered, Answer, typed}
 use Rattle.sdtd.specs.Reading.{TypeAnswered, TakenAnswer, questions, Right}
@@ -51,15 +52,15 @@ module _ {A : Type 0} (accepted : A → Type 0) where
   ordered-accepted (q ∷ qs) all (inr o) = ordered-accepted qs (all .1) (o .1)
 
 -- The types that two answers to an opening give are both those of a document that begins with it.
-types-unique : {S : Schema} {e : List Event} {g : ℕ} {a b : Answer} → Begins S (e ++ (opening g ∷ []))
-    → TypeAnswered S e g a → TypeAnswered S e g b → a ≡ b
+types-unique : {S : Schema} {e : List Event} {κ : Kind} {g : ℕ} {a b : Answer} → Begins S (e ++ (opening κ g ∷ []))
+    → TypeAnswered S e κ g a → TypeAnswered S e κ g b → a ≡ b
 types-unique d s t =
     let same = sym (s .given (d .whole) (d .valid) (d .beginning)) ∙ t .given (d .whole) (d .valid) (d .beginning) in
     s .answer ∙ ap typed same ∙ sym (t .answer)
 
 taken-unique : (S : Schema) (e : List Event) (x : Event) {a b : Answer} → AllHold (questions S e x)
     → TakenAnswer S e x a → TakenAnswer S e x b → a ≡ b
-taken-unique S e (opening g) all s t = types-unique (all .1 .1 .0) s t
+taken-unique S e (opening κ g) all s t = types-unique (all .1 .1 .0) s t
 taken-unique S e (closing g) all s t = s ∙ sym t
 taken-unique S e finish all s t = s ∙ sym t
 

@@ -9,7 +9,7 @@ use lib.ListN.{length, drop}
 use lib.Seq.{drop-cons}
 use Rattle.sdtd.specs.Limits.{mostLevels}
 use Rattle.sdtd.specs.Schema.{Schema}
-use Rattle.sdtd.specs.Tree.{Tree, node}
+use Rattle.sdtd.specs.Tree.{Kind, Tree, node}
 use Rattle.sdtd.specs.Document.{Event, opening, closing, finish, stream, document, openings, Valid, typesOf, typeAt, Begins}
 use Rattle.sdtd.specs.Competition.{Competition}
 use Rattle.sdtd.specs.Answer.{Answer, refused, typed, taken}
@@ -48,7 +48,7 @@ places-of-each P e xs c before after x p = place-of-each P e before after x (sub
 
 -- An answer that is no refusal from 11 on refuses no question.
 pub refuses-none : (S : Schema) (e : List Event) (x : Event) {a : Answer} → ((n : ℕ) → 10 < n → a ≢ refused n) → RefusesNone (questions S e x) a
-refuses-none S e (opening g) other =
+refuses-none S e (opening κ g) other =
     (other 11 (omega arith), (other 12 (omega arith), (other 13 (omega arith), (other 14 (omega arith), tt))))
 refuses-none S e (closing g) other =
     (other 11 (omega arith), (other 12 (omega arith), (other 15 (omega arith), (other 16 (omega arith), (other 17 (omega arith), tt)))))
@@ -56,7 +56,7 @@ refuses-none S e finish other = (other 11 (omega arith), (other 18 (omega arith)
 
 module _ (S : Schema) (e : List Event) where
   pub answer-taken : (x : Event) (a : Answer) → TakenAnswer S e x a → IsTaken a
-  answer-taken (opening g) a t = subst IsTaken (sym (t .answer)) tt
+  answer-taken (opening κ g) a t = subst IsTaken (sym (t .answer)) tt
   answer-taken (closing g) a t = subst IsTaken (sym t) tt
   answer-taken finish a t = subst IsTaken (sym t) tt
 
@@ -68,8 +68,8 @@ module _ (S : Schema) (e : List Event) where
   taken-asked x a r =
       (λ t. right-taken x a r t .0, λ all. answer-taken x a (ordered-accepted (TakenAnswer S e x) (questions S e x) all r))
 
-  right-type : (x : Event) (a : Answer) → Right S e x a → (g : ℕ) → x ≡ opening g → IsTaken a → TypeAnswered S e g a
-  right-type x a r g p t = subst (λ (y : Event). TakenAnswer S e y a) p (right-taken x a r t .1)
+  right-type : (x : Event) (a : Answer) → Right S e x a → (κ : Kind) (g : ℕ) → x ≡ opening κ g → IsTaken a → TypeAnswered S e κ g a
+  right-type x a r κ g p t = subst (λ (y : Event). TakenAnswer S e y a) p (right-taken x a r t .1)
 
   not-10 : (x : Event) → ¬ Right S e x (refused 10)
   not-10 x r = answer-taken x (refused 10) (ordered-taken (TakenAnswer S e x) (questions S e x) (refuses-none S e x other) r .1)
@@ -89,28 +89,37 @@ pub record Sound (S : Schema) (e : List Event) : Type 0 where
   pub begins : (e ≡ []) ⊎ Begins S e
   pub within : deepest e ≤ mostLevels
 
-first-opening : {x : Event} (t : Tree) {rest : List Event} → document t ≡ x ∷ rest → (g : ℕ) × (opening g ≡ x)
-first-opening (node a f) p = (a, head-eq-of-cons-eq p)
+-- an opening of some tag, plainly or as nil
+record IsOpening (x : Event) : Type 0 where
+  kind : Kind
+  tag : ℕ
+  is : opening kind tag ≡ x
+
+first-opening : {x : Event} (t : Tree) {rest : List Event} → document t ≡ x ∷ rest → IsOpening x
+first-opening (node κ a f) p = record { kind = κ; tag = a; is = head-eq-of-cons-eq p }
 
 -- Every document begins with an opening.
-begins-opening : {S : Schema} {x : Event} → Begins S (x ∷ []) → (g : ℕ) × (opening g ≡ x)
+begins-opening : {S : Schema} {x : Event} → Begins S (x ∷ []) → IsOpening x
 begins-opening b = first-opening (b .valid .tree) (b .valid .is-document ∙ b .beginning .splits)
 
 no-closing-first : {S : Schema} (g : ℕ) → ¬ Begins S (closing g ∷ [])
-no-closing-first g b = let o = begins-opening b in let p = o .1 in let z : _≡_ {A = ℕ} 0 1 = cc in omega arith
+no-closing-first g b = let p = begins-opening b .is in let z : _≡_ {A = ℕ} 0 1 = cc in omega arith
 
 no-finish-first : {S : Schema} → ¬ Begins S (finish ∷ [])
-no-finish-first b = let o = begins-opening b in let p = o .1 in let z : _≡_ {A = ℕ} 0 1 = cc in omega arith
+no-finish-first b = let p = begins-opening b .is in let z : _≡_ {A = ℕ} 0 1 = cc in omega arith
 
 -- The questions of the call x after e all hold exactly when the events with it fit.
 abbrev AskedFits : Schema → List Event → Event → Type 0
 AskedFits S e x = AllHold (questions S e x) ↔ Fits S (e ++ (x ∷ []))
 
 module _ {S : Schema} (no-competition : ¬ Competition S) (below : TagsBelow S) where
-  opening-fits : (e : List Event) (g : ℕ) → deepest e ≤ mostLevels → AskedFits S e (opening g)
-  opening-fits e g w = (
-    λ all. (all .1 .1 .0, omega (arith, deepest-opening e g, all .1 .1 .1 .0)),
-    λ f. (begins-unfinished e (opening g) (f .0), (opening-tag below e g (f .0), (f .0, (omega (arith, deepest-opening e g, f .1), tt)))),
+  opening-fits : (e : List Event) (κ : Kind) (g : ℕ) → deepest e ≤ mostLevels → AskedFits S e (opening κ g)
+  opening-fits e κ g w = (
+    λ all. (all .1 .1 .0, omega (arith, deepest-opening e κ g, all .1 .1 .1 .0)),
+    λ f. (
+      begins-unfinished e (opening κ g) (f .0),
+      (opening-tag below e κ g (f .0), (f .0, (omega (arith, deepest-opening e κ g, f .1), tt))),
+    ),
   )
 
   closing-fits : (e : List Event) (g : ℕ) → deepest e ≤ mostLevels → (e ≡ []) ⊎ Begins S e → AskedFits S e (closing g)
@@ -142,7 +151,7 @@ module _ {S : Schema} (no-competition : ¬ Competition S) (below : TagsBelow S) 
       (λ all. (c .0 (all .0, all .1 .0), omega (arith, deepest-finish e)), λ f. let k = c .1 (f .0) in (k .0, (k .1, tt)))
 
   asked-fits : (e : List Event) → Sound S e → (x : Event) → AskedFits S e x
-  asked-fits e s (opening g) = opening-fits e g (s .within)
+  asked-fits e s (opening κ g) = opening-fits e κ g (s .within)
   asked-fits e s (closing g) = closing-fits e g (s .within) (s .begins)
   asked-fits e s finish = finish-fits e (s .within) (s .begins)
 
@@ -230,9 +239,9 @@ module _ {S : Schema} {d : List Event} (v : Valid S d) where
   -- The answers from the call x after e on give the typing's types from its place on, if those after it do.
   types-step : (e : List Event) (x : Event) (f : List Event) (a : Answer) (later : List Answer) → TakenAnswer S e x a → d ≡ e ++ (x ∷ f)
       → later ≡ answersBy f (drop (openings (e ++ (x ∷ []))) (typesOf v)) → a ∷ later ≡ answersBy (x ∷ f) (drop (openings e) (typesOf v))
-  types-step e (opening g) f a later t p q =
-      let one-more : openings (e ++ (opening g ∷ [])) ≡ suc (openings e) = omega (arith, openings-append e (opening g ∷ [])) in
-      let inside : openings e < length (typesOf v) = omega (arith, openings-append e (opening g ∷ f), ap openings p, openings-types v) in
+  types-step e (opening κ g) f a later t p q =
+      let one-more : openings (e ++ (opening κ g ∷ [])) ≡ suc (openings e) = omega (arith, openings-append e (opening κ g ∷ [])) in
+      let inside : openings e < length (typesOf v) = omega (arith, openings-append e (opening κ g ∷ f), ap openings p, openings-types v) in
       let gives : typeAt v (openings e) ≡ t .type = t .given d v (record { rest = f; splits = rw append-assoc p }) in
       rw (t .answer, q, one-more, ← gives, drop-cons (typesOf v) (openings e) 0)
   types-step e (closing g) f a later t p q = rw (t, q, openings-append e (closing g ∷ []), add-zero)

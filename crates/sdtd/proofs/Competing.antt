@@ -4,21 +4,22 @@ use mathlib.Core.Logic.{_↔_, _⊎_, inl, inr, _≢_}
 use Prim.Native.Nat.{ℕ}
 use Rattle.sdtd.specs.Schema.{Step, step, Schema, blockOf, tagOf}
 use Rattle.sdtd.specs.Trim.{Bears, Live, Useful}
-use Rattle.sdtd.specs.Competition.{CompeteIn, CompeteOutside, Competition, of-roots, in-type}
+use Rattle.sdtd.specs.Competition.{OpenedAlike, CompeteIn, CompeteOutside, Competition, of-roots, in-type}
 use Rattle.sdtd.proofs.Rivals.{RivalsIn, compete-in-exact}
 use Rattle.sdtd.proofs.Tests.{means-iff, Decision, decision, decided, eq-means, and-means, or-means, not-means, Found, any-means}
 use Rattle.sdtd.proofs.Tests.{memb-means}
+use Rattle.sdtd.proofs.Decide.{alike-means}
 use Rattle.sdtd.proofs.Roots.{rival-roots-means}
 use Rattle.sdtd.proofs.LiveStates.{live-table}
 use Rattle.sdtd.proofs.StatePairs.{pair-table}
 use Rattle.sdtd.proofs.ReachedTypes.{reached-table, useful-decided}
 
 module _ (S : Schema) (a : ℕ) {P : ℕ → ℕ → Type 0} (d : (p q : ℕ) → Decision (P p q)) where
-  -- the steps leave a pair of states with P, by different tree-bearing types of one tag, for live states
+  -- the steps leave a pair of states with P, by different tree-bearing types of one tag, opened alike, for live states
   abbrev AreRivals : Step → Step → Type 0
   AreRivals s u =
       (P (s .from) (u .from) × (s .by ≢ u .by))
-      × ((tagOf S (s .by) ≡ tagOf S (u .by)) × ((Bears S (s .by) × Bears S (u .by)) × (Live S a (s .to) × Live S a (u .to))))
+      × (((tagOf S (s .by) ≡ tagOf S (u .by)) × OpenedAlike S (s .by) (u .by)) × ((Bears S (s .by) × Bears S (u .by)) × (Live S a (s .to) × Live S a (u .to))))
 
   are-rivals : (s u : Step) → Decision (AreRivals s u)
   are-rivals s u =
@@ -26,7 +27,8 @@ module _ (S : Schema) (a : ℕ) {P : ℕ → ℕ → Type 0} (d : (p q : ℕ) �
       let different = and-means (d (s .from) (u .from) .1) (not-means (eq-means (s .by) (u .by))) in
       let bear = and-means (x .bears (s .by)) (x .bears (u .by)) in
       let live = and-means (x .live a (s .to)) (x .live a (u .to)) in
-      decision (and-means different (and-means (eq-means (tagOf S (s .by)) (tagOf S (u .by))) (and-means bear live)))
+      let one-tag = and-means (eq-means (tagOf S (s .by)) (tagOf S (u .by))) (alike-means x (s .by) (u .by)) in
+      decision (and-means different (and-means one-tag (and-means bear live)))
 
   -- two steps of a useful type are rivals
   abbrev RivalPair : Type 0
@@ -44,7 +46,7 @@ module _ (S : Schema) (a : ℕ) {P : ℕ → ℕ → Type 0} (d : (p q : ℕ) �
                 record {
                   member = step (r .q) (r .k) (v .next-k);
                   given = v .step-k;
-                  holds = ((r .pair, r .different), (v .one-tag, ((v .bears-j, v .bears-k), (v .live-j, v .live-k))));
+                  holds = ((r .pair, r .different), ((v .one-tag, v .alike), ((v .bears-j, v .bears-k), (v .live-j, v .live-k))));
                 };
           },
         ),
@@ -66,7 +68,8 @@ module _ (S : Schema) (a : ℕ) {P : ℕ → ℕ → Type 0} (d : (p q : ℕ) �
                 next-k = u .to;
                 step-j = p .1 .given;
                 step-k = f .given;
-                one-tag = h .0;
+                one-tag = h .0 .0;
+                alike = h .0 .1;
                 bears-j = h .1 .0 .0;
                 bears-k = h .1 .0 .1;
                 live-j = h .1 .1 .0;

@@ -7,10 +7,12 @@ use mathlib.Core.List.{Memᴰ·cast}
 use Prim.Native.Nat.{ℕ, zero, suc}
 use lib.ListN.{getD}
 use lib.Dec.{T, eqb}
-use Rattle.sdtd.specs.Schema.{Step, step, Block, Schema, noBlock, blockOf, tagOf, Leads, stay, go, Word}
-use Rattle.sdtd.specs.Trim.{Bears, Live}
-use Rattle.sdtd.specs.Competition.{CompeteIn}
-use Rattle.sdtd.proofs.Fixpoint.{Starts, starts-map, LiveClosed, live-closed, live-exact, bears-exact, PairClosed}
+use Rattle.sdtd.specs.Schema.{Step, step, Block, Schema, noBlock, blockOf, tagOf, Nillable, Leads, stay, go, Word}
+use Rattle.sdtd.specs.Tree.{Kind, plain, nil}
+use Rattle.sdtd.specs.Trim.{Bears, BearsBy, Live}
+use Rattle.sdtd.specs.Competition.{OpenedAlike, both-nillable, both-plain, CompeteIn}
+use Rattle.sdtd.proofs.Bearing.{nil-bears}
+use Rattle.sdtd.proofs.Fixpoint.{Starts, starts-map, LiveClosed, live-closed, live-exact, plain-exact, bears-exact, PairClosed}
 use Rattle.sdtd.proofs.Rivals.{RivalSteps, no-rivals}
 use Rattle.sdtd.proofs.Tests.{Means, means-iff, itself, eq-means, and-means, or-means, _⇒_, if-means, Found, every, any}
 use Rattle.sdtd.proofs.Tests.{every-means, any-means, collect, collect-mem, memb, memb-means}
@@ -34,12 +36,17 @@ in-means L a q =
       passes = λ h. m .passes (record { member = (a, q); given = h; holds = (refl, refl) });
     }
 
--- by the table, the type j bears a tree
+-- by the table, the type j bears a tree opened so
+abbrev pub opensIn : Schema → LiveTable → Kind → ℕ → Bool
+opensIn S L plain j = inTable L j 0
+opensIn S L nil j = blockOf S j .nillable
+
+-- .. and a tree
 abbrev pub bearsIn : Schema → LiveTable → ℕ → Bool
-bearsIn S L j = inTable L j 0
+bearsIn S L j = opensIn S L plain j || opensIn S L nil j
 
 bears-in-means : (S : Schema) (L : LiveTable) (j : ℕ) → Means (bearsIn S L j) (Starts S (In L) j)
-bears-in-means S L j = in-means L j 0
+bears-in-means S L j = or-means (in-means L j 0) (itself (blockOf S j .nillable))
 
 -- the entry is an accepting state, or a step by a type that starts in the table leads from it to a state in the table
 abbrev pub soundEntry : Schema → LiveTable → ℕ × ℕ → Bool
@@ -124,9 +131,10 @@ table-closed S L t =
     let m = blocks-mean (closed-means S L) (λ a. (λ q h. absurd (List·Memᴰ·not-nil h), λ s h. absurd (List·Memᴰ·not-nil h))) (S .blocks) in
     record { accepting = λ a. m .says t a .0; step = λ a. m .says t a .1 }
 
--- The table has exactly the live states, and says of exactly the tree-bearing types that they bear a tree.
+-- The table has exactly the live states, and says of exactly the tree-bearing types that they bear a tree, and opened how.
 pub record LiveExact (S : Schema) (L : LiveTable) : Type 0 where
   pub live : (a q : ℕ) → Means (inTable L a q) (Live S a q)
+  pub opens : (κ : Kind) (a : ℕ) → Means (opensIn S L κ a) (BearsBy S κ a)
   pub bears : (a : ℕ) → Means (bearsIn S L a) (Bears S a)
 
 -- a sound and closed table has exactly those
@@ -134,8 +142,27 @@ pub table-exact : {S : Schema} {L : LiveTable} → LiveClosed S (In L) → ((a q
 table-exact {S} {L} closed sound =
     record {
       live = λ a q. means-iff (in-means L a q) (live-exact closed sound a q);
+      opens = opens;
       bears = λ a. means-iff (bears-in-means S L a) (bears-exact closed sound a);
     }
+  where
+    opens : (κ : Kind) (a : ℕ) → Means (opensIn S L κ a) (BearsBy S κ a)
+    opens plain a = means-iff (in-means L a 0) (plain-exact closed sound a)
+    opens nil a = means-iff (itself (blockOf S a .nillable)) nil-bears
+
+-- by the table, the types bear trees opened alike
+abbrev pub alikeIn : Schema → LiveTable → ℕ → ℕ → Bool
+alikeIn S L j k = (opensIn S L nil j && opensIn S L nil k) || (opensIn S L plain j && opensIn S L plain k)
+
+pub alike-means : {S : Schema} {L : LiveTable} → LiveExact S L → (j k : ℕ) → Means (alikeIn S L j k) (OpenedAlike S j k)
+alike-means {S} x j k =
+    means-iff
+    (or-means
+    (and-means (itself (blockOf S j .nillable)) (itself (blockOf S k .nillable)))
+    (and-means (x .opens plain j) (x .opens plain k))) (
+      λ a. elim a [ both-nillable m n ↦ inl (m, n) | both-plain b c ↦ inr (b, c) ],
+      λ s. ⊎-elim (λ n. both-nillable (n .0) (n .1)) (λ b. both-plain (b .0) (b .1)) s,
+    )
 
 pub live-check : (S : Schema) (L : LiveTable) → T (liveCheck S L) → LiveExact S L
 live-check S L t =
@@ -206,7 +233,7 @@ abbrev pairTest : Schema → LiveTable → List (ℕ × ℕ) → ℕ → Step �
 pairTest S L ps a s t e =
     eqb (e .0) (s .from) ⇒ eqb (e .1) (t .from)
     ⇒ (eqb (s .by) (t .by) ⇒ inTable ps (s .to) (t .to))
-    && (eqb (tagOf S (s .by)) (tagOf S (t .by)) ⇒ inTable L a (s .to) ⇒ inTable L a (t .to) ⇒ eqb (s .by) (t .by))
+    && (eqb (tagOf S (s .by)) (tagOf S (t .by)) ⇒ alikeIn S L (s .by) (t .by) ⇒ inTable L a (s .to) ⇒ inTable L a (t .to) ⇒ eqb (s .by) (t .by))
 
 -- the pairs of the block of a: (0, 0) and those of the certificate
 abbrev pairsOf : List (List (ℕ × ℕ)) → ℕ → List (ℕ × ℕ)
@@ -224,7 +251,7 @@ restrained S L pairs = everyBlock (λ a. restrainedBlock S L (pairsOf pairs a) a
 -- what the test of a pair says
 record PairFree (S : Schema) (ps : List (ℕ × ℕ)) (a : ℕ) (s t : Step) : Type 0 where
   follows : s .by ≡ t .by → In ps (s .to) (t .to)
-  same : tagOf S (s .by) ≡ tagOf S (t .by) → Live S a (s .to) → Live S a (t .to) → s .by ≡ t .by
+  same : tagOf S (s .by) ≡ tagOf S (t .by) → OpenedAlike S (s .by) (t .by) → Live S a (s .to) → Live S a (t .to) → s .by ≡ t .by
 
 pair-means : {S : Schema} {L : LiveTable} → LiveExact S L → (ps : List (ℕ × ℕ)) (a : ℕ) (s t : Step) (e : ℕ × ℕ)
     → Means (pairTest S L ps a s t e) (e .0 ≡ s .from → e .1 ≡ t .from → PairFree S ps a s t)
@@ -232,7 +259,8 @@ pair-means {S} x ps a s t e =
     let one = eq-means (s .by) (t .by) in
     let follows = if-means one (in-means ps (s .to) (t .to)) in
     let tags = eq-means (tagOf S (s .by)) (tagOf S (t .by)) in
-    let same = if-means tags (if-means (x .live a (s .to)) (if-means (x .live a (t .to)) one)) in
+    let alike = alike-means x (s .by) (t .by) in
+    let same = if-means tags (if-means alike (if-means (x .live a (s .to)) (if-means (x .live a (t .to)) one))) in
     let parts = and-means follows same in
     let free = means-iff {B = PairFree S ps a s t} parts (λ f. (f .follows, f .same), λ p. record { follows = p .0; same = p .1 }) in
     if-means (eq-means (e .0) (s .from)) (if-means (eq-means (e .1) (t .from)) free)
@@ -270,4 +298,4 @@ restrained-check {S} x pairs t a c = no-rivals closed free c
     free : (p q j k : ℕ) → In ps p q → RivalSteps S a p q j k → ¬ (j ≢ k)
     free p q j k h r d =
         let f = block (step p j (r .next-j)) (r .step-j) (r .bears-j) (step q k (r .next-k)) (r .step-k) (r .bears-k) (p, q) h refl refl in
-        d (f .same (r .one-tag) (r .live-j) (r .live-k))
+        d (f .same (r .one-tag) (r .alike) (r .live-j) (r .live-k))

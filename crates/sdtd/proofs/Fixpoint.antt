@@ -1,25 +1,25 @@
 -- Live states, reached types and reached pairs of states are least fixpoints: a table that is closed under their rules holds all of them,
 -- and one that is sound too holds nothing else.
 use mathlib.Core.Path.{_≡_, refl, subst, _∙_}
-use mathlib.Core.Logic.{_↔_}
+use mathlib.Core.Logic.{_↔_, _⊎_, inl, inr, ⊎-elim}
 use mathlib.Core.List.{List, [], _∷_, _++_, List·Memᴰ, List·Memᴰ·head, Memᴰ·append-right}
 use Prim.Native.Nat.{ℕ, suc, _+_}
 use native.Mathlib.Omega.{arith}
 use lib.ListN.{length, length-append}
-use Rattle.sdtd.specs.Schema.{Step, step, Schema, blockOf, Leads, stay, go, Word}
-use Rattle.sdtd.specs.Tree.{Tree, Forest, node, empty, more, label, labels, IsRoot, Derived, DerivedAll}
-use Rattle.sdtd.specs.Trim.{Bears, All, none, both, AllBear, Live, Reached, root, child}
+use Rattle.sdtd.specs.Schema.{Step, step, Schema, blockOf, Nillable, Leads, stay, go, Word}
+use Rattle.sdtd.specs.Tree.{Tree, Forest, plain, nil, node, empty, more, label, labels, IsRoot, Derived, DerivedAll}
+use Rattle.sdtd.specs.Trim.{Bears, BearsBy, All, none, both, AllBear, Live, Reached, root, child}
 use Rattle.sdtd.specs.Competition.{GoesOn}
 use Rattle.sdtd.proofs.Automata.{all-append, all-front, all-back, all-head, all-tail, around, leads-append, accepts-after}
 use Rattle.sdtd.proofs.Automata.{accepts-split, first-step}
-use Rattle.sdtd.proofs.Bearing.{word-bears, bears-word}
+use Rattle.sdtd.proofs.Bearing.{word-bears, bears-word, bears-either}
 
--- The type j starts in P, a property of types and their states: where P is liveness, exactly if j bears a tree.
+-- The type j starts in P, a property of types and their states, or is nillable: where P is liveness, exactly if j bears a tree.
 abbrev pub Starts : Schema → (ℕ → ℕ → Type 0) → ℕ → Type 0
-Starts S P j = P j 0
+Starts S P j = P j 0 ⊎ Nillable S j
 
 pub starts-map : (S : Schema) {P Q : ℕ → ℕ → Type 0} → ((a q : ℕ) → P a q → Q a q) → (a : ℕ) → Starts S P a → Starts S Q a
-starts-map S f a p = f a 0 p
+starts-map S f a s = ⊎-elim (λ p. inl (f a 0 p)) (λ n. inr n) s
 
 -- P holds for each accepting state, and for the state before a step by a type that starts in P into a state with P.
 pub record LiveClosed (S : Schema) (P : ℕ → ℕ → Type 0) : Type 0 where
@@ -39,7 +39,8 @@ module _ {S : Schema} {P : ℕ → ℕ → Type 0} (closed : LiveClosed S P) whe
   -- each type in a derived tree starts in P
   mutual
     tree-starts : (t : Tree) → Derived S t → Starts S P (label t)
-    tree-starts (node a f) d = live-along a (d .0 .leads) (forest-starts f (d .1)) (closed .accepting a (d .0 .last) (d .0 .accepting))
+    tree-starts (node plain a f) d = inl (live-along a (d .0 .leads) (forest-starts f (d .1)) (closed .accepting a (d .0 .last) (d .0 .accepting)))
+    tree-starts (node nil a f) d = inr (d .0 .0)
 
     forest-starts : (f : Forest) → DerivedAll S f → All (Starts S P) (labels f)
     forest-starts empty d = none
@@ -53,11 +54,18 @@ module _ {S : Schema} {P : ℕ → ℕ → Type 0} (closed : LiveClosed S P) whe
   live-complete a q l =
       live-along a (l .accepts .leads) (all-map bears-starts (l .bear)) (closed .accepting a (l .accepts .last) (l .accepts .accepting))
 
--- a type bears a tree exactly if it starts live
-pub bears-live : {S : Schema} {a : ℕ} → Bears S a ↔ Starts S (Live S) a
-bears-live {a = a} = (
+-- a type bears a tree opened plainly exactly if its start state is live
+pub plain-live : {S : Schema} {a : ℕ} → BearsBy S plain a ↔ Live S a 0
+plain-live {a = a} = (
   λ b. let w = bears-word b in record { word = w .word; accepts = w .is-word; bear = w .bear },
   λ l. word-bears a (l .accepts) (l .bear),
+)
+
+-- .. and a tree exactly if it starts live
+pub bears-live : {S : Schema} {a : ℕ} → Bears S a ↔ Starts S (Live S) a
+bears-live = (
+  λ b. ⊎-elim (λ p. inl (plain-live .0 p)) (λ n. inr n) (bears-either .0 b),
+  λ s. bears-either .1 (⊎-elim (λ l. inl (plain-live .1 l)) (λ n. inr n) s),
 )
 
 -- the live states are closed
@@ -73,6 +81,11 @@ live-closed =
 -- a sound and closed table has exactly the live states
 pub live-exact : {S : Schema} {P : ℕ → ℕ → Type 0} → LiveClosed S P → ((a q : ℕ) → P a q → Live S a q) → (a q : ℕ) → Live S a q ↔ P a q
 live-exact closed sound a q = (live-complete closed a q, sound a q)
+
+-- .. the start states of exactly the types that bear a tree opened plainly
+pub plain-exact : {S : Schema} {P : ℕ → ℕ → Type 0} → LiveClosed S P → ((a q : ℕ) → P a q → Live S a q)
+    → (a : ℕ) → BearsBy S plain a ↔ P a 0
+plain-exact closed sound a = (λ b. live-complete closed a 0 (plain-live .0 b), λ p. plain-live .1 (sound a 0 p))
 
 -- exactly the tree-bearing types start in a sound and closed table
 pub bears-exact : {S : Schema} {P : ℕ → ℕ → Type 0} → LiveClosed S P → ((a q : ℕ) → P a q → Live S a q)

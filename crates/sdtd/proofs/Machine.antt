@@ -3,14 +3,14 @@
 use mathlib.Core.Path.{_≡_, refl, sym, ap, subst}
 use mathlib.Core.List.{List, [], _∷_, _++_, append-assoc, append-nil, nil≢cons, cons≢nil, head-eq-of-cons-eq, tail-eq-of-cons-eq}
 use Prim.Native.Nat.{ℕ}
-use Rattle.sdtd.specs.Schema.{Schema, blockOf, Word}
-use Rattle.sdtd.specs.Tree.{Tree, Forest, node, empty, more, label, labels, IsRoot, Derived, DerivedAll}
+use Rattle.sdtd.specs.Schema.{Schema}
+use Rattle.sdtd.specs.Tree.{Kind, Tree, Forest, node, empty, more, label, labels, IsRoot, Content, Derived, DerivedAll}
 use Rattle.sdtd.specs.Document.{Event, opening, closing, finish, stream, streams, document}
 
--- Who has children: the outside of the document, or an element of a type.
+-- Who has children: the outside of the document, or an element of a type, opened so.
 pub data Owner : Type 0 where
   top : Owner
-  own : ℕ → Owner
+  own : Kind → ℕ → Owner
 
 -- the list is that of one type, which the root may have
 pub record OneRoot (S : Schema) (w : List ℕ) : Type 0 where
@@ -21,7 +21,7 @@ pub record OneRoot (S : Schema) (w : List ℕ) : Type 0 where
 -- the types of all the owner's children may be these
 abbrev pub Fills : Schema → Owner → List ℕ → Type 0
 Fills S top w = OneRoot S w
-Fills S (own a) w = Word (blockOf S a) w
+Fills S (own κ a) w = Content S κ a w
 
 -- an open owner and the types of its children so far
 pub data Frame : Type 0 where
@@ -29,9 +29,9 @@ pub data Frame : Type 0 where
 
 -- one typed event; a closing and the finish ask that the children fill their owner
 pub data Moves (S : Schema) : List Frame → Event → List Frame → Type 0 where
-  opens : {o : Owner} {w : List ℕ} {fs : List Frame} {a : ℕ}
-      → Moves S (frame o w ∷ fs) (opening a) (frame (own a) [] ∷ frame o (w ++ (a ∷ [])) ∷ fs)
-  closes : {a : ℕ} {w : List ℕ} {fs : List Frame} → Word (blockOf S a) w → Moves S (frame (own a) w ∷ fs) (closing a) fs
+  opens : {o : Owner} {w : List ℕ} {fs : List Frame} {κ : Kind} {a : ℕ}
+      → Moves S (frame o w ∷ fs) (opening κ a) (frame (own κ a) [] ∷ frame o (w ++ (a ∷ [])) ∷ fs)
+  closes : {κ : Kind} {a : ℕ} {w : List ℕ} {fs : List Frame} → Content S κ a w → Moves S (frame (own κ a) w ∷ fs) (closing a) fs
   ends : {w : List ℕ} → OneRoot S w → Moves S (frame top w ∷ []) finish []
 
 pub data Run (S : Schema) : List Frame → List Event → List Frame → Type 0 where
@@ -69,7 +69,7 @@ one-root {a = a} r = record { type = a; is-root = r; only = refl }
 mutual
   pub tree-run : {S : Schema} (t : Tree) → Derived S t → (o : Owner) (w : List ℕ) (fs : List Frame)
       → Run S (frame o w ∷ fs) (stream t) (frame o (w ++ (label t ∷ [])) ∷ fs)
-  tree-run (node a f) d o w fs = move opens (run-append (forest-run f (d .1) (own a) [] (frame o (w ++ (a ∷ [])) ∷ fs)) (move (closes (d .0)) halt))
+  tree-run (node κ a f) d o w fs = move opens (run-append (forest-run f (d .1) (own κ a) [] (frame o (w ++ (a ∷ [])) ∷ fs)) (move (closes (d .0)) halt))
 
   pub forest-run : {S : Schema} (f : Forest) → DerivedAll S f → (o : Owner) (w : List ℕ) (fs : List Frame)
       → Run S (frame o w ∷ fs) (streams f) (frame o (w ++ labels f) ∷ fs)
@@ -88,7 +88,7 @@ pub record Future (S : Schema) (o : Owner) (w : List ℕ) : Type 0 where
 pub data Suspended (S : Schema) : List Frame → Type 0 where
   ended : Suspended S []
   outer : {w : List ℕ} → Future S top w → Suspended S (frame top w ∷ [])
-  inner : {a : ℕ} {w : List ℕ} {fs : List Frame} → Future S (own a) w → Suspended S fs → Suspended S (frame (own a) w ∷ fs)
+  inner : {κ : Kind} {a : ℕ} {w : List ℕ} {fs : List Frame} → Future S (own κ a) w → Suspended S fs → Suspended S (frame (own κ a) w ∷ fs)
 
 -- the events still to be read
 abbrev pub todo : {S : Schema} {fs : List Frame} → Suspended S fs → List Event
@@ -99,8 +99,8 @@ todo (inner {a = a} f s) = streams (f .forest) ++ (closing a ∷ todo s)
 pub suspended-run : {S : Schema} {fs : List Frame} (s : Suspended S fs) → Run S fs (todo s) []
 suspended-run ended = halt
 suspended-run (outer {w = w} f) = run-append (forest-run (f .forest) (f .derived) top w []) (move (ends (f .fills)) halt)
-suspended-run (inner {a = a} {w = w} {fs = fs} f s) =
-    run-append (forest-run (f .forest) (f .derived) (own a) w fs) (move (closes (f .fills)) (suspended-run s))
+suspended-run (inner {κ = κ} {a = a} {w = w} {fs = fs} f s) =
+    run-append (forest-run (f .forest) (f .derived) (own κ a) w fs) (move (closes (f .fills)) (suspended-run s))
 
 -- a suspended document with the given events still to be read
 pub record SuspendedAt (S : Schema) (fs : List Frame) (ρ : List Event) : Type 0 where
@@ -108,19 +108,21 @@ pub record SuspendedAt (S : Schema) (fs : List Frame) (ρ : List Event) : Type 0
   pub events : todo suspended ≡ ρ
 
 -- one child more, with its own children, before the rest
-future-with-child : {S : Schema} {o : Owner} {w : List ℕ} (a : ℕ) → Future S (own a) [] → Future S o (w ++ (a ∷ [])) → Future S o w
-future-with-child {S} {o} {w} a f g =
+future-with-child : {S : Schema} {o : Owner} {w : List ℕ} (κ : Kind) (a : ℕ)
+    → Future S (own κ a) [] → Future S o (w ++ (a ∷ [])) → Future S o w
+future-with-child {S} {o} {w} κ a f g =
     record {
-      forest = more (node a (f .forest)) (g .forest);
+      forest = more (node κ a (f .forest)) (g .forest);
       derived = ((f .fills, f .derived), g .derived);
       fills = rw append-assoc at (g .fills);
     }
 
-unopen : {S : Schema} {o : Owner} {w : List ℕ} {fs : List Frame} {a : ℕ} (s : Suspended S (frame (own a) [] ∷ frame o (w ++ (a ∷ [])) ∷ fs))
-    → SuspendedAt S (frame o w ∷ fs) (opening a ∷ todo s)
+unopen : {S : Schema} {o : Owner} {w : List ℕ} {fs : List Frame} {κ : Kind} {a : ℕ}
+    (s : Suspended S (frame (own κ a) [] ∷ frame o (w ++ (a ∷ [])) ∷ fs))
+    → SuspendedAt S (frame o w ∷ fs) (opening κ a ∷ todo s)
 unfolding future-with-child
-unopen {a = a} (inner f (outer g)) = record { suspended = outer (future-with-child a f g); events = simp append-assoc }
-unopen {a = a} (inner f (inner g s)) = record { suspended = inner (future-with-child a f g) s; events = simp append-assoc }
+unopen {κ = κ} {a = a} (inner f (outer g)) = record { suspended = outer (future-with-child κ a f g); events = simp append-assoc }
+unopen {κ = κ} {a = a} (inner f (inner g s)) = record { suspended = inner (future-with-child κ a f g) s; events = simp append-assoc }
 
 no-future : {S : Schema} (o : Owner) (w : List ℕ) → Fills S o w → Future S o w
 no-future o w x = record { forest = empty; derived = tt; fills = rw append-nil x }
@@ -128,12 +130,12 @@ no-future o w x = record { forest = empty; derived = tt; fills = rw append-nil x
 pub run-suspended : {S : Schema} {fs : List Frame} {ρ : List Event} → Run S fs ρ [] → SuspendedAt S fs ρ
 unfolding no-future
 run-suspended halt = record { suspended = ended; events = refl }
-run-suspended {S} (move (opens {o = o} {w = w} {fs = fs} {a = a}) r) =
+run-suspended {S} (move (opens {o = o} {w = w} {fs = fs} {κ = κ} {a = a}) r) =
     let s = run-suspended r in
-    subst (λ (ρ : List Event). SuspendedAt S (frame o w ∷ fs) (opening a ∷ ρ)) (s .events) (unopen {w = w} {fs = fs} (s .suspended))
-run-suspended (move (closes {a = a} {w = w} x) r) =
+    subst (λ (ρ : List Event). SuspendedAt S (frame o w ∷ fs) (opening κ a ∷ ρ)) (s .events) (unopen {w = w} {fs = fs} (s .suspended))
+run-suspended (move (closes {κ = κ} {a = a} {w = w} x) r) =
     let s = run-suspended r in
-    record { suspended = inner (no-future (own a) w x) (s .suspended); events = ap {B = List Event} (λ ρ. closing a ∷ ρ) (s .events) }
+    record { suspended = inner (no-future (own κ a) w x) (s .suspended); events = ap {B = List Event} (λ ρ. closing a ∷ ρ) (s .events) }
 run-suspended (move (ends {w = w} x) halt) = record { suspended = outer (no-future top w x); events = refl }
 
 -- the typed events are the stream of a derived tree with a type at its root that the root may have

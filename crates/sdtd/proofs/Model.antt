@@ -10,7 +10,7 @@ use lib.ListN.{length}
 use lib.Dec.{T, eqb, ltb}
 use Rattle.sdtd.specs.Limits.{mostLevels}
 use Rattle.sdtd.specs.Schema.{Schema, blockOf, tagOf}
-use Rattle.sdtd.specs.Tree.{empty, more}
+use Rattle.sdtd.specs.Tree.{Kind, plain, nil, empty, more, Content}
 use Rattle.sdtd.specs.Document.{Event, opening, closing, finish, Begins}
 use Rattle.sdtd.specs.Trim.{SomeRootBears}
 use Rattle.sdtd.specs.Competition.{Competition, Accepted}
@@ -23,7 +23,7 @@ use Rattle.sdtd.proofs.Follow.{Candidate}
 use Rattle.sdtd.proofs.Position.{Position, SomePosition, first-position, open-position, close-position, end-position}
 use Rattle.sdtd.proofs.Next.{opening-exactly, opening-given}
 use Rattle.sdtd.proofs.Questions.{position-unfinished, position-finished, own-elements, innermost-of, nothing-open, children-word}
-use Rattle.sdtd.proofs.Questions.{root-closed, root-child}
+use Rattle.sdtd.proofs.Questions.{nil-content, root-closed, root-child}
 use Rattle.sdtd.proofs.Answers.{right-unique}
 use Rattle.sdtd.proofs.Calls.{Each, RightAt, each-of-places, places-of-each}
 use Rattle.sdtd.proofs.Tests.{Means, means-iff, itself, eq-means, lt-means, and-means}
@@ -44,32 +44,39 @@ openingAnswer d (j ∷ js) = check 14 (ltb d mostLevels) (typed j)
 -- a closing of g, where the innermost frame is the owner's and has the children w
 abbrev closingAnswer : Schema → Owner → List ℕ → ℕ → Answer
 closingAnswer S top w g = refused 15
-closingAnswer S (own a) w g = check 16 (eqb (tagOf S a) g) (check 17 (acceptsb (blockOf S a) w) taken)
+closingAnswer S (own plain a) w g = check 16 (eqb (tagOf S a) g) (check 17 (acceptsb (blockOf S a) w) taken)
+closingAnswer S (own nil a) w g = check 16 (eqb (tagOf S a) g) taken
 
 -- a finish, where the innermost frame is the owner's and has the children w
 abbrev finishAnswer : Owner → List ℕ → Answer
 finishAnswer top [] = refused 18
 finishAnswer top (a ∷ w) = taken
-finishAnswer (own a) w = refused 18
+finishAnswer (own κ a) w = refused 18
 
 -- The answer to a call after the events e, which led to the frames.
 abbrev pub model : Schema → LiveTable → List Event → List Frame → Event → Answer
 model S L e [] x = refused 11
-model S L e (frame o w ∷ fs) (opening g) = check 12 (ltb g (S .tags)) (openingAnswer (depth e) (openingTypes S L o w g))
+model S L e (frame o w ∷ fs) (opening κ g) = check 12 (ltb g (S .tags)) (openingAnswer (depth e) (openingTypes S L o w κ g))
 model S L e (frame o w ∷ fs) (closing g) = check 12 (ltb g (S .tags)) (closingAnswer S o w g)
 model S L e (frame o w ∷ fs) finish = finishAnswer o w
 
--- The frames after an answer: a type opens a frame, taken closes one.
-abbrev pub framesAfter : Answer → List Frame → List Frame
-framesAfter (refused n) fs = fs
-framesAfter (typed j) [] = []
-framesAfter (typed j) (frame o w ∷ fs) = frame (own j) [] ∷ frame o (w ++ (j ∷ [])) ∷ fs
-framesAfter taken fs = tail fs
+-- how an opening opens; of another event it is not asked
+abbrev kindOf : Event → Kind
+kindOf (opening κ g) = κ
+kindOf (closing g) = plain
+kindOf finish = plain
+
+-- The frames after an answer to the call x: a type opens a frame, taken closes one.
+abbrev pub framesAfter : Answer → Event → List Frame → List Frame
+framesAfter (refused n) x fs = fs
+framesAfter (typed j) x [] = []
+framesAfter (typed j) x (frame o w ∷ fs) = frame (own (kindOf x) j) [] ∷ frame o (w ++ (j ∷ [])) ∷ fs
+framesAfter taken x fs = tail fs
 
 -- The answer is right by the questions of the list, and the reading goes on at a position.
 record Answered (S : Schema) (e : List Event) (fs : List Frame) (x : Event) (qs : List (Question Answer)) (a : Answer) : Type 0 where
   right : Ordered qs (TakenAnswer S e x) a
-  next : Position S (e ++ ifTaken a x) (framesAfter a fs)
+  next : Position S (e ++ ifTaken a x) (framesAfter a x fs)
 
 -- The first question is answered no; yes; or as its test says.
 module _ {S : Schema} {e : List Event} {fs : List Frame} (p : Position S e fs)
@@ -86,24 +93,36 @@ module _ {S : Schema} {e : List Event} {fs : List Frame} (p : Position S e fs)
 
 -- with no frame left the events are finished
 finished-answered : {S : Schema} {e : List Event} → Position S e [] → (x : Event) → Answered S e [] x (questions S e x) (refused 11)
-finished-answered p (opening g) = answered-no p (position-finished p)
+finished-answered p (opening κ g) = answered-no p (position-finished p)
 finished-answered p (closing g) = answered-no p (position-finished p)
 finished-answered p finish = answered-no p (position-finished p)
 
 module _ {S : Schema} (free : ¬ Competition S) {e : List Event} {w : List ℕ} {fs : List Frame} where
   -- from question 13 on
-  opening-answered : {o : Owner} (p : Position S e (frame o w ∷ fs)) (g : ℕ) (js : List ℕ)
-      → ((j : ℕ) → List·Memᴰ j js ↔ ((tagOf S j ≡ g) × Candidate S o w j))
-      → Answered S e (frame o w ∷ fs) (opening g) (ask (refused 13) (Begins S (e ++ (opening g ∷ []))) ∷ ask (refused 14) (depth e < mostLevels) ∷ [])
-      (openingAnswer (depth e) js)
-  opening-answered p g [] m =
-      answered-no p (λ b. let c = opening-exactly free p g .0 b in List·Memᴰ·not-nil (m (c .type) .1 (c .tag, c .candidate)))
-  opening-answered {o} p g (j ∷ js) m =
+  opening-answered : {o : Owner} (p : Position S e (frame o w ∷ fs)) (κ : Kind) (g : ℕ) (js : List ℕ)
+      → ((j : ℕ) → List·Memᴰ j js ↔ ((tagOf S j ≡ g) × Candidate S o w κ j))
+      → Answered S e (frame o w ∷ fs) (opening κ g)
+      (ask (refused 13) (Begins S (e ++ (opening κ g ∷ []))) ∷ ask (refused 14) (depth e < mostLevels) ∷ []) (openingAnswer (depth e) js)
+  opening-answered p κ g [] m =
+      answered-no p (λ b. let c = opening-exactly free p κ g .0 b in List·Memᴰ·not-nil (m (c .type) .1 (c .tag, c .candidate)))
+  opening-answered {o} p κ g (j ∷ js) m =
       let c = m j .0 (List·Memᴰ·head refl) in
-      answered-yes p (opening-exactly free p g .1 (record { type = j; tag = c .0; candidate = c .1 }))
+      answered-yes p (opening-exactly free p κ g .1 (record { type = j; tag = c .0; candidate = c .1 }))
       (answered p (lt-means (depth e) mostLevels) (λ l.
-      subst (λ (h : ℕ). Answered S e (frame o w ∷ fs) (opening h) [] (typed j)) (c .0)
+      subst (λ (h : ℕ). Answered S e (frame o w ∷ fs) (opening κ h) [] (typed j)) (c .0)
       (record { right = record { type = j; answer = refl; given = opening-given free p (c .1) }; next = open-position p (c .1) })))
+
+  -- question 16
+  same-tag : {κ : Kind} {a : ℕ} (p : Position S e (frame (own κ a) w ∷ fs)) (g : ℕ) → Means (eqb (tagOf S a) g) (innermost e .tag ≡ g)
+  same-tag {a = a} p g =
+      let i = innermost-of (own-elements p (position-unfinished p)) in
+      means-iff (eq-means (tagOf S a) g) (λ q. sym (i .tag) ∙ q, λ q. i .tag ∙ q)
+
+  closed-answered : {κ : Kind} {a : ℕ} (p : Position S e (frame (own κ a) w ∷ fs)) (g : ℕ) → innermost e .tag ≡ g → Content S κ a w
+      → Answered S e (frame (own κ a) w ∷ fs) (closing g) [] taken
+  closed-answered p g t c =
+      let i = innermost-of (own-elements p (position-unfinished p)) in
+      record { right = refl; next = subst (λ (h : ℕ). Position S (e ++ (closing h ∷ [])) fs) (sym (i .tag) ∙ t) (close-position p c) }
 
   -- from question 15 on
   closing-answered : (o : Owner) (p : Position S e (frame o w ∷ fs)) (g : ℕ)
@@ -112,14 +131,16 @@ module _ {S : Schema} (free : ¬ Competition S) {e : List Event} {w : List ℕ} 
   closing-answered top p g =
       let closed : depth e ≡ 0 = ap length (nothing-open (own-elements p (position-unfinished p))) in
       answered-no p (λ d. omega arith)
-  closing-answered (own a) p g =
+  closing-answered (own plain a) p g =
       let i = innermost-of (own-elements p (position-unfinished p)) in
-      let tags = means-iff (eq-means (tagOf S a) g) (λ q. sym (i .tag) ∙ q, λ q. i .tag ∙ q) in
-      let word = means-iff (accepts-means (blockOf S a) w) (children-word free p) in
+      let word = means-iff (accepts-means (blockOf S a) w) (children-word free plain p) in
+      answered-yes p (i .is-open) (answered p (same-tag p g) (λ t. answered p word (λ c. closed-answered p g t (children-word free plain p .0 c))))
+  closing-answered (own nil a) p g =
+      let i = innermost-of (own-elements p (position-unfinished p)) in
       answered-yes p (i .is-open)
-      (answered p tags (λ t. answered p word (λ c.
-      let at = close-position p (children-word free p .0 c) in
-      record { right = refl; next = subst (λ (h : ℕ). Position S (e ++ (closing h ∷ [])) fs) (sym (i .tag) ∙ t) at })))
+      (answered p (same-tag p g) (λ t.
+      let c = nil-content (p .suspended) in
+      answered-yes p (children-word free nil p .1 c) (closed-answered p g t c)))
 
 -- question 18, by the innermost frame
 finish-answered : {S : Schema} {e : List Event} {o : Owner} {w : List ℕ} {fs : List Frame}
@@ -136,9 +157,9 @@ module _ {S : Schema} {L : LiveTable} (free : ¬ Competition S) (exact : LiveExa
   model-answered : {e : List Event} {fs : List Frame} → Position S e fs → (x : Event)
       → Answered S e fs x (questions S e x) (model S L e fs x)
   model-answered {fs = []} p x = finished-answered p x
-  model-answered {fs = frame o w ∷ fs} p (opening g) =
+  model-answered {fs = frame o w ∷ fs} p (opening κ g) =
       answered-yes p (position-unfinished p)
-      (answered p (lt-means g (S .tags)) (λ l. opening-answered free p g (openingTypes S L o w g) (opening-types exact o w g)))
+      (answered p (lt-means g (S .tags)) (λ l. opening-answered free p κ g (openingTypes S L o w κ g) (opening-types exact o w κ g)))
   model-answered {fs = frame o w ∷ fs} p (closing g) =
       answered-yes p (position-unfinished p) (answered p (lt-means g (S .tags)) (λ l. closing-answered free o p g))
   model-answered {fs = frame o w ∷ fs} p finish = answered-yes p (position-unfinished p) (finish-answered p (p .suspended))
@@ -147,7 +168,7 @@ module _ {S : Schema} {L : LiveTable} (free : ¬ Competition S) (exact : LiveExa
   model-right p x = model-answered p x .right
 
   pub model-next : {e : List Event} {fs : List Frame} → Position S e fs → (x : Event)
-      → Position S (e ++ ifTaken (model S L e fs x) x) (framesAfter (model S L e fs x) fs)
+      → Position S (e ++ ifTaken (model S L e fs x) x) (framesAfter (model S L e fs x) x fs)
   model-next p x = model-answered p x .next
 
 -- nothing is read, and a root type bears a tree
@@ -192,13 +213,13 @@ abbrev pub agrees : Schema → LiveTable → List Event → List Frame → List 
 agrees S L e fs [] = true
 agrees S L e fs (x ∷ xs) =
     sameAnswer (model S L e fs (x .call)) (x .answer)
-    && agrees S L (e ++ ifTaken (x .answer) (x .call)) (framesAfter (x .answer) fs) xs
+    && agrees S L (e ++ ifTaken (x .answer) (x .call)) (framesAfter (x .answer) (x .call) fs) xs
 
 module _ {S : Schema} {L : LiveTable} (free : ¬ Competition S) (exact : LiveExact S L) where
   -- the next position, where the model's answer is given
   next-position : {e : List Event} {fs : List Frame} → Position S e fs → (x : Event) {a : Answer} → model S L e fs x ≡ a
-      → Position S (e ++ ifTaken a x) (framesAfter a fs)
-  next-position {e} {fs} p x q = subst (λ (a : Answer). Position S (e ++ ifTaken a x) (framesAfter a fs)) q (model-next free exact p x)
+      → Position S (e ++ ifTaken a x) (framesAfter a x fs)
+  next-position {e} {fs} p x q = subst (λ (a : Answer). Position S (e ++ ifTaken a x) (framesAfter a x fs)) q (model-next free exact p x)
 
   position-after : {e : List Event} {fs : List Frame} → Position S e fs → (xs : List Exchange) → Each (RightAt S) e xs
       → SomePosition S (e ++ eventsTaken xs)

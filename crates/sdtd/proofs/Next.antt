@@ -5,10 +5,10 @@ use mathlib.Core.List.{List, [], _∷_, _++_, append-assoc, cons≢nil, head-eq-
 use Prim.Native.Nat.{ℕ}
 use native.Mathlib.Omega.{arith}
 use lib.Seq.{getD-at}
-use Rattle.sdtd.specs.Schema.{Schema, blockOf, tagOf, Word}
-use Rattle.sdtd.specs.Tree.{IsRoot}
+use Rattle.sdtd.specs.Schema.{Schema, tagOf}
+use Rattle.sdtd.specs.Tree.{Kind, plain, IsRoot, Content}
 use Rattle.sdtd.specs.Document.{Event, opening, closing, finish, openings, Valid, typesOf, BeginningOf, Begins, EveryTypingGives}
-use Rattle.sdtd.specs.Trim.{Bears, none, AllBear}
+use Rattle.sdtd.specs.Trim.{BearsBy, none, AllBear}
 use Rattle.sdtd.specs.Competition.{Competition}
 use Rattle.sdtd.proofs.Fixpoint.{Passes, goes-on}
 use Rattle.sdtd.proofs.Trees.{relabelEvent, opened}
@@ -43,41 +43,45 @@ next-move free {e} p v x b =
     let o = onward-only free p v (x ∷ b .rest) (b .splits ∙ append-assoc e (x ∷ []) (b .rest)) in
     first-move p v (o .rest) (o .run) (o .tags) (onward-types o)
 
--- a candidate of the tag g
-pub record CandidateOf (S : Schema) (o : Owner) (w : List ℕ) (g : ℕ) : Type 0 where
+-- a candidate of the tag g, opened so
+pub record CandidateOf (S : Schema) (o : Owner) (w : List ℕ) (κ : Kind) (g : ℕ) : Type 0 where
   pub type : ℕ
   pub tag : tagOf S type ≡ g
-  pub candidate : Candidate S o w type
+  pub candidate : Candidate S o w κ type
 
-pub opening-move : {S : Schema} {o : Owner} {w : List ℕ} {fs gs : List Frame} {y : Event} {g : ℕ} → Moves S (frame o w ∷ fs) y gs
+pub opening-move : {S : Schema} {o : Owner} {w : List ℕ} {fs gs : List Frame} {y : Event} {κ : Kind} {g : ℕ} → Moves S (frame o w ∷ fs) y gs
     → Suspended S gs
-    → relabelEvent (tagOf S) y ≡ opening g → (c : CandidateOf S o w g) × (y ≡ opening (c .type))
-opening-move (opens {a = j}) s e = (record { type = j; tag = cc; candidate = suspended-candidate s }, refl)
+    → relabelEvent (tagOf S) y ≡ opening κ g → (c : CandidateOf S o w κ g) × (y ≡ opening κ (c .type))
+opening-move {S} {o} {w} {κ = κ} (opens {κ = ν} {a = j}) s e =
+    let kind : ν ≡ κ = cc in (
+      record { type = j; tag = cc; candidate = subst (λ (μ : Kind). Candidate S o w μ j) kind (suspended-candidate s) },
+      λ i. opening (kind i) j,
+    )
 opening-move (closes w) s e = let z : _≡_ {A = ℕ} 0 1 = cc in absurd (omega arith)
 opening-move (ends w) s e = let z : _≡_ {A = ℕ} 0 1 = cc in absurd (omega arith)
 
--- Item 5, openings: e and an opening of g begin a valid document exactly when some type of the tag g can come next.
+-- Item 5, openings: e and an opening of g begin a valid document exactly when some type of the tag g, opened so, can come next.
 pub opening-exactly : {S : Schema} → ¬ Competition S → {e : List Event} {o : Owner} {w : List ℕ} {fs : List Frame}
     → Position S e (frame o w ∷ fs)
-    → (g : ℕ) → Begins S (e ++ (opening g ∷ [])) ↔ CandidateOf S o w g
-opening-exactly {S} free {e} p g = (
+    → (κ : Kind) (g : ℕ) → Begins S (e ++ (opening κ g ∷ [])) ↔ CandidateOf S o w κ g
+opening-exactly {S} free {e} p κ g = (
   λ b.
-      let n = next-move free p (b .valid) (opening g) (b .beginning) in
+      let n = next-move free p (b .valid) (opening κ g) (b .beginning) in
       opening-move (n .moves) (run-suspended (n .run) .suspended) (n .tag) .0,
-  λ c. subst (λ (h : ℕ). Begins S (e ++ (opening h ∷ []))) (c .tag) (position-begins (open-position p (c .candidate))),
+  λ c. subst (λ (h : ℕ). Begins S (e ++ (opening κ h ∷ []))) (c .tag) (position-begins (open-position p (c .candidate))),
 )
 
-one-owner : {S : Schema} {o : Owner} {w : List ℕ} {fs : List Frame} {j k : ℕ} → ¬ Competition S → Grown S (frame o w ∷ fs)
-    → Candidate S o w j → Candidate S o w k
+one-owner : {S : Schema} {o : Owner} {w : List ℕ} {fs : List Frame} {κ : Kind} {j k : ℕ} → ¬ Competition S → Grown S (frame o w ∷ fs)
+    → Candidate S o w κ j → Candidate S o w κ k
     → tagOf S j ≡ tagOf S k → j ≡ k
 one-owner free (grown {o = o} r b g) c d e = ⊎-elim (λ x. absurd (free x)) (λ q. q) (one-candidate o r b c d e)
 
 -- .. and that type is the same for every such document and typing.
 pub opening-given : {S : Schema} → ¬ Competition S → {e : List Event} {o : Owner} {w : List ℕ} {fs : List Frame}
     → Position S e (frame o w ∷ fs)
-    → {j : ℕ} → Candidate S o w j → EveryTypingGives S e (tagOf S j) j
-opening-given {S} free {e} p {j} c d v b =
-    let n = next-move free p v (opening (tagOf S j)) b in
+    → {κ : Kind} {j : ℕ} → Candidate S o w κ j → EveryTypingGives S e κ (tagOf S j) j
+opening-given {S} free {e} p {κ} {j} c d v b =
+    let n = next-move free p v (opening κ (tagOf S j)) b in
     let m = opening-move (n .moves) (run-suspended (n .run) .suspended) (n .tag) in
     let k = m .0 .type in
     let same : k ≡ j = one-owner free (position-grown p) (m .0 .candidate) c (m .0 .tag) in
@@ -85,27 +89,29 @@ opening-given {S} free {e} p {j} c d v b =
     n .types ∙ ap (λ (x : Event). opened (p .events) ++ opened (x ∷ n .rest)) (m .1) in
     rw ts (getD-at (opened (p .events)) k (opened (n .rest)) 0 (openings e) (place-of p) ∙ same)
 
--- Inside an element, a type can come next exactly when it bears a tree and leads from a state that the children so far reach to a live one.
-pub candidate-inside : {S : Schema} {a : ℕ} {w : List ℕ} {j : ℕ} → AllBear S w → Candidate S (own a) w j ↔ Passes S a w j
-candidate-inside b = (λ c. goes-on .0 (candidate-goes-on b c), λ x. goes-on-candidate (goes-on .1 x))
+-- Inside an element opened plainly, a type can come next exactly when it bears a tree opened so and leads from a state that the children so far
+-- reach to a live one.
+pub candidate-inside : {S : Schema} {a : ℕ} {w : List ℕ} {κ : Kind} {j : ℕ} → AllBear S w
+    → Candidate S (own plain a) w κ j ↔ (BearsBy S κ j × Passes S a w j)
+candidate-inside b = (λ c. (c .bears, goes-on .0 (candidate-goes-on b c)), λ x. goes-on-candidate (x .0) (goes-on .1 (x .1)))
 
 -- With nothing open, only a type that the root may have can come, before any child.
-pub candidate-outside : {S : Schema} {w : List ℕ} {j : ℕ} → Candidate S top w j ↔ ((w ≡ []) × IsRoot S j × Bears S j)
+pub candidate-outside : {S : Schema} {w : List ℕ} {κ : Kind} {j : ℕ} → Candidate S top w κ j ↔ ((w ≡ []) × IsRoot S j × BearsBy S κ j)
 candidate-outside = (
   λ c. (root-candidate c .0, root-candidate c .1, c .bears),
   λ x. record { rest = []; fills = rw (x .0) (one-root (x .1)); bears = x .2; bear = none },
 )
 
-closing-move : {S : Schema} {a : ℕ} {w : List ℕ} {fs gs : List Frame} {y : Event} {g : ℕ} → Moves S (frame (own a) w ∷ fs) y gs
-    → relabelEvent (tagOf S) y ≡ closing g → (tagOf S a ≡ g) × Word (blockOf S a) w
+closing-move : {S : Schema} {κ : Kind} {a : ℕ} {w : List ℕ} {fs gs : List Frame} {y : Event} {g : ℕ} → Moves S (frame (own κ a) w ∷ fs) y gs
+    → relabelEvent (tagOf S) y ≡ closing g → (tagOf S a ≡ g) × Content S κ a w
 closing-move opens e = let z : _≡_ {A = ℕ} 0 1 = cc in absurd (omega arith)
 closing-move (closes x) e = (cc, x)
 
 -- Item 5, closings: e and a closing of g begin a valid document exactly when the innermost element has the tag g and its children so far
--- are a word.
-pub closing-exactly : {S : Schema} → ¬ Competition S → {e : List Event} {a : ℕ} {w : List ℕ} {fs : List Frame}
-    → Position S e (frame (own a) w ∷ fs)
-    → (g : ℕ) → Begins S (e ++ (closing g ∷ [])) ↔ ((tagOf S a ≡ g) × Word (blockOf S a) w)
+-- are all of its content.
+pub closing-exactly : {S : Schema} → ¬ Competition S → {e : List Event} {κ : Kind} {a : ℕ} {w : List ℕ} {fs : List Frame}
+    → Position S e (frame (own κ a) w ∷ fs)
+    → (g : ℕ) → Begins S (e ++ (closing g ∷ [])) ↔ ((tagOf S a ≡ g) × Content S κ a w)
 closing-exactly {S} free {e} p g = (
   λ b. let n = next-move free p (b .valid) (closing g) (b .beginning) in closing-move (n .moves) (n .tag),
   λ x. subst (λ (h : ℕ). Begins S (e ++ (closing h ∷ []))) (x .0) (position-begins (close-position p (x .1))),

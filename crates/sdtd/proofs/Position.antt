@@ -4,7 +4,8 @@ use mathlib.Core.Logic.{_⊎_, inl, inr, ⊎-elim}
 use mathlib.Core.List.{List, [], _∷_, _++_, map-append, append-cancel-left}
 use Prim.Native.Nat.{ℕ}
 use lib.ListN.{length}
-use Rattle.sdtd.specs.Schema.{Schema, tagOf, blockOf, Word}
+use Rattle.sdtd.specs.Schema.{Schema, tagOf}
+use Rattle.sdtd.specs.Tree.{Kind, Content}
 use Rattle.sdtd.specs.Document.{Event, opening, closing, finish, openings, Valid, typesOf, Begins}
 use Rattle.sdtd.specs.Trim.{none}
 use Rattle.sdtd.specs.Competition.{Competition}
@@ -60,16 +61,16 @@ moved {S} {y = y} p m s =
       suspended = s;
     }
 
-pub open-position : {S : Schema} {e : List Event} {o : Owner} {w : List ℕ} {fs : List Frame} {j : ℕ} → Position S e (frame o w ∷ fs)
-    → Candidate S o w j
-    → Position S (e ++ (opening (tagOf S j) ∷ [])) (frame (own j) [] ∷ frame o (w ++ (j ∷ [])) ∷ fs)
+pub open-position : {S : Schema} {e : List Event} {o : Owner} {w : List ℕ} {fs : List Frame} {κ : Kind} {j : ℕ}
+    → Position S e (frame o w ∷ fs) → Candidate S o w κ j
+    → Position S (e ++ (opening κ (tagOf S j) ∷ [])) (frame (own κ j) [] ∷ frame o (w ++ (j ∷ [])) ∷ fs)
 open-position p c = moved p opens (candidate-suspended (p .suspended) c)
 
-inner-rest : {S : Schema} {a : ℕ} {w : List ℕ} {fs : List Frame} → Suspended S (frame (own a) w ∷ fs) → Suspended S fs
+inner-rest : {S : Schema} {κ : Kind} {a : ℕ} {w : List ℕ} {fs : List Frame} → Suspended S (frame (own κ a) w ∷ fs) → Suspended S fs
 inner-rest (inner f s) = s
 
-pub close-position : {S : Schema} {e : List Event} {a : ℕ} {w : List ℕ} {fs : List Frame} → Position S e (frame (own a) w ∷ fs)
-    → Word (blockOf S a) w
+pub close-position : {S : Schema} {e : List Event} {κ : Kind} {a : ℕ} {w : List ℕ} {fs : List Frame}
+    → Position S e (frame (own κ a) w ∷ fs) → Content S κ a w
     → Position S (e ++ (closing (tagOf S a) ∷ [])) fs
 close-position p x = moved p (closes x) (inner-rest (p .suspended))
 

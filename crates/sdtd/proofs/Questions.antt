@@ -3,21 +3,20 @@
 use mathlib.Core.Path.{_≡_, refl, sym, ap, subst, _∙_}
 use mathlib.Core.Logic.{_↔_, _≢_, ⊎-elim}
 use mathlib.Core.List.{List, [], _∷_, _++_, map, append-nil, cons≢nil, nil≢cons, head-eq-of-cons-eq, tail-eq-of-cons-eq}
-use mathlib.Core.List.{List·Memᴰ}
-use mathlib.Core.List.{List·Memᴰ·head, List·Memᴰ·tail, List·Memᴰ·cases-cons}
+use mathlib.Core.List.{List·Memᴰ, List·Memᴰ·head, List·Memᴰ·tail, List·Memᴰ·cases-cons, List·Memᴰ·not-nil}
 use Prim.Native.Nat.{ℕ, zero, suc, _<_}
 use native.Mathlib.Omega.{arith}
 use lib.ListN.{length, getD}
+use lib.Dec.{T}
 use Rattle.sdtd.specs.Schema.{Block, Schema, noBlock, blockOf, tagOf, Word}
-use Rattle.sdtd.specs.Tree.{labels}
+use Rattle.sdtd.specs.Tree.{Kind, plain, nil, labels, Content}
 use Rattle.sdtd.specs.Document.{Event, opening, closing, finish, openings, Valid, typeAt, BeginningOf, Begins}
 use Rattle.sdtd.specs.Competition.{Competition}
 use Rattle.sdtd.specs.Reading.{OpenElement, openElements, noElement, NotFinished, depth, innermost, ChildrenFormWord, RootClosed}
-use Rattle.sdtd.proofs.Bearing.{bears-word}
 use Rattle.sdtd.proofs.Trees.{relabelEvent, opened, openings-relabel}
 use Rattle.sdtd.proofs.Machine.{Owner, top, own, OneRoot, Frame, frame, Moves, opens, closes, ends}
 use Rattle.sdtd.proofs.Machine.{Run, halt, move, no-move, start, run-split}
-use Rattle.sdtd.proofs.Machine.{Suspended, outer, suspended-run, run-suspended}
+use Rattle.sdtd.proofs.Machine.{Suspended, outer, inner, suspended-run, run-suspended}
 use Rattle.sdtd.proofs.Typed.{tagged, tagged-cut, run-valid}
 use Rattle.sdtd.proofs.Position.{Position, position, position-begins, end-position, onward-only, onward-types}
 use Rattle.sdtd.proofs.Next.{opening-move, closing-exactly, finish-move}
@@ -81,23 +80,29 @@ position-unfinished p = subst NotFinished (p .tags) (run-unfinished (p .run))
 pub begins-unfinished : {S : Schema} (e : List Event) (x : Event) → Begins S (e ++ (x ∷ [])) → NotFinished e
 begins-unfinished e x b = position-unfinished (last-move e x b .at)
 
--- a number whose block has an accepting state is a type
-pub block-in : (bs : List Block) (n : ℕ) {q : ℕ} → List·Memᴰ q (getD bs n noBlock .accepting)
+-- a number whose block has a property that the block of no type has not is a type
+block-in : (P : Block → Type 0) → ¬ P noBlock → (bs : List Block) (n : ℕ) → P (getD bs n noBlock)
     → (n < length bs) × List·Memᴰ (getD bs n noBlock) bs
-block-in [] n m = elim m [ ]
-block-in (b ∷ bs) zero m = (omega arith, List·Memᴰ·head refl)
-block-in (b ∷ bs) (suc n) m = let r = block-in bs n m in (omega arith, List·Memᴰ·tail (r .1))
+block-in P none [] n h = absurd (none h)
+block-in P none (b ∷ bs) zero h = (omega arith, List·Memᴰ·head refl)
+block-in P none (b ∷ bs) (suc n) h = let r = block-in P none bs n h in (omega arith, List·Memᴰ·tail (r .1))
 
--- the tag of a type with a word is below the count
-word-tag : (S : Schema) → TagsBelow S → (a : ℕ) {w : List ℕ} → Word (blockOf S a) w → tagOf S a < S .tags
-word-tag S below a x = below (blockOf S a) (block-in (S .blocks) a (x .accepting) .1)
+-- so is one with content
+pub content-in : (S : Schema) (κ : Kind) (a : ℕ) (w : List ℕ) → Content S κ a w → (a < length (S .blocks)) × List·Memᴰ (blockOf S a) (S .blocks)
+content-in S plain a w x = block-in (λ (b : Block). Word b w) (λ y. List·Memᴰ·not-nil (y .accepting)) (S .blocks) a x
+content-in S nil a w x = block-in (λ (b : Block). T (b .nillable)) (λ t. t) (S .blocks) a (x .0)
+
+-- its tag is below the count
+content-tag : (S : Schema) → TagsBelow S → (κ : Kind) (a : ℕ) (w : List ℕ) → Content S κ a w → tagOf S a < S .tags
+content-tag S below κ a w x = below (blockOf S a) (content-in S κ a w x .1)
 
 -- Question 13 answered yes: question 12 is answered yes too.
-pub opening-tag : {S : Schema} → TagsBelow S → (e : List Event) (g : ℕ) → Begins S (e ++ (opening g ∷ [])) → g < S .tags
-opening-tag {S} below e g b =
-    let l = last-move e (opening g) b in
+pub opening-tag : {S : Schema} → TagsBelow S → (e : List Event) (κ : Kind) (g : ℕ) → Begins S (e ++ (opening κ g ∷ [])) → g < S .tags
+opening-tag {S} below e κ g b =
+    let l = last-move e (opening κ g) b in
     let c = opening-move (l .moves) (l .suspended) (l .tag) .0 in
-    subst (λ (h : ℕ). h < S .tags) (c .tag) (word-tag S below (c .type) (bears-word (c .candidate .bears) .is-word))
+    let b = c .candidate .bears in
+    subst (λ (h : ℕ). h < S .tags) (c .tag) (content-tag S below κ (c .type) (labels (b .children)) (b .derived .0))
 
 -- The open elements at a position, by the types of any list that begins with the position's.
 elements-of : {S : Schema} {e : List Event} {fs : List Frame} (p : Position S e fs) → NotFinished e → {ts : List ℕ} (r : List ℕ)
@@ -107,29 +112,52 @@ elements-of {S} {e} {fs} p n {ts} r q =
     subst (λ (x : List Event). NotFinished x → Elements S ts (openElements x) fs) (p .tags)
     (λ m. ⊎-elim (λ x. x) (λ f. absurd (m (f .0))) (elements-run [] r (p .run) q outside)) n
 
+-- the types that the position itself gives
+pub own-elements : {S : Schema} {e : List Event} {fs : List Frame} (p : Position S e fs) → NotFinished e
+    → Elements S (opened (p .events)) (openElements e) fs
+own-elements p n = elements-of p n [] (sym (append-nil (opened (p .events))))
+
 -- what the innermost open element is where the innermost frame is an element's
-pub record Innermost (S : Schema) (ts : List ℕ) (xs : List OpenElement) (a : ℕ) (w : List ℕ) : Type 0 where
+pub record Innermost (S : Schema) (ts : List ℕ) (xs : List OpenElement) (κ : Kind) (a : ℕ) (w : List ℕ) : Type 0 where
   pub is-open : 0 < length xs
+  pub kind : getD xs 0 noElement .kind ≡ κ
   pub tag : getD xs 0 noElement .tag ≡ tagOf S a
   pub type : getD ts (getD xs 0 noElement .place) 0 ≡ a
   pub children : map (λ (n : ℕ). getD ts n 0) (getD xs 0 noElement .children) ≡ w
 
-pub innermost-of : {S : Schema} {ts : List ℕ} {xs : List OpenElement} {a : ℕ} {w : List ℕ} {fs : List Frame}
-    → Elements S ts xs (frame (own a) w ∷ fs)
-    → Innermost S ts xs a w
-innermost-of (element g t c m) = record { is-open = omega arith; tag = g; type = t; children = c }
+pub innermost-of : {S : Schema} {ts : List ℕ} {xs : List OpenElement} {κ : Kind} {a : ℕ} {w : List ℕ} {fs : List Frame}
+    → Elements S ts xs (frame (own κ a) w ∷ fs)
+    → Innermost S ts xs κ a w
+innermost-of (element k g t c m) = record { is-open = omega arith; kind = k; tag = g; type = t; children = c }
 
 pub nothing-open : {S : Schema} {ts : List ℕ} {xs : List OpenElement} {w : List ℕ} {fs : List Frame}
     → Elements S ts xs (frame top w ∷ fs) → xs ≡ []
 nothing-open outside = refl
 
+append-nil-left : (v w : List ℕ) → v ++ w ≡ [] → v ≡ []
+append-nil-left [] w e = refl
+append-nil-left (x ∷ v) w e = absurd (cons≢nil e)
+
+-- an open nil element that can be brought to an end has a nillable type and no children
+pub nil-content : {S : Schema} {a : ℕ} {w : List ℕ} {fs : List Frame} → Suspended S (frame (own nil a) w ∷ fs) → Content S nil a w
+nil-content {w = w} (inner f s) = (f .fills .0, append-nil-left w (labels (f .forest)) (f .fills .1))
+
+pub plain-not-nil : plain ≢ nil
+plain-not-nil e = let z : _≡_ {A = ℕ} 0 1 = cc in omega arith
+
 -- Question 17, by the types of the innermost frame.
-pub children-word : {S : Schema} → ¬ Competition S → {e : List Event} {a : ℕ} {w : List ℕ} {fs : List Frame}
-    → Position S e (frame (own a) w ∷ fs)
-    → ChildrenFormWord S e ↔ Word (blockOf S a) w
-children-word {S} free {e} {a} {w} {fs} p = (
-  λ c. let b = position-begins p in given (b .valid) (b .beginning) .0 (c (b .whole) (b .valid) (b .beginning)),
-  λ x d v b. given v b .1 x,
+pub children-word : {S : Schema} → ¬ Competition S → {e : List Event} (κ : Kind) {a : ℕ} {w : List ℕ} {fs : List Frame}
+    → Position S e (frame (own κ a) w ∷ fs)
+    → ChildrenFormWord S e ↔ Content S κ a w
+children-word free nil p =
+    let i = innermost-of (own-elements p (position-unfinished p)) in
+    (λ c. nil-content (p .suspended), λ x k. absurd (plain-not-nil (sym k ∙ i .kind)))
+children-word {S} free {e} plain {a} {w} {fs} p = (
+  λ c.
+      let i = innermost-of (own-elements p (position-unfinished p)) in
+      let b = position-begins p in
+      given (b .valid) (b .beginning) .0 (c (i .kind) (b .whole) (b .valid) (b .beginning)),
+  λ x k d v b. given v b .1 x,
 )
   where
     given : {d : List Event} (v : Valid S d) (b : BeginningOf e d)
@@ -147,14 +175,9 @@ pub record ClosingAsked (S : Schema) (e : List Event) (g : ℕ) : Type 0 where
   pub innermost-tag : innermost e .tag ≡ g
   pub word : ChildrenFormWord S e
 
--- the types that the position itself gives
-pub own-elements : {S : Schema} {e : List Event} {fs : List Frame} (p : Position S e fs) → NotFinished e
-    → Elements S (opened (p .events)) (openElements e) fs
-own-elements p n = elements-of p n [] (sym (append-nil (opened (p .events))))
-
 some-frame : {S : Schema} {ts : List ℕ} {xs : List OpenElement} {fs : List Frame} → Elements S ts xs fs → fs ≢ []
 some-frame outside q = cons≢nil q
-some-frame (element t m n k) q = cons≢nil q
+some-frame (element k t m n l) q = cons≢nil q
 
 -- with no frame left the events are finished
 pub position-finished : {S : Schema} {e : List Event} → Position S e [] → ¬ NotFinished e
@@ -164,24 +187,24 @@ asked-begins : {S : Schema} → ¬ Competition S → {e : List Event} {g : ℕ} 
     → Elements S ts xs fs
     → xs ≡ openElements e → Position S e fs → ClosingAsked S e g → Begins S (e ++ (closing g ∷ []))
 asked-begins free {e} outside q p c = absurd (let k = c .element-open in let z : 0 < 0 = rw (← q) at k in omega arith)
-asked-begins free {g = g} (element {x = x} {xs = xs} t m n k) q p c =
+asked-begins free {g = g} (element {x = x} {xs = xs} {κ = κ} k t m n l) q p c =
     closing-exactly free p g .1
-    (sym t ∙ ap (λ (l : List OpenElement). getD l 0 noElement .tag) q ∙ c .innermost-tag, children-word free p .0 (c .word))
+    (sym t ∙ ap (λ (l : List OpenElement). getD l 0 noElement .tag) q ∙ c .innermost-tag, children-word free κ p .0 (c .word))
 
 begins-asked : {S : Schema} → ¬ Competition S → TagsBelow S
     → {e : List Event} {g : ℕ} {o : Owner} {w : List ℕ} {fs gs : List Frame} {y : Event} → Position S e (frame o w ∷ fs)
     → Moves S (frame o w ∷ fs) y gs → relabelEvent (tagOf S) y ≡ closing g → ClosingAsked S e g
 begins-asked free below p opens q = let z : _≡_ {A = ℕ} 0 1 = cc in absurd (omega arith)
-begins-asked {S} free below {g = g} p (closes {a = a} x) q =
+begins-asked {S} free below {g = g} p (closes {κ = κ} {a = a} {w = w} x) q =
     let n = position-unfinished p in
     let i = innermost-of (own-elements p n) in
     let same : tagOf S a ≡ g = cc in
     record {
       not-finished = n;
-      tag-below = subst (λ (h : ℕ). h < S .tags) same (word-tag S below a x);
+      tag-below = subst (λ (h : ℕ). h < S .tags) same (content-tag S below κ a w x);
       element-open = i .is-open;
       innermost-tag = i .tag ∙ same;
-      word = children-word free p .1 x;
+      word = children-word free κ p .1 x;
     }
 begins-asked free below p (ends x) q = let z : _≡_ {A = ℕ} 0 1 = cc in absurd (omega arith)
 
@@ -197,7 +220,7 @@ closing-begins free below e g b = (
 data RootSeen : List Frame → Type 0 where
   seen-end : RootSeen []
   seen-outside : {a : ℕ} {w : List ℕ} → RootSeen (frame top (a ∷ w) ∷ [])
-  seen-inside : {a : ℕ} {w : List ℕ} {fs : List Frame} → RootSeen fs → RootSeen (frame (own a) w ∷ fs)
+  seen-inside : {κ : Kind} {a : ℕ} {w : List ℕ} {fs : List Frame} → RootSeen fs → RootSeen (frame (own κ a) w ∷ fs)
 
 seen-run : {S : Schema} {fs gs : List Frame} {τ : List Event} → RootSeen fs → Run S fs τ gs → RootSeen gs
 seen-run k halt = k
@@ -206,10 +229,6 @@ seen-run seen-outside (move opens r) = seen-run (seen-inside seen-outside) r
 seen-run seen-outside (move (ends w) r) = seen-run seen-end r
 seen-run (seen-inside k) (move opens r) = seen-run (seen-inside (seen-inside k)) r
 seen-run (seen-inside k) (move (closes w) r) = seen-run k r
-
-append-nil-left : (v w : List ℕ) → v ++ w ≡ [] → v ≡ []
-append-nil-left [] w e = refl
-append-nil-left (x ∷ v) w e = absurd (cons≢nil e)
 
 -- the outside has its one child once the root has been opened
 seen-root : {S : Schema} {w : List ℕ} → RootSeen (frame top w ∷ []) → Suspended S (frame top w ∷ []) → OneRoot S w
@@ -255,7 +274,7 @@ closed-begins : {S : Schema} {e : List Event} {fs : List Frame} {ts : List ℕ} 
     → xs ≡ openElements e → Position S e fs
     → RootClosed e → Begins S (e ++ (finish ∷ []))
 closed-begins outside q p c = position-begins (end-position p (root-closed p .0 c))
-closed-begins (element t m n k) q p c = absurd (let d = ap length q ∙ c .closed in omega arith)
+closed-begins (element k t m n l) q p c = absurd (let d = ap length q ∙ c .closed in omega arith)
 
 -- A finish's questions are answered yes exactly when the events with it begin a valid document.
 pub finish-begins : {S : Schema} (e : List Event) → Begins S e → (NotFinished e × RootClosed e) ↔ Begins S (e ++ (finish ∷ []))

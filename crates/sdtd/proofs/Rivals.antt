@@ -1,4 +1,4 @@
--- Types compete in a useful type exactly if two steps by types of one tag leave a reached pair of states for live states.
+-- Types compete in a useful type exactly if two steps by types of one tag, opened alike, leave a reached pair of states for live states.
 use mathlib.Core.Path.{_≡_, refl, sym}
 use mathlib.Core.Logic.{_↔_, _≢_}
 use mathlib.Core.List.{List, List·Memᴰ}
@@ -7,16 +7,18 @@ use native.Mathlib.Decide.{decLt}
 use native.Mathlib.Omega.{arith}
 use Rattle.sdtd.specs.Schema.{step, Schema, blockOf, tagOf, Leads}
 use Rattle.sdtd.specs.Trim.{Bears, AllBear, Live, Reached, Useful}
-use Rattle.sdtd.specs.Competition.{Compete, CompeteIn}
+use Rattle.sdtd.specs.Competition.{OpenedAlike, Compete, CompeteIn}
+use Rattle.sdtd.proofs.Bearing.{alike-swap}
 use Rattle.sdtd.proofs.Fixpoint.{goes-on, PairReached, PairClosed, pair-complete}
 
--- Steps of the type a by j from p and by k from q: the types have one tag and bear trees, and the steps lead into live states.
+-- Steps of the type a by j from p and by k from q: the types have one tag and bear trees opened alike, and the steps lead into live states.
 pub record RivalSteps (S : Schema) (a p q j k : ℕ) : Type 0 where
   pub next-j : ℕ
   pub next-k : ℕ
   pub step-j : List·Memᴰ (step p j next-j) (blockOf S a .steps)
   pub step-k : List·Memᴰ (step q k next-k) (blockOf S a .steps)
   pub one-tag : tagOf S j ≡ tagOf S k
+  pub alike : OpenedAlike S j k
   pub bears-j : Bears S j
   pub bears-k : Bears S k
   pub live-j : Live S a next-j
@@ -42,6 +44,7 @@ rivals-compete {p = p} {q = q} reached bears left right bear r order =
       bears = bears;
       order = order;
       one-tag = r .one-tag;
+      alike = r .alike;
       goes-on-j =
           goes-on .1
           (record { from = p; to = r .next-j; leads = left; bear = bear; step = r .step-j; by-bearing = r .bears-j; to-live = r .live-j });
@@ -68,6 +71,7 @@ compete-rivals c =
             step-j = x .step;
             step-k = y .step;
             one-tag = c .one-tag;
+            alike = c .alike;
             bears-j = x .by-bearing;
             bears-k = y .by-bearing;
             live-j = x .to-live;
@@ -83,6 +87,7 @@ rivals-swap r =
       step-j = r .step-k;
       step-k = r .step-j;
       one-tag = sym (r .one-tag);
+      alike = alike-swap (r .alike);
       bears-j = r .bears-k;
       bears-k = r .bears-j;
       live-j = r .live-k;

@@ -5,10 +5,10 @@ use mathlib.Core.Bool.{Bool, _&&_}
 use Prim.Native.Nat.{ℕ, _<_}
 use lib.Dec.{ltb, eqb}
 use Rattle.sdtd.specs.Schema.{Schema, tagOf}
-use Rattle.sdtd.specs.Trim.{Bears, SomeRootBears}
-use Rattle.sdtd.specs.Competition.{CompeteOutside}
+use Rattle.sdtd.specs.Trim.{SomeRootBears}
+use Rattle.sdtd.specs.Competition.{OpenedAlike, CompeteOutside}
 use Rattle.sdtd.proofs.Tests.{Means, means-iff, eq-means, lt-means, and-means, Found, any, any-means}
-use Rattle.sdtd.proofs.Decide.{LiveTable, bearsIn, LiveExact}
+use Rattle.sdtd.proofs.Decide.{LiveTable, bearsIn, LiveExact, alikeIn, alike-means}
 
 -- by the table, a root type bears a tree
 abbrev pub someRootBears : Schema → LiveTable → Bool
@@ -21,9 +21,9 @@ some-root-bears-means {S} x =
       λ f. record { type = f .member; is-root = f .given; bears = f .holds },
     )
 
--- j and k are in this order, of one tag, and bear trees
+-- j and k are in this order, of one tag, and bear trees opened alike
 abbrev RivalsOf : Schema → ℕ → ℕ → Type 0
-RivalsOf S j k = ((j < k) × (tagOf S j ≡ tagOf S k)) × (Bears S j × Bears S k)
+RivalsOf S j k = ((j < k) × (tagOf S j ≡ tagOf S k)) × OpenedAlike S j k
 
 -- two root types are so
 abbrev RivalRoots : Schema → Type 0
@@ -36,7 +36,7 @@ rival-roots S = (
       record {
         member = o .first;
         given = c .is-root-j;
-        holds = record { member = o .second; given = c .is-root-k; holds = ((c .order, c .one-tag), (c .bears-j, c .bears-k)) };
+        holds = record { member = o .second; given = c .is-root-k; holds = ((c .order, c .one-tag), c .alike) };
       },
   λ f.
       let g = f .holds in
@@ -50,18 +50,17 @@ rival-roots S = (
               one-tag = h .0 .1;
               is-root-j = f .given;
               is-root-k = g .given;
-              bears-j = h .1 .0;
-              bears-k = h .1 .1;
+              alike = h .1;
             };
       },
 )
 
 abbrev rivalsOf : Schema → LiveTable → ℕ → ℕ → Bool
-rivalsOf S L j k = (ltb j k && eqb (tagOf S j) (tagOf S k)) && (bearsIn S L j && bearsIn S L k)
+rivalsOf S L j k = (ltb j k && eqb (tagOf S j) (tagOf S k)) && alikeIn S L j k
 
 rivals-of-means : {S : Schema} {L : LiveTable} → LiveExact S L → (j k : ℕ) → Means (rivalsOf S L j k) (RivalsOf S j k)
 rivals-of-means {S} x j k =
-    and-means (and-means (lt-means j k) (eq-means (tagOf S j) (tagOf S k))) (and-means (x .bears j) (x .bears k))
+    and-means (and-means (lt-means j k) (eq-means (tagOf S j) (tagOf S k))) (alike-means x j k)
 
 -- by the table, two roots compete
 abbrev pub rivalRoots : Schema → LiveTable → Bool

@@ -8,18 +8,21 @@ use lib.ListN.{length}
 use lib.Dec.{T, lit<, lit≤}
 use Rattle.sdtd.specs.Limits.{mostWord}
 use Rattle.sdtd.specs.Schema.{Schema, blockOf, tagOf, WithinLimits}
-use Rattle.sdtd.specs.Tree.{IsRoot}
+use Rattle.sdtd.specs.Tree.{plain, IsRoot}
 use Rattle.sdtd.specs.Trim.{SomeRootBears, AllBear, none, both, root}
-use Rattle.sdtd.specs.Competition.{GoesOn, Compete, CompeteIn, CompeteOutside, Competition, of-roots, in-type, witnessBytes, by-roots, by-types}
+use Rattle.sdtd.specs.Competition.{GoesOn, Compete, CompeteIn, CompeteOutside, Competition, of-roots, in-type, witnessBytes}
+use Rattle.sdtd.specs.Competition.{noParent, by-roots, by-types}
 use Rattle.sdtd.specs.Competition.{Accepted}
 use Rattle.sdtd.specs.Samples.{schemaR, schemaChoice, schemaNoD, schemaTwoWays, schemaTwoTypes, schemaLastButOne}
 use Rattle.sdtd.specs.Samples.{schemaOptional, schemaEndless, schemaNested, schemaLists, schemaOneTag, schemaTreeless}
+use Rattle.sdtd.specs.Samples.{schemaRacks, schemaByKind, schemaBothNil, schemaRootsByKind, schemaRootsBothNil}
 use Rattle.sdtd.specs.Samples.{witnessChoice, witnessTwoWays, witnessOneTag}
 use Rattle.sdtd.specs.Samples.{refuses-8, refuses-9, Holds}
-use Rattle.sdtd.proofs.Bearing.{word-bears}
+use Rattle.sdtd.proofs.Bearing.{by-bears, shared, word-bears}
 use Rattle.sdtd.proofs.Tests.{Means, itself, and-means, not-means, every}
 use Rattle.sdtd.proofs.Within.{limitsCheck, limits-means}
-use Rattle.sdtd.proofs.Decide.{LiveTable, bearsIn, LiveExact, live-check, acceptsb, accepts-means, restrained, restrained-check}
+use Rattle.sdtd.proofs.Decide.{LiveTable, bearsIn, LiveExact, live-check, alikeIn, alike-means, acceptsb, accepts-means}
+use Rattle.sdtd.proofs.Decide.{restrained, restrained-check}
 use Rattle.sdtd.proofs.Roots.{someRootBears, some-root-bears-means, rivalRoots, rival-roots-means}
 use Rattle.sdtd.proofs.SampleRivals.{ways-only}
 
@@ -105,15 +108,16 @@ goes-on-by-test {S} {L} x a w j u t =
 root-witness : {S : Schema} {L : LiveTable} → LiveExact S L → (j k : ℕ) (w u v : List ℕ)
     → IsRoot S 0 → j < k → tagOf S j ≡ tagOf S k → length w ≤ mostWord
     → ((other : List ℕ) (m n : ℕ) → Compete S 0 other m n → length w ≤ length other)
-    → T (rootsPass S L && (goesOn S L 0 w j u && goesOn S L 0 w k v))
+    → T ((rootsPass S L && alikeIn S L j k) && (goesOn S L 0 w j u && goesOn S L 0 w k v))
     → Holds (refuses-9 S (witnessBytes 0 j k w))
 root-witness {S} {L} x j k w u v is-root order one-tag short least t =
     let goes = and-means (itself (goesOn S L 0 w j u)) (itself (goesOn S L 0 w k v)) in
-    let r = and-means (roots-pass x) goes .says t in
+    let r = and-means (and-means (roots-pass x) (alike-means x j k)) goes .says t in
+    let passed = r .0 .0 in
     let goes-j = goes-on-by-test x 0 w j u (r .1 .0) in (
-      r .0 .0 .0,
-      r .0 .0 .1,
-      by-types (r .0 .1) (record {
+      passed .0 .0,
+      passed .0 .1,
+      by-types (passed .1) (record {
         type = 0;
         first = j;
         second = k;
@@ -121,9 +125,10 @@ root-witness {S} {L} x j k w u v is-root order one-tag short least t =
         compete =
             record {
               reached = root is-root;
-              bears = word-bears 0 (goes-j .word) (goes-j .bear);
+              bears = by-bears plain (word-bears 0 (goes-j .word) (goes-j .bear));
               order = order;
               one-tag = one-tag;
+              alike = r .0 .1;
               goes-on-j = goes-j;
               goes-on-k = goes-on-by-test x 0 w k v (r .1 .1);
             };
@@ -170,23 +175,54 @@ exactTreeless = live-check schemaTreeless ((1, 0) ∷ (2, 0) ∷ (3, 0) ∷ []) 
 pub acceptedTreeless : Accepted schemaTreeless
 acceptedTreeless = accepted exactTreeless [] tt
 
-pub refusedOneTag : Holds (refuses-9 schemaOneTag witnessOneTag)
-refusedOneTag =
-    let x = live-check schemaOneTag liveLists tt in (
-      limits-means schemaOneTag .says tt,
-      some-root-bears-means x .says tt,
+-- the roots j and k compete
+outside-witness : {S : Schema} {L : LiveTable} → LiveExact S L → (j k : ℕ) → IsRoot S j → IsRoot S k → j < k → tagOf S j ≡ tagOf S k
+    → T (limitsCheck S && alikeIn S L j k) → Holds (refuses-9 S (witnessBytes noParent j k []))
+outside-witness {S} {L} x j k is-root-j is-root-k order one-tag t =
+    let r = and-means (limits-means S) (alike-means x j k) .says t in
+    let s = shared (r .1) in (
+      r .0,
+      record { type = j; is-root = is-root-j; bears = by-bears (s .kind) (s .bears-j) },
       by-roots (record {
-        first = 0;
-        second = 1;
-        compete =
-            record {
-              order = lit< tt;
-              one-tag = refl;
-              is-root-j = List·Memᴰ·head refl;
-              is-root-k = List·Memᴰ·tail (List·Memᴰ·head refl);
-              bears-j = x .bears 0 .says tt;
-              bears-k = x .bears 1 .says tt;
-            };
+        first = j;
+        second = k;
+        compete = record { order = order; one-tag = one-tag; is-root-j = is-root-j; is-root-k = is-root-k; alike = r .1 };
         written = refl;
       }),
     )
+
+pub refusedOneTag : Holds (refuses-9 schemaOneTag witnessOneTag)
+refusedOneTag =
+    outside-witness (live-check schemaOneTag liveLists tt) 0 1
+    (List·Memᴰ·head refl) (List·Memᴰ·tail (List·Memᴰ·head refl)) (lit< tt) refl tt
+
+abbrev pub liveRacks : LiveTable
+liveRacks = (0, 0) ∷ (1, 0) ∷ (1, 1) ∷ (2, 0) ∷ []
+
+pub exactRacks : LiveExact schemaRacks liveRacks
+exactRacks = live-check schemaRacks liveRacks tt
+
+pub acceptedRacks : Accepted schemaRacks
+acceptedRacks = accepted exactRacks ([] ∷ ((1, 1) ∷ []) ∷ []) tt
+
+pub exactByKind : LiveExact schemaByKind ((0, 0) ∷ (2, 0) ∷ [])
+exactByKind = live-check schemaByKind ((0, 0) ∷ (2, 0) ∷ []) tt
+
+pub acceptedByKind : Accepted schemaByKind
+acceptedByKind = accepted exactByKind [] tt
+
+pub refusedBothNil : Holds (refuses-9 schemaBothNil witnessChoice)
+refusedBothNil =
+    root-witness (live-check schemaBothNil ((0, 0) ∷ (2, 0) ∷ []) tt)
+    1 2 [] [] [] (List·Memᴰ·head refl) (lit< tt) refl (lit≤ tt) (λ v m n c. omega arith) tt
+
+pub exactRootsByKind : LiveExact schemaRootsByKind ((1, 0) ∷ [])
+exactRootsByKind = live-check schemaRootsByKind ((1, 0) ∷ []) tt
+
+pub acceptedRootsByKind : Accepted schemaRootsByKind
+acceptedRootsByKind = accepted exactRootsByKind [] tt
+
+pub refusedRootsBothNil : Holds (refuses-9 schemaRootsBothNil witnessOneTag)
+refusedRootsBothNil =
+    outside-witness (live-check schemaRootsBothNil ((1, 0) ∷ []) tt) 0 1
+    (List·Memᴰ·head refl) (List·Memᴰ·tail (List·Memᴰ·head refl)) (lit< tt) refl tt

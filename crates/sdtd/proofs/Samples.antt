@@ -1,10 +1,10 @@
--- The starred samples of document 01 hold, and those of several roots.
+-- The starred samples of document 01 hold, those of several roots and those of what is empty on purpose.
 use mathlib.Core.List.{List, []}
 use lib.Dec.{T}
 use Rattle.sdtd.specs.Schema.{Schema}
 use Rattle.sdtd.specs.Competition.{Accepted}
 use Rattle.sdtd.specs.Calls.{Exchange}
-use Rattle.sdtd.specs.Samples.{answers, Holds, HoldAll, starred, nested, wholesaler}
+use Rattle.sdtd.specs.Samples.{answers, Holds, HoldAll, starred, nested, wholesaler, emptyOnPurpose}
 use Rattle.sdtd.proofs.Basics.{_&_}
 use Rattle.sdtd.proofs.Machine.{start}
 use Rattle.sdtd.proofs.Decide.{LiveTable, LiveExact}
@@ -12,6 +12,8 @@ use Rattle.sdtd.proofs.Model.{agrees, calls-agree}
 use Rattle.sdtd.proofs.SampleSchemas.{exactR, acceptedR, acceptedNoD, acceptedTwoTypes, exactLastButOne, acceptedLastButOne}
 use Rattle.sdtd.proofs.SampleSchemas.{exactOptional, acceptedOptional, refusedChoice, refusedTwoWays, bearsNoneEndless}
 use Rattle.sdtd.proofs.SampleSchemas.{exactNested, acceptedNested, exactLists, acceptedLists, exactTreeless, acceptedTreeless, refusedOneTag}
+use Rattle.sdtd.proofs.SampleSchemas.{exactRacks, acceptedRacks, exactByKind, acceptedByKind, refusedBothNil}
+use Rattle.sdtd.proofs.SampleSchemas.{exactRootsByKind, acceptedRootsByKind, refusedRootsBothNil}
 
 answers-hold : {S : Schema} {L : LiveTable} → Accepted S → LiveExact S L → (xs : List Exchange) → T (agrees S L [] start xs)
     → Holds (answers S xs)
@@ -42,4 +44,15 @@ wholesaler-holds =
     & answers-hold acceptedLists exactLists _ tt
     & refusedOneTag
     & answers-hold acceptedTreeless exactTreeless _ tt
+    & tt
+
+-- Racks that are empty on purpose, and types told apart by the kind of their opening.
+pub empty-on-purpose-holds : HoldAll emptyOnPurpose
+empty-on-purpose-holds =
+    answers-hold acceptedRacks exactRacks _ tt
+    & answers-hold acceptedByKind exactByKind _ tt
+    & refusedBothNil
+    & answers-hold acceptedRootsByKind exactRootsByKind _ tt
+    & answers-hold acceptedRootsByKind exactRootsByKind _ tt
+    & refusedRootsBothNil
     & tt

@@ -4,19 +4,19 @@ use mathlib.Core.List.{List, [], _∷_, _++_, map, map-append, append-nil, appen
 use Prim.Native.Nat.{ℕ, suc, _+_}
 use native.Mathlib.Omega.{arith}
 use lib.ListN.{length}
-use Rattle.sdtd.specs.Tree.{Tree, Forest, node, empty, more, relabel, relabelAll, preorder, preorders}
+use Rattle.sdtd.specs.Tree.{Kind, Tree, Forest, node, empty, more, relabel, relabelAll, preorder, preorders}
 use Rattle.sdtd.specs.Document.{Event, opening, closing, finish, stream, streams, document, openings}
 
 -- the event with its number replaced by its image
 abbrev pub relabelEvent : (ℕ → ℕ) → Event → Event
-relabelEvent image (opening a) = opening (image a)
+relabelEvent image (opening κ a) = opening κ (image a)
 relabelEvent image (closing a) = closing (image a)
 relabelEvent image finish = finish
 
 -- the numbers of the openings, in order
 abbrev pub opened : List Event → List ℕ
 opened [] = []
-opened (opening a ∷ e) = a ∷ opened e
+opened (opening κ a ∷ e) = a ∷ opened e
 opened (closing a ∷ e) = opened e
 opened (finish ∷ e) = opened e
 
@@ -33,13 +33,14 @@ record SameForest (f₁ f₂ : Forest) (a b : ℕ) (r₁ r₂ : List Event) : Ty
 
 -- a stream begins with no closing
 stream-opens : (t : Tree) (r : List Event) {b : ℕ} {s : List Event} → stream t ++ r ≡ closing b ∷ s → ⊥
-stream-opens (node a f) r e = let z : _≡_ {A = ℕ} 0 1 = cc in omega arith
+stream-opens (node κ a f) r e = let z : _≡_ {A = ℕ} 0 1 = cc in omega arith
 
 mutual
   same-tree : (t₁ t₂ : Tree) {r₁ r₂ : List Event} → stream t₁ ++ r₁ ≡ stream t₂ ++ r₂ → SameTree t₁ t₂ r₁ r₂
-  same-tree (node a f) (node b g) e =
+  same-tree (node κ a f) (node ν b g) e =
+      let kind : κ ≡ ν = cc in
       let s = same-forest f g (simp append-assoc at (tail-eq-of-cons-eq e)) in
-      record { tree = λ i. node (s .closed i) (s .forest i); rest = s .rest }
+      record { tree = λ i. node (kind i) (s .closed i) (s .forest i); rest = s .rest }
 
   same-forest : (f₁ f₂ : Forest) {a b : ℕ} {r₁ r₂ : List Event}
       → streams f₁ ++ (closing a ∷ r₁) ≡ streams f₂ ++ (closing b ∷ r₂) → SameForest f₁ f₂ a b r₁ r₂
@@ -57,7 +58,7 @@ stream-injective t₁ t₂ e = same-tree t₁ t₂ e .tree
 
 pub openings-append : (e f : List Event) → openings (e ++ f) ≡ openings e + openings f
 openings-append [] f = omega arith
-openings-append (opening g ∷ e) f = omega (arith, openings-append e f)
+openings-append (opening κ g ∷ e) f = omega (arith, openings-append e f)
 openings-append (closing g ∷ e) f = openings-append e f
 openings-append (finish ∷ e) f = openings-append e f
 
@@ -65,7 +66,7 @@ module _ (h : ℕ → ℕ) where
   mutual
     -- the stream of a relabelled tree is the relabelled stream
     pub relabel-stream : (t : Tree) → stream (relabel h t) ≡ map (relabelEvent h) (stream t)
-    relabel-stream (node a f) = rw (map-append, relabel-streams f)
+    relabel-stream (node κ a f) = rw (map-append, relabel-streams f)
 
     relabel-streams : (f : Forest) → streams (relabelAll h f) ≡ map (relabelEvent h) (streams f)
     relabel-streams empty = refl
@@ -76,25 +77,25 @@ module _ (h : ℕ → ℕ) where
 
   pub openings-relabel : (e : List Event) → openings (map (relabelEvent h) e) ≡ openings e
   openings-relabel [] = refl
-  openings-relabel (opening a ∷ e) = ap suc (openings-relabel e)
+  openings-relabel (opening κ a ∷ e) = ap suc (openings-relabel e)
   openings-relabel (closing a ∷ e) = openings-relabel e
   openings-relabel (finish ∷ e) = openings-relabel e
 
 pub opened-append : (a b : List Event) → opened (a ++ b) ≡ opened a ++ opened b
 opened-append [] b = refl
-opened-append (opening x ∷ a) b = ap (λ (l : List ℕ). x ∷ l) (opened-append a b)
+opened-append (opening κ x ∷ a) b = ap (λ (l : List ℕ). x ∷ l) (opened-append a b)
 opened-append (closing x ∷ a) b = opened-append a b
 opened-append (finish ∷ a) b = opened-append a b
 
 pub length-opened : (e : List Event) → length (opened e) ≡ openings e
 length-opened [] = refl
-length-opened (opening a ∷ e) = ap suc (length-opened e)
+length-opened (opening κ a ∷ e) = ap suc (length-opened e)
 length-opened (closing a ∷ e) = length-opened e
 length-opened (finish ∷ e) = length-opened e
 
 mutual
   opened-stream : (t : Tree) → opened (stream t) ≡ preorder t
-  opened-stream (node a f) = simp (opened-append, opened-streams f, append-nil)
+  opened-stream (node κ a f) = simp (opened-append, opened-streams f, append-nil)
 
   opened-streams : (f : Forest) → opened (streams f) ≡ preorders f
   opened-streams empty = refl

@@ -1,7 +1,7 @@
 -- The schema trimmed by right tests is trimmed.
 use mathlib.Core.Path.{_≡_, refl, ap, subst, sym, _∙_}
 use mathlib.Core.Logic.{_↔_, _⊎_, ⊎-elim}
-use mathlib.Core.Bool.{Bool, cond, true, false}
+use mathlib.Core.Bool.{Bool, cond, true, false, _&&_}
 use mathlib.Core.List.{List, [], _∷_, List·Memᴰ, List·Memᴰ·head, List·Memᴰ·tail, List·Memᴰ·cases-cons, List·Memᴰ·not-nil}
 use Prim.Native.Nat.{ℕ, zero, suc, _+_}
 use native.Mathlib.Nat.{add-zero, suc-add, add-suc, zero-add}
@@ -10,7 +10,7 @@ use lib.ListN.{length, getD}
 use Rattle.sdtd.specs.Schema.{Step, Block, Schema, noBlock, blockOf}
 use Rattle.sdtd.specs.Trim.{Bears, Live, Reached, Useful, Trimmed}
 use Rattle.sdtd.specs.Trim.{TypeTests, keepsType, keepsStep, keptSteps, trimAt, trimFrom, trimmedByTests}
-use Rattle.sdtd.proofs.Tests.{Means, and-means}
+use Rattle.sdtd.proofs.Tests.{Means, itself, and-means}
 
 module _ (f : Step → Bool) where
   kept : (xs : List Step) (y : Step) → List·Memᴰ y (keptSteps f xs) → List·Memᴰ y xs × T (f y)
@@ -44,7 +44,7 @@ module _ (t : TypeTests) where
   unfolding trimAt
   trim-none a = by-test (keepsType t a)
     where
-      by-test : (b : Bool) → noBlock ≡ record { tag = 0; states = 0; accepting = cond b [] []; steps = [] }
+      by-test : (b : Bool) → noBlock ≡ record { tag = 0; nillable = b && false; states = 0; accepting = cond b [] []; steps = [] }
       by-test true = refl
       by-test false = refl
 
@@ -88,6 +88,9 @@ module _ {S : Schema} {t : TypeTests} (right : RightTests S t) where
         roots = refl;
         own-tags = λ a. ap (λ (b : Block). b .tag) (trim-block t S a);
         states = λ a. ap (λ (b : Block). b .states) (trim-block t S a);
+        nillable = λ a.
+            let m = and-means (keeps-type-means a) (itself (blockOf S a .nillable)) in
+            rw (trim-block t S a) (λ k. let h = m .says k in (h .1, h .0), λ p. m .passes (p .1, p .0));
         accepting = λ a q. rw (trim-block t S a) (kept-if (keeps-type-means a));
         steps = λ a s.
             rw (trim-block t S a) (

@@ -5,8 +5,8 @@ use mathlib.Core.Logic.{_↔_}
 use mathlib.Core.List.{List, [], _∷_, List·Memᴰ, List·Memᴰ·head, List·Memᴰ·tail}
 use Prim.Native.Nat.{ℕ}
 use Rattle.sdtd.specs.Schema.{step, Schema, blockOf, tagOf, Leads, stay, go, Word}
-use Rattle.sdtd.specs.Tree.{Tree, Forest, node, empty, more, label, labels, relabel, preorder, preorders, Derived, DerivedAll}
-use Rattle.sdtd.specs.Tree.{IsRoot, IsTyping}
+use Rattle.sdtd.specs.Tree.{Kind, plain, nil, Tree, Forest, node, empty, more, label, labels, relabel, preorder, preorders}
+use Rattle.sdtd.specs.Tree.{Content, Derived, DerivedAll, IsRoot, IsTyping}
 use Rattle.sdtd.specs.Document.{Event, document, Valid, SomeValid}
 use Rattle.sdtd.specs.Trim.{SomeRootBears, All, none, both, AllBear, Reached, root, child, Used, Useful, KeptStep, Trimmed}
 use Rattle.sdtd.proofs.Automata.{all-append, all-mem, all-head, all-tail}
@@ -39,14 +39,15 @@ all-of : {P : ℕ → Type 0} (w : List ℕ) → ((j : ℕ) → List·Memᴰ j w
 all-of [] every = none
 all-of (j ∷ w) every = both (every j (List·Memᴰ·head refl)) (all-of w (λ k m. every k (List·Memᴰ·tail m)))
 
--- the children of a derived element of a reached type have reached types
-children-reached : {S : Schema} {a : ℕ} → Reached S a → (f : Forest) → Derived S (node a f) → All (Reached S) (labels f)
-children-reached r f d = all-of (labels f) (λ j m. child r (d .0) (forest-bears f (d .1)) m)
+-- the children of a derived element of a reached type have reached types; a nil element has none
+children-reached : {S : Schema} (κ : Kind) {a : ℕ} → Reached S a → (f : Forest) → Derived S (node κ a f) → All (Reached S) (labels f)
+children-reached plain r f d = all-of (labels f) (λ j m. child r (d .0) (forest-bears f (d .1)) m)
+children-reached {S} nil r f d = subst (λ (w : List ℕ). All (Reached S) w) (sym (d .0 .1)) none
 
 mutual
   -- every element of a derived tree with a reached type at its root has a useful type
   useful-tree : {S : Schema} (t : Tree) → Reached S (label t) → Derived S t → All (Useful S) (preorder t)
-  useful-tree (node a f) r d = both (r, tree-bears (node a f) d) (useful-forest f (children-reached r f d) (d .1))
+  useful-tree (node κ a f) r d = both (r, tree-bears (node κ a f) d) (useful-forest f (children-reached κ r f d) (d .1))
 
   useful-forest : {S : Schema} (f : Forest) → All (Reached S) (labels f) → DerivedAll S f → All (Useful S) (preorders f)
   useful-forest empty rs d = none
@@ -101,10 +102,14 @@ module _ {S S′ : Schema} (trimmed : Trimmed S S′) where
         accepting = trimmed .accepting a _ .1 (word .accepting, u);
       }
 
+  keep-content : (κ : Kind) {a : ℕ} {w : List ℕ} → Useful S a → Content S κ a w → AllBear S w → Content S′ κ a w
+  keep-content plain u word bear = keep-word u word bear
+  keep-content nil {a} u c bear = (trimmed .nillable a .1 (c .0, u), c .1)
+
   mutual
     keep-tree : (t : Tree) → Reached S (label t) → Derived S t → Derived S′ t
-    keep-tree (node a f) r d =
-        (keep-word (r, tree-bears (node a f) d) (d .0) (forest-bears f (d .1)), keep-forest f (children-reached r f d) (d .1))
+    keep-tree (node κ a f) r d =
+        (keep-content κ (r, tree-bears (node κ a f) d) (d .0) (forest-bears f (d .1)), keep-forest f (children-reached κ r f d) (d .1))
 
     keep-forest : (f : Forest) → All (Reached S) (labels f) → DerivedAll S f → DerivedAll S′ f
     keep-forest empty rs d = tt
@@ -119,9 +124,13 @@ module _ {S S′ : Schema} (trimmed : Trimmed S S′) where
   given-word a word =
       record { last = word .last; leads = given-leads a (word .leads); accepting = trimmed .accepting a _ .0 (word .accepting) .0 }
 
+  given-content : (κ : Kind) (a : ℕ) (w : List ℕ) → Content S′ κ a w → Content S κ a w
+  given-content plain a w word = given-word a word
+  given-content nil a w c = (trimmed .nillable a .0 (c .0) .0, c .1)
+
   mutual
     given-tree : (t : Tree) → Derived S′ t → Derived S t
-    given-tree (node a f) d = (given-word a (d .0), given-forest f (d .1))
+    given-tree (node κ a f) d = (given-content κ a (labels f) (d .0), given-forest f (d .1))
 
     given-forest : (f : Forest) → DerivedAll S′ f → DerivedAll S f
     given-forest empty d = tt

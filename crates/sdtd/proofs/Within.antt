@@ -1,4 +1,5 @@
 -- The limits as a check that antt computes; and what follows from them.
+use mathlib.Core.Path.{subst}
 use mathlib.Core.Bool.{Bool, _&&_}
 use mathlib.Core.List.{List, List·Memᴰ}
 use Prim.Native.Nat.{ℕ, _<_}
@@ -7,12 +8,11 @@ use lib.Dec.{leb, ltb}
 use lib.ListN.{length}
 use Rattle.sdtd.specs.Limits.{mostTags, mostTypes, mostRoots, mostStates, mostSteps}
 use Rattle.sdtd.specs.Schema.{Step, Block, Schema, noBlock, blockOf, Leads, stay, go, stepsIn, StepWithin, BlockWithin, WithinLimits}
-use Rattle.sdtd.specs.Tree.{IsRoot}
+use Rattle.sdtd.specs.Tree.{Tree, node, label, labels, IsRoot, Derived}
 use Rattle.sdtd.specs.Trim.{Bears, Live}
 use Rattle.sdtd.proofs.Basics.{getD-member}
 use Rattle.sdtd.proofs.Tests.{Means, means-iff, and-means, lt-means, le-means, every, every-means}
-use Rattle.sdtd.proofs.Bearing.{bears-word}
-use Rattle.sdtd.proofs.Questions.{TagsBelow, block-in}
+use Rattle.sdtd.proofs.Questions.{TagsBelow, content-in}
 
 abbrev stepCheck : ℕ → ℕ → Step → Bool
 stepCheck states types s = ltb (s .from) states && ltb (s .by) types && ltb (s .to) states
@@ -97,8 +97,13 @@ block-within {S} {a} w l = w .blocks (blockOf S a) (getD-member (S .blocks) a no
 
 -- inside the limits a tree-bearing type is below the number of types, and its block is inside the limits
 pub bears-within : {S : Schema} {a : ℕ} → WithinLimits S → Bears S a → (a < length (S .blocks)) × BlockWithin S (blockOf S a)
-bears-within {S} {a} w b =
-    let r = block-in (S .blocks) a (bears-word b .is-word .accepting) in (r .0, w .blocks (blockOf S a) (r .1))
+bears-within {S} w b = subst TypeWithin (b .at-root) (tree-within (b .tree) (b .derived))
+  where
+    TypeWithin : ℕ → Type 0
+    TypeWithin a = (a < length (S .blocks)) × BlockWithin S (blockOf S a)
+
+    tree-within : (t : Tree) → Derived S t → TypeWithin (label t)
+    tree-within (node κ a f) d = let r = content-in S κ a (labels f) (d .0) in (r .0, w .blocks (blockOf S a) (r .1))
 
 first-within : {S : Schema} {b : Block} {q r : ℕ} {w : List ℕ} → BlockWithin S b → Leads b q w r → List·Memᴰ r (b .accepting) → q < b .states
 first-within {r = r} w stay m = w .accepting r m

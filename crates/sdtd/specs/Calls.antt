@@ -5,7 +5,7 @@ use mathlib.Core.List.{List, [], _∷_, _++_, map}
 use Prim.Native.Nat.{ℕ, suc, pred, max, _≤_}
 use Rattle.sdtd.specs.Limits.{mostLevels}
 use Rattle.sdtd.specs.Schema.{Schema}
-use Rattle.sdtd.specs.Tree.{Tree, height, Typing}
+use Rattle.sdtd.specs.Tree.{Kind, Tree, height, Typing}
 use Rattle.sdtd.specs.Document.{Event, opening, closing, finish, document, Valid, typesOf, Begins}
 use Rattle.sdtd.specs.Answer.{Answer, refused, typed, taken}
 use Rattle.sdtd.specs.Reading.{TypeAnswered, Right}
@@ -43,15 +43,15 @@ answersOf xs = map (λ (x : Exchange). x .answer) xs
 -- the answers that give the openings the types, in order, and answer every other event taken
 abbrev pub answersBy : List Event → List ℕ → List Answer
 answersBy [] ts = []
-answersBy (opening g ∷ e) [] = []
-answersBy (opening g ∷ e) (t ∷ ts) = typed t ∷ answersBy e ts
+answersBy (opening κ g ∷ e) [] = []
+answersBy (opening κ g ∷ e) (t ∷ ts) = typed t ∷ answersBy e ts
 answersBy (closing g ∷ e) ts = taken ∷ answersBy e ts
 answersBy (finish ∷ e) ts = taken ∷ answersBy e ts
 
 -- the deepest level that the events open, where n elements are open before them
 abbrev pub deepestFrom : ℕ → List Event → ℕ
 deepestFrom n [] = n
-deepestFrom n (opening g ∷ e) = deepestFrom (suc n) e
+deepestFrom n (opening κ g ∷ e) = deepestFrom (suc n) e
 deepestFrom n (closing g ∷ e) = max n (deepestFrom (pred n) e)
 deepestFrom n (finish ∷ e) = deepestFrom n e
 
@@ -72,7 +72,7 @@ pub record CallMeets (S : Schema) (e : List Event) (x : Event) (a : Answer) : Ty
   -- "A finish is taken exactly when they are a whole one."
   pub finish-exactly : x ≡ finish → IsTaken a ↔ Valid S (e ++ (x ∷ []))
   -- "Each opening taken gets the type that every typing of every valid document with that beginning gives there."
-  pub type-given : (g : ℕ) → x ≡ opening g → IsTaken a → TypeAnswered S e g a
+  pub type-given : (κ : Kind) (g : ℕ) → x ≡ opening κ g → IsTaken a → TypeAnswered S e κ g a
   -- "A refused call answers the number of the first question below that is answered no for the events taken before it and its own"
   pub right : Right S e x a
   -- "10 never comes in such a list."

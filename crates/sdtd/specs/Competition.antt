@@ -5,15 +5,20 @@ use mathlib.Core.List.{List, [], _∷_, _++_}
 use Prim.Native.Nat.{ℕ, _+_, _*_, _/_, _%_, _≤_, _<_, min, max}
 use lib.ListN.{length}
 use Rattle.sdtd.specs.Limits.{mostWord}
-use Rattle.sdtd.specs.Schema.{Schema, blockOf, tagOf, Word, WithinLimits}
-use Rattle.sdtd.specs.Tree.{IsRoot}
-use Rattle.sdtd.specs.Trim.{Bears, SomeRootBears, AllBear, Reached}
+use Rattle.sdtd.specs.Schema.{Schema, blockOf, tagOf, Nillable, Word, WithinLimits}
+use Rattle.sdtd.specs.Tree.{plain, IsRoot}
+use Rattle.sdtd.specs.Trim.{Bears, BearsBy, SomeRootBears, AllBear, Reached}
 
 -- A word of a's automaton over tree-bearing types that begins with w and then j; the rest may be empty.
 pub record GoesOn (S : Schema) (a : ℕ) (w : List ℕ) (j : ℕ) : Type 0 where
   pub rest : List ℕ
   pub word : Word (blockOf S a) (w ++ (j ∷ rest))
   pub bear : AllBear S (w ++ (j ∷ rest))
+
+-- "Two types compete only if both are nillable or both bear a tree opened by 21; for roots likewise."
+pub data OpenedAlike (S : Schema) (j k : ℕ) : Type 0 where
+  both-nillable : Nillable S j → Nillable S k → OpenedAlike S j k
+  both-plain : BearsBy S plain j → BearsBy S plain k → OpenedAlike S j k
 
 -- "Types J < K of one tag compete in a reached type A, which bears a tree, after a word beginning w, if A's automaton has words w J u and
 -- w K v over tree-bearing types. w, u and v may be empty."
@@ -22,6 +27,7 @@ pub record Compete (S : Schema) (a : ℕ) (w : List ℕ) (j k : ℕ) : Type 0 wh
   pub bears : Bears S a
   pub order : j < k
   pub one-tag : tagOf S j ≡ tagOf S k
+  pub alike : OpenedAlike S j k
   pub goes-on-j : GoesOn S a w j
   pub goes-on-k : GoesOn S a w k
 
@@ -32,14 +38,13 @@ pub record CompeteIn (S : Schema) (a : ℕ) : Type 0 where
   pub second : ℕ
   pub compete : Compete S a word first second
 
--- "Tree-bearing roots of one tag compete": J < K
+-- "Tree-bearing roots of one tag compete": J < K, which bear trees opened alike
 pub record RootsCompete (S : Schema) (j k : ℕ) : Type 0 where
   pub order : j < k
   pub one-tag : tagOf S j ≡ tagOf S k
   pub is-root-j : IsRoot S j
   pub is-root-k : IsRoot S k
-  pub bears-j : Bears S j
-  pub bears-k : Bears S k
+  pub alike : OpenedAlike S j k
 
 -- two roots compete: outside every element, before the first opening
 pub record CompeteOutside (S : Schema) : Type 0 where

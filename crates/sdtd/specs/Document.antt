@@ -5,18 +5,18 @@ use mathlib.Core.List.{List, [], _∷_, _++_}
 use Prim.Native.Nat.{ℕ, suc}
 use lib.ListN.{getD}
 use Rattle.sdtd.specs.Schema.{Schema}
-use Rattle.sdtd.specs.Tree.{Tree, Forest, node, empty, more, preorder, Typing}
+use Rattle.sdtd.specs.Tree.{Kind, Tree, Forest, node, empty, more, preorder, Typing}
 
--- One event: an opening or a closing of a tag, or the finish.
+-- One event: an opening of a tag, plainly or as nil, a closing of a tag, or the finish.
 pub data Event : Type 0 where
-  opening : ℕ → Event
+  opening : Kind → ℕ → Event
   closing : ℕ → Event
   finish : Event
 
 -- "the opening of its root, the streams of its children in order, the root's closing"
 abbrev mutual
   pub stream : Tree → List Event
-  stream (node a f) = opening a ∷ (streams f ++ (closing a ∷ []))
+  stream (node κ a f) = opening κ a ∷ (streams f ++ (closing a ∷ []))
 
   pub streams : Forest → List Event
   streams empty = []
@@ -41,7 +41,7 @@ pub record SomeValid (S : Schema) : Type 0 where
 -- how many elements the events open
 abbrev pub openings : List Event → ℕ
 openings [] = 0
-openings (opening g ∷ e) = suc (openings e)
+openings (opening κ g ∷ e) = suc (openings e)
 openings (closing g ∷ e) = openings e
 openings (finish ∷ e) = openings e
 
@@ -65,9 +65,10 @@ pub record Begins (S : Schema) (e : List Event) : Type 0 where
   pub beginning : BeginningOf e whole
 
 -- "Two documents agree in every event through an opening if both are the same list up to and with that opening": an opening of g after e.
-pub record AgreeThrough (e : List Event) (g : ℕ) (d₁ d₂ : List Event) : Type 0 where
-  pub first : BeginningOf (e ++ (opening g ∷ [])) d₁
-  pub second : BeginningOf (e ++ (opening g ∷ [])) d₂
+-- "Two documents agree in an event only if they agree in its kind": in each opening before, and in this one.
+pub record AgreeThrough (e : List Event) (κ : Kind) (g : ℕ) (d₁ d₂ : List Event) : Type 0 where
+  pub first : BeginningOf (e ++ (opening κ g ∷ [])) d₁
+  pub second : BeginningOf (e ++ (opening κ g ∷ [])) d₂
 
 -- "They differ in that element's type if their two typings give the element that it opens different types."
 abbrev pub DifferAt : {S : Schema} {d₁ d₂ : List Event} → List Event → Valid S d₁ → Valid S d₂ → Type 0
@@ -81,10 +82,11 @@ pub record Ambiguous (S : Schema) : Type 0 where
   pub valid₁ : Valid S document₁
   pub valid₂ : Valid S document₂
   pub before : List Event
+  pub kind : Kind
   pub tag : ℕ
-  pub agree : AgreeThrough before tag document₁ document₂
+  pub agree : AgreeThrough before kind tag document₁ document₂
   pub differ : DifferAt before valid₁ valid₂
 
--- Demand 3: "the type that every typing of every valid document with that beginning gives there" is j, for an opening of g after e.
-abbrev pub EveryTypingGives : Schema → List Event → ℕ → ℕ → Type 0
-EveryTypingGives S e g j = (d : List Event) (v : Valid S d) → BeginningOf (e ++ (opening g ∷ [])) d → typeAt v (openings e) ≡ j
+-- Demand 3: "the type that every typing of every valid document with that beginning gives there" is j, for an opening of g, of this kind, after e.
+abbrev pub EveryTypingGives : Schema → List Event → Kind → ℕ → ℕ → Type 0
+EveryTypingGives S e κ g j = (d : List Event) (v : Valid S d) → BeginningOf (e ++ (opening κ g ∷ [])) d → typeAt v (openings e) ≡ j

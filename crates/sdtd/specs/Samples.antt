@@ -1,10 +1,12 @@
 -- Document 01, "Samples from the boot wall": the starred samples, as schemas and lists of calls, and one statement over the group. Beside them
--- document 02's wholesaler.
+-- document 02's wholesaler and what is empty on purpose.
+use mathlib.Core.Bool.{true, false}
 use mathlib.Core.List.{List, [], _∷_, _++_}
 use Prim.Native.Nat.{ℕ}
 use lib.ListN.{replicate}
 use Rattle.sdtd.specs.Limits.{mostLevels}
 use Rattle.sdtd.specs.Schema.{Step, step, Block, Schema, WithinLimits}
+use Rattle.sdtd.specs.Tree.{plain, nil}
 use Rattle.sdtd.specs.Document.{Event, opening, closing, finish}
 use Rattle.sdtd.specs.Trim.{SomeRootBears}
 use Rattle.sdtd.specs.Competition.{Witness, Accepted}
@@ -32,7 +34,7 @@ HoldAll (s ∷ ss) = Holds s × HoldAll ss
 
 -- a type: its tag, the number of its states, the accepting ones, and its steps, as document 01 writes them, from-type-to
 abbrev block : ℕ → ℕ → List ℕ → List Step → Block
-block g n accepting steps = record { tag = g; states = n; accepting = accepting; steps = steps }
+block g n accepting steps = record { tag = g; nillable = false; states = n; accepting = accepting; steps = steps }
 
 -- a type whose only word is the empty one
 abbrev leaf : ℕ → Block
@@ -101,7 +103,7 @@ schemaNested = schema 1 (block 0 1 (0 ∷ []) (step 0 0 0 ∷ []) ∷ [])
 
 -- "64 openings taken, the next 14": not starred, stated beside the group for the number of levels
 abbrev pub nested : Sample
-nested = answers schemaNested (replicate mostLevels (says (opening 0) (typed 0)) ++ (says (opening 0) (refused 14) ∷ []))
+nested = answers schemaNested (replicate mostLevels (says (opening plain 0) (typed 0)) ++ (says (opening plain 0) (refused 14) ∷ []))
 
 -- "witness `00 01 02 00 00`"
 abbrev pub witnessChoice : List ℕ
@@ -141,34 +143,94 @@ witnessOneTag = 0xff ∷ 0x00 ∷ 0x01 ∷ 0x00 ∷ 0x00 ∷ []
 abbrev pub wholesaler : List Sample
 wholesaler =
     answers schemaLists
-    (says (opening 0) (typed 0)
-    ∷ says (opening 2) (typed 2) ∷ says (closing 2) taken
-    ∷ says (closing 0) taken ∷ says (opening 1) (refused 13) ∷ says finish taken ∷ []
+    (says (opening plain 0) (typed 0)
+    ∷ says (opening plain 2) (typed 2) ∷ says (closing 2) taken
+    ∷ says (closing 0) taken ∷ says (opening plain 1) (refused 13) ∷ says finish taken ∷ []
     )
     ∷ answers schemaLists
-    (says (opening 2) (refused 13) ∷ says (opening 1) (typed 1)
-    ∷ says (opening 2) (typed 3) ∷ says (closing 2) taken
+    (says (opening plain 2) (refused 13) ∷ says (opening plain 1) (typed 1)
+    ∷ says (opening plain 2) (typed 3) ∷ says (closing 2) taken
     ∷ says (closing 1) taken ∷ says finish taken ∷ []
     )
     ∷ refuses-9 schemaOneTag witnessOneTag
-    ∷ answers schemaTreeless (says (opening 0) (typed 1) ∷ says (closing 0) taken ∷ says finish taken ∷ []) ∷ []
+    ∷ answers schemaTreeless (says (opening plain 0) (typed 1) ∷ says (closing 0) taken ∷ says finish taken ∷ []) ∷ []
+
+-- Document 02, Req 05: the type with NIL in its block
+abbrev withNil : Block → Block
+withNil b = record { tag = b .tag; nillable = true; states = b .states; accepting = b .accepting; steps = b .steps }
+
+-- a nillable type that has no word: all its elements are nil
+abbrev onlyNil : ℕ → Block
+onlyNil g = withNil (block g 1 [] [])
+
+-- a wall, type 0, of racks of tag 1 with one boot each, of tag 2; a rack may be empty on purpose
+abbrev pub schemaRacks : Schema
+schemaRacks = schema 3 (listOf 0 1 ∷ withNil (block 1 2 (1 ∷ []) (step 0 2 1 ∷ [])) ∷ leaf 2 ∷ [])
+
+-- a list of elements of tag 1, of types 1 and 2
+abbrev eitherOf : Block → Block → Schema
+eitherOf b c = schema 2 (block 0 1 (0 ∷ []) (step 0 1 0 ∷ step 0 2 0 ∷ []) ∷ b ∷ c ∷ [])
+
+-- type 1 is opened only as nil, type 2 only plainly
+abbrev pub schemaByKind : Schema
+schemaByKind = eitherOf (onlyNil 1) (leaf 1)
+
+-- both are nillable
+abbrev pub schemaBothNil : Schema
+schemaBothNil = eitherOf (onlyNil 1) (withNil (leaf 1))
+
+-- two types of tag 0, both roots
+abbrev twoRoots : Block → Block → Schema
+twoRoots b c = record { tags = 1; blocks = b ∷ c ∷ []; roots = 0 ∷ 1 ∷ [] }
+
+-- type 0 is opened only as nil, type 1 only plainly
+abbrev pub schemaRootsByKind : Schema
+schemaRootsByKind = twoRoots (onlyNil 0) (leaf 0)
+
+-- both are nillable
+abbrev pub schemaRootsBothNil : Schema
+schemaRootsBothNil = twoRoots (onlyNil 0) (withNil (leaf 0))
+
+-- A nil element has no children and closes at once; an element of its type that is opened plainly is asked for its word. Types of one tag that no
+-- event opens alike are told apart by the event; two that are both nillable compete; so do roots.
+abbrev pub emptyOnPurpose : List Sample
+emptyOnPurpose =
+    answers schemaRacks
+    (says (opening plain 0) (typed 0)
+    ∷ says (opening nil 1) (typed 1) ∷ says (opening plain 2) (refused 13) ∷ says (opening nil 2) (refused 13)
+    ∷ says (closing 2) (refused 16) ∷ says (closing 1) taken
+    ∷ says (opening plain 1) (typed 1) ∷ says (closing 1) (refused 17)
+    ∷ says (opening nil 2) (refused 13) ∷ says (opening plain 2) (typed 2) ∷ says (closing 2) taken ∷ says (closing 1) taken
+    ∷ says (closing 0) taken ∷ says finish taken ∷ []
+    )
+    ∷ answers schemaByKind
+    (says (opening nil 0) (refused 13) ∷ says (opening plain 0) (typed 0)
+    ∷ says (opening nil 1) (typed 1) ∷ says (closing 1) taken ∷ says (opening plain 1) (typed 2) ∷ says (closing 1) taken ∷ []
+    )
+    ∷ refuses-9 schemaBothNil witnessChoice
+    ∷ answers schemaRootsByKind
+    (says (opening nil 0) (typed 0) ∷ says finish (refused 18) ∷ says (closing 0) taken ∷ says (opening plain 0) (refused 13)
+    ∷ says finish taken ∷ []
+    )
+    ∷ answers schemaRootsByKind (says (opening plain 0) (typed 1) ∷ says (closing 0) taken ∷ says finish taken ∷ [])
+    ∷ refuses-9 schemaRootsBothNil witnessOneTag ∷ []
 
 -- The starred samples, in document 01's order. Where a sample names elements a, b, c their tags are 1, 2, 3; the root's is 0.
 abbrev pub starred : List Sample
 starred =
     -- "R above: types 0 1 2 3"
     answers schemaR
-    (says (opening 0) (typed 0)
-    ∷ says (opening 1) (typed 1) ∷ says (closing 1) taken
-    ∷ says (opening 2) (typed 2) ∷ says (closing 2) taken
-    ∷ says (opening 1) (typed 3) ∷ says (closing 1) taken
+    (says (opening plain 0) (typed 0)
+    ∷ says (opening plain 1) (typed 1) ∷ says (closing 1) taken
+    ∷ says (opening plain 2) (typed 2) ∷ says (closing 2) taken
+    ∷ says (opening plain 1) (typed 3) ∷ says (closing 1) taken
     ∷ says (closing 0) taken ∷ says finish taken ∷ []
     )
     -- "R, events `21 00 22 00`: 17 at 2." The place is the event file's.
-    ∷ answers schemaR (says (opening 0) (typed 0) ∷ says (closing 0) (refused 17) ∷ [])
+    ∷ answers schemaR (says (opening plain 0) (typed 0) ∷ says (closing 0) (refused 17) ∷ [])
     -- "R, a second opening of tag 2: 13"
     ∷ answers schemaR
-    (says (opening 0) (typed 0) ∷ says (opening 2) (typed 2) ∷ says (closing 2) taken ∷ says (opening 2) (refused 13) ∷ [])
+    (says (opening plain 0) (typed 0) ∷ says (opening plain 2) (typed 2) ∷ says (closing 2) taken ∷ says (opening plain 2) (refused 13) ∷ [])
     -- "9"
     ∷ refuses-9 schemaChoice witnessChoice
     -- "The same, d without an accepting state: accepted."
@@ -179,16 +241,16 @@ starred =
     ∷ accepts schemaTwoTypes
     -- "accepted; one child a, then closing: 17"
     ∷ answers schemaLastButOne
-    (says (opening 0) (typed 0) ∷ says (opening 1) (typed 1) ∷ says (closing 1) taken ∷ says (closing 0) (refused 17) ∷ [])
+    (says (opening plain 0) (typed 0) ∷ says (opening plain 1) (typed 1) ∷ says (closing 1) taken ∷ says (closing 0) (refused 17) ∷ [])
     -- "children b b c b a c get b1 b1 c1 b1 a2 c1"
     ∷ answers schemaOptional
-    (says (opening 0) (typed 0)
-    ∷ says (opening 2) (typed 2) ∷ says (closing 2) taken
-    ∷ says (opening 2) (typed 2) ∷ says (closing 2) taken
-    ∷ says (opening 3) (typed 3) ∷ says (closing 3) taken
-    ∷ says (opening 2) (typed 2) ∷ says (closing 2) taken
-    ∷ says (opening 1) (typed 4) ∷ says (closing 1) taken
-    ∷ says (opening 3) (typed 3) ∷ says (closing 3) taken
+    (says (opening plain 0) (typed 0)
+    ∷ says (opening plain 2) (typed 2) ∷ says (closing 2) taken
+    ∷ says (opening plain 2) (typed 2) ∷ says (closing 2) taken
+    ∷ says (opening plain 3) (typed 3) ∷ says (closing 3) taken
+    ∷ says (opening plain 2) (typed 2) ∷ says (closing 2) taken
+    ∷ says (opening plain 1) (typed 4) ∷ says (closing 1) taken
+    ∷ says (opening plain 3) (typed 3) ∷ says (closing 3) taken
     ∷ says (closing 0) taken ∷ says finish taken ∷ []
     )
     -- "8"

@@ -1,6 +1,8 @@
 -- Schemas, content automata and their words: document 01, "Schemas and valid trees"; source document 000, definitions 1 and 2.
+use mathlib.Core.Bool.{Bool, false}
 use mathlib.Core.List.{List, [], _∷_, List·Memᴰ}
 use Prim.Native.Nat.{ℕ, _+_, _≤_, _<_}
+use lib.Dec.{T}
 use lib.ListN.{length, getD}
 use Rattle.sdtd.specs.Limits.{mostTags, mostTypes, mostRoots, mostStates, mostSteps}
 
@@ -15,9 +17,10 @@ abbrev pub step : ℕ → ℕ → ℕ → Step
 step p j q = record { from = p; by = j; to = q }
 
 -- "Each type has one tag and one content automaton: 1 to 32 states, start state 0, some accepting states, steps".
--- The list of steps may hold several from one state that carry one type.
+-- The list of steps may hold several from one state that carry one type. "Command 15 NIL in a type's block [..] makes it nillable".
 pub record Block : Type 0 where
   pub tag : ℕ
+  pub nillable : Bool
   pub states : ℕ
   pub accepting : List ℕ
   pub steps : List Step
@@ -30,9 +33,9 @@ pub record Schema : Type 0 where
   pub blocks : List Block
   pub roots : List ℕ
 
--- what stands for the block of a number that is no type: it has no word
+-- what stands for the block of a number that is no type: it has no word and is not nillable
 abbrev pub noBlock : Block
-noBlock = record { tag = 0; states = 0; accepting = []; steps = [] }
+noBlock = record { tag = 0; nillable = false; states = 0; accepting = []; steps = [] }
 
 -- the block of the type a
 abbrev pub blockOf : Schema → ℕ → Block
@@ -41,6 +44,10 @@ blockOf S a = getD (S .blocks) a noBlock
 -- the tag of the type a
 abbrev pub tagOf : Schema → ℕ → ℕ
 tagOf S a = (blockOf S a) .tag
+
+-- the type a is nillable: an element of it may be empty on purpose
+abbrev pub Nillable : Schema → ℕ → Type 0
+Nillable S a = T (blockOf S a .nillable)
 
 -- The types of the list lead, step by step, from the state p to the state q: a run of the automaton.
 pub data Leads (b : Block) : ℕ → List ℕ → ℕ → Type 0 where

@@ -1,19 +1,25 @@
--- Document 01, "Trimming". "Useless types stay in the file and keep their numbers": nothing here renumbers.
+-- Document 01, "Trimming", and document 02, Req 05. "Useless types stay in the file and keep their numbers": nothing here renumbers.
 use mathlib.Core.Path.{_≡_}
 use mathlib.Core.Logic.{_↔_}
 use mathlib.Core.Bool.{Bool, cond, _&&_}
 use mathlib.Core.List.{List, [], _∷_, List·Memᴰ}
 use Prim.Native.Nat.{ℕ, suc}
 use lib.ListN.{length}
-use Rattle.sdtd.specs.Schema.{Step, Block, Schema, blockOf, tagOf, Accepts, Word}
-use Rattle.sdtd.specs.Tree.{Tree, label, IsRoot, Derived}
+use Rattle.sdtd.specs.Schema.{Step, Block, Schema, blockOf, tagOf, Nillable, Accepts, Word}
+use Rattle.sdtd.specs.Tree.{Kind, Tree, Forest, node, label, IsRoot, Derived}
 use Rattle.sdtd.specs.Document.{Event, Valid, typesOf}
 
--- "A type bears a tree if some finite tree is typed with it at its root." The field calls such a type productive.
+-- "A type bears a tree if some finite tree is typed with it at its root." The field calls such a type productive. The tree may be opened
+-- either way: "A nillable type bears a tree."
 pub record Bears (S : Schema) (a : ℕ) : Type 0 where
   pub tree : Tree
   pub at-root : label tree ≡ a
   pub derived : Derived S tree
+
+-- the type bears a tree opened so: "a tree opened by 21", or a nil element
+pub record BearsBy (S : Schema) (κ : Kind) (a : ℕ) : Type 0 where
+  pub children : Forest
+  pub derived : Derived S (node κ a children)
 
 -- "The root question (8) holds if any root bears a tree."
 pub record SomeRootBears (S : Schema) : Type 0 where
@@ -69,6 +75,7 @@ pub record Trimmed (S S′ : Schema) : Type 0 where
   pub roots : S′ .roots ≡ S .roots
   pub own-tags : (a : ℕ) → tagOf S′ a ≡ tagOf S a
   pub states : (a : ℕ) → blockOf S′ a .states ≡ blockOf S a .states
+  pub nillable : (a : ℕ) → Nillable S′ a ↔ (Nillable S a × Useful S a)
   pub accepting : (a q : ℕ) → List·Memᴰ q (blockOf S′ a .accepting) ↔ (List·Memᴰ q (blockOf S a .accepting) × Useful S a)
   pub steps : (a : ℕ) (s : Step) → List·Memᴰ s (blockOf S′ a .steps) ↔ KeptStep S a s
 
@@ -96,6 +103,7 @@ unfoldable pub trimAt : TypeTests → ℕ → Block → Block
 trimAt t a b =
     record {
       tag = b .tag;
+      nillable = keepsType t a && b .nillable;
       states = b .states;
       accepting = cond (keepsType t a) (b .accepting) [];
       steps = keptSteps (keepsStep t a) (b .steps);

@@ -8,6 +8,7 @@ use native.Mathlib.Omega.{arith}
 use lib.Dec.{eqb}
 use lib.ListN.{length}
 use Rattle.sdtd.specs.Schema.{Schema}
+use Rattle.sdtd.specs.Tree.{plain, nil}
 use Rattle.sdtd.specs.Document.{Event, opening, closing, finish}
 use Rattle.sdtd.specs.Answer.{Question, Ordered, Answer, refused, typed, taken, Verdict}
 use Rattle.sdtd.specs.Reading.{TakenAnswer, Right}
@@ -39,7 +40,7 @@ ordered-has Q P (q ∷ qs) h k (inl o) = subst Q (sym (o .1)) (h .0)
 ordered-has Q P (q ∷ qs) h k (inr o) = ordered-has Q P qs (h .1) k (o .1)
 
 abbrev IsOpening : Event → Type 0
-IsOpening (opening g) = Unit
+IsOpening (opening κ g) = Unit
 IsOpening (closing g) = ⊥
 IsOpening finish = ⊥
 
@@ -51,10 +52,10 @@ CanAnswer least x taken = Unit
 
 -- what a call can answer under any schema
 call-answer : (S : Schema) (r : Reading) (x : Event) (n : Next) → CallMeans S r x n → CanAnswer 10 x (answerOf (n .answer))
-call-answer S r (opening g) n m =
-    ordered-has (λ (n : Next). CanAnswer 10 (opening g) (answerOf (n .answer))) (TakenBy S r (opening g)) (questions S r (opening g))
+call-answer S r (opening κ g) n m =
+    ordered-has (λ (n : Next). CanAnswer 10 (opening κ g) (answerOf (n .answer))) (TakenBy S r (opening κ g)) (questions S r (opening κ g))
     (omega arith, (omega arith, (omega arith, (omega arith, (omega arith, tt)))))
-    (λ t. subst (λ (n : Next). CanAnswer 10 (opening g) (answerOf (n .answer))) (sym (t .next)) tt) m
+    (λ t. subst (λ (n : Next). CanAnswer 10 (opening κ g) (answerOf (n .answer))) (sym (t .next)) tt) m
 call-answer S r (closing g) n m =
     ordered-has (λ (n : Next). CanAnswer 10 (closing g) (answerOf (n .answer))) (TakenBy S r (closing g)) (questions S r (closing g))
     (omega arith, (omega arith, (omega arith, (omega arith, (omega arith, (omega arith, tt))))))
@@ -66,10 +67,10 @@ call-answer S r finish n m =
 
 -- what a right answer can be: 10 is none
 right-answer : (S : Schema) (e : List Event) (x : Event) (a : Answer) → Right S e x a → CanAnswer 11 x a
-right-answer S e (opening g) a m =
-    ordered-has (CanAnswer 11 (opening g)) (TakenAnswer S e (opening g)) (questionsAfter S e (opening g))
+right-answer S e (opening κ g) a m =
+    ordered-has (CanAnswer 11 (opening κ g)) (TakenAnswer S e (opening κ g)) (questionsAfter S e (opening κ g))
     (omega arith, (omega arith, (omega arith, (omega arith, tt))))
-    (λ t. subst (CanAnswer 11 (opening g)) (sym (t .answer)) tt) m
+    (λ t. subst (CanAnswer 11 (opening κ g)) (sym (t .answer)) tt) m
 right-answer S e (closing g) a m =
     ordered-has (CanAnswer 11 (closing g)) (TakenAnswer S e (closing g)) (questionsAfter S e (closing g))
     (omega arith, (omega arith, (omega arith, (omega arith, (omega arith, tt)))))
@@ -88,9 +89,9 @@ FewTypes es cs = (level : ℕ) → length (typesGiven cs) ≤ length (outline le
 
 one-more : (least : ℕ) (x : Event) (es : Events) (a : Answer) (at : ℕ) (cs : List TakenCall) → CanAnswer least x a → FewTypes es cs
     → FewTypes (event x es) (takenCall at x a ∷ cs)
-one-more least (opening g) es (refused n) at cs c later level = omega (arith, later (suc level))
-one-more least (opening g) es (typed j) at cs c later level = omega (arith, later (suc level))
-one-more least (opening g) es taken at cs c later level = omega (arith, later (suc level))
+one-more least (opening κ g) es (refused n) at cs c later level = omega (arith, later (suc level))
+one-more least (opening κ g) es (typed j) at cs c later level = omega (arith, later (suc level))
+one-more least (opening κ g) es taken at cs c later level = omega (arith, later (suc level))
 one-more least (closing g) es (refused n) at cs c later level = later (shallower level)
 one-more least (closing g) es (typed j) at cs c later level = absurd c
 one-more least (closing g) es taken at cs c later level = later (shallower level)
@@ -153,9 +154,10 @@ half-from : (file : List ℕ) → Half (eventsOf file) (length file)
 half-from [] level = omega arith
 half-from (b ∷ []) level = half-test (eqb b 0x2f) (event finish ends) stray (λ l. omega arith) (λ l. omega arith) level
 half-from (b ∷ (g ∷ rest)) level =
-    half-test (eqb b 0x21) (event (opening g) (eventsOf rest)) _ (λ l. omega (arith, half-from rest (suc l)))
+    half-test (eqb b 0x21) (event (opening plain g) (eventsOf rest)) _ (λ l. omega (arith, half-from rest (suc l)))
     (half-test (eqb b 0x22) (event (closing g) (eventsOf rest)) _ (λ l. omega (arith, half-from rest (shallower l)))
-    (half-test (eqb b 0x2f) (event finish (eventsOf (g ∷ rest))) stray (λ l. omega (arith, half-from (g ∷ rest) l)) (λ l. omega arith)))
+    (half-test (eqb b 0x23) (event (opening nil g) (eventsOf rest)) _ (λ l. omega (arith, half-from rest (suc l)))
+    (half-test (eqb b 0x2f) (event finish (eventsOf (g ∷ rest))) stray (λ l. omega (arith, half-from (g ∷ rest) l)) (λ l. omega arith))))
     level
 
 -- An event file has at most one opening for every two of its bytes.

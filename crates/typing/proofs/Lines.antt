@@ -43,8 +43,8 @@ module _ (S : Schema) (r : Reading) (n : Next) where
 
   -- what a call that refuses nothing answers and hands back
   called-taken : (x : Event) → ((k : ℕ) → ¬ (n ≡ gives (Refused k) r)) → CallMeans S r x n → TakenBy S r x n
-  called-taken (opening g) none m =
-      ordered-taken (TakenBy S r (opening g)) (questions S r (opening g)) (none 10, (none 11, (none 12, (none 13, (none 14, tt))))) m .1
+  called-taken (opening κ g) none m =
+      ordered-taken (TakenBy S r (opening κ g)) (questions S r (opening κ g)) (none 10, (none 11, (none 12, (none 13, (none 14, tt))))) m .1
   called-taken (closing g) none m =
       ordered-taken (TakenBy S r (closing g)) (questions S r (closing g)) (none 10, (none 11, (none 12, (none 15, (none 16, (none 17, tt)))))) m .1
   called-taken finish none m = ordered-taken (TakenBy S r finish) (questions S r finish) (none 10, (none 11, (none 18, tt))) m .1
@@ -52,8 +52,8 @@ module _ (S : Schema) (r : Reading) (n : Next) where
   -- only an opening is given a type, and one of its tag
   typed-line : (x : Event) (es : Events) (level : ℕ) {j : TypeNo} (us : List ℕ) → CallMeans S r x n → n .answer ≡ Typed j
       → ((l : ℕ) → Tags S us (outline l es)) → Tags S (j .0 ∷ us) (outline level (event x es))
-  typed-line (opening g) es level {j} us m e later =
-      let t : OpeningTaken S r g n = called-taken (opening g) (typed-none e) m in
+  typed-line (opening κ g) es level {j} us m e later =
+      let t : OpeningTaken S r κ g n = called-taken (opening κ g) (typed-none e) m in
       let p : n .answer ≡ Typed (typeNo (t .type)) = ap (λ (m : Next). m .answer) (t .next) in
       let q : Typed (typeNo (t .type)) ≡ Typed j = sym p ∙ e in
       let same : t .type ≡ j .0 = cc in
@@ -66,8 +66,8 @@ module _ (S : Schema) (r : Reading) (n : Next) where
   -- an event that is taken with no type is no opening
   other-lines : (x : Event) (es : Events) (level : ℕ) (ts : List ℕ) → CallMeans S r x n → n .answer ≡ Taken
       → ((l : ℕ) → Tags S ts (outline l es)) → Tags S ts (outline level (event x es))
-  other-lines (opening g) es level ts m e later =
-      let t : OpeningTaken S r g n = called-taken (opening g) (taken-none e) m in
+  other-lines (opening κ g) es level ts m e later =
+      let t : OpeningTaken S r κ g n = called-taken (opening κ g) (taken-none e) m in
       typed-taken (ap (λ (m : Next). m .answer) (t .next)) e
   other-lines (closing g) es level ts m e later = later (shallower level)
   other-lines finish es level ts m e later = later level

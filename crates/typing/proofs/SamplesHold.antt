@@ -1,13 +1,14 @@
--- The starred samples of document 01 hold, from the bytes of their files.
+-- The starred samples of document 01, and those of nil elements, hold, from the bytes of their files.
 use mathlib.Core.Path.{_≡_, refl}
 use native.Mathlib.Omega.{arith}
 use Rattle.sdtd.proofs.Basics.{_&_}
-use Rattle.sdtd.proofs.SampleSchemas.{exactR, acceptedR, exactLastButOne, acceptedLastButOne, exactOptional, acceptedOptional}
-use Rattle.schema_file.specs.Samples.{fileR, fileChoice, fileNoD, fileTwoWays, fileTwoTypes, fileLastButOne, fileOptional, fileEndless}
+use Rattle.sdtd.proofs.SampleSchemas.{exactR, acceptedR, exactLastButOne, acceptedLastButOne, exactOptional, acceptedOptional, exactRacks, acceptedRacks}
+use Rattle.schema_file.specs.Samples.{fileR, fileChoice, fileNoD, fileTwoWays, fileTwoTypes, fileLastButOne, fileOptional, fileEndless, fileRacks, fileRacksWritten}
 use Rattle.sdtd.specs.declared.Verdict.the-variants.{Fine, RefusedAt}
 use Rattle.sdtd.proofs.Verdicts.{other-number, refused-not-fine}
-use Rattle.schema_file.proofs.FileSamples.{files-state, starred-files-hold}
+use Rattle.schema_file.proofs.FileSamples.{files-state, starred-files-hold, racks-state, nil-files-hold}
 use Rattle.typing.specs.Samples.{SchemaGets, HoldAll, starred, first, second, third, eighth, ninth}
+use Rattle.typing.specs.Samples.{emptyOnPurpose, racksTaken, insideNil, plainlyEmpty}
 use Rattle.typing.proofs.SampleFiles.{plain-gets, events-get}
 use Rattle.typing.proofs.SampleWitnesses.{choice-witness, ways-witness, nine-gets}
 
@@ -41,4 +42,20 @@ samples-hold =
     )
     & (gets-optional, events-get fileOptional refl (files-state .ninth) acceptedOptional exactOptional gets-optional ninth refl)
     & plain-gets fileEndless eight-not-9 (starred-files-hold .1 .1 .1 .1 .1 .1 .1 .0)
+    & tt
+
+gets-racks : SchemaGets fileRacks
+gets-racks = plain-gets fileRacks accepted-not-9 (nil-files-hold .0)
+
+gets-racks-written : SchemaGets fileRacksWritten
+gets-racks-written = plain-gets fileRacksWritten accepted-not-9 (nil-files-hold .1 .0)
+
+pub empty-on-purpose-gets : HoldAll emptyOnPurpose
+empty-on-purpose-gets =
+    (gets-racks, events-get fileRacks refl (racks-state .by-states) acceptedRacks exactRacks gets-racks racksTaken refl)
+    & (
+      gets-racks-written,
+      events-get fileRacksWritten refl (racks-state .by-expression) acceptedRacks exactRacks gets-racks-written insideNil refl,
+    )
+    & (gets-racks, events-get fileRacks refl (racks-state .by-states) acceptedRacks exactRacks gets-racks plainlyEmpty refl)
     & tt

@@ -1,7 +1,7 @@
 -- The demands, and what could not be tested, as statements about the promises that the calls are proved to keep: `FileMeans` is the promise
--- of `schema_file::read`, `CallMeans` that of `Reading::open`, `close` and `finish`, `EventsMean` that of `reading::read_events`, `fresh` that
--- of `Reading::fresh`, and `TrimMeans` that of `schema::trim`. What the words mean (valid, begins, ambiguous, competition, trimmed) is in
--- `crates/sdtd/specs/`. `proofs/DemandsMet.antt` proves them.
+-- of `schema_file::read`, `CallMeans` that of `Reading::open`, `open_nil`, `close` and `finish`, `EventsMean` that of `reading::read_events`,
+-- `fresh` that of `Reading::fresh`, and `TrimMeans` that of `schema::trim`. What the words mean (valid, begins, ambiguous, competition,
+-- trimmed) is in `crates/sdtd/specs/`. `proofs/DemandsMet.antt` proves them.
 use mathlib.Core.Path.{_≡_}
 use mathlib.Core.Logic.{_↔_}
 use mathlib.Core.List.{List, List·Memᴰ}
@@ -89,12 +89,13 @@ pub record Demand3Of (file was : List ℕ) (f : SchemaFile) : Type 0 where
   -- accepted". "[T]he two-document statement covers the first opening tag too". "The third demand supposes these three passed too": 21 to 23
   -- are among the questions that `StatesSchema` has passed.
   pub refused-exactly : (S : Meaning) → leastWitness ≤ length was → StatesSchema file S → SomeValid S → Demand3File S (f .answer)
-  -- "and then what follows holds for every list of opening, closing and finishing calls from a fresh reading, with any tags and refused
-  -- calls included, where each call gets the reading as the last one left it."
-  pub states : f .answer ≡ Fine → StatesSchema file (meaning (f .schema))
   -- "The accepted schema is the one that the file states": each block is begun by a TYPE, and has the automaton of the expression after it if
   -- that has state count 0
+  pub states : f .answer ≡ Fine → StatesSchema file (meaning (f .schema))
   pub written : f .answer ≡ Fine → (b : Block) → List·Memᴰ b (meaning (f .schema) .blocks) → Written file b
+  -- "and then what follows holds for every list of opening, closing and finishing calls from a fresh reading, with any tags and refused
+  -- calls included, where each call gets the reading as the last one left it." "A nil opening [..] stands in the third demand's lists as an
+  -- opening call."
   pub calls : f .answer ≡ Fine → (xs : List Exchange) → Called (meaning (f .schema)) fresh xs → ListMeets (meaning (f .schema)) xs
 
 abbrev pub Demand3 : Type 0

@@ -1,5 +1,5 @@
 -- Document 01, "Samples from the boot wall": the starred samples from the bytes of their files, with numbers, places, counts, types and
--- witnesses, and one statement over the group. Where a sample names elements a, b, c their tags are 1, 2, 3; the root's is 0.
+-- witnesses, and one statement over the group; and the same of nil elements. Where a sample names elements a, b, c their tags are 1, 2, 3; the root's is 0.
 use mathlib.Core.Path.{_≡_}
 use mathlib.Core.List.{List, [], _∷_, _++_}
 use Prim.Native.Nat.{ℕ, _≤_}
@@ -8,7 +8,7 @@ use Rattle.sdtd.specs.Limits.{leastWitness}
 use Rattle.schema.specs.Value.{meaning}
 use Rattle.schema_file.specs.Answer.{FileMeans}
 use Rattle.schema_file.specs.Samples.{FileSample, fileR, fileChoice, fileNoD, fileTwoWays, fileTwoTypes, fileLastButOne, fileOptional}
-use Rattle.schema_file.specs.Samples.{fileEndless}
+use Rattle.schema_file.specs.Samples.{fileEndless, fileRacks, fileRacksWritten}
 use Rattle.schema_file.specs.declared.file.SchemaFile.{SchemaFile}
 use Rattle.reading.specs.EventFile.{typeBytes, EventsMean}
 use Rattle.reading.specs.declared.event_file.EventFile.{EventFile}
@@ -98,3 +98,26 @@ starred =
     ∷ eventFile fileLastButOne eighth
     ∷ eventFile fileOptional ninth
     ∷ schemaFile fileEndless ∷ []
+
+-- Document 02, Req 05, under a wall of racks of one boot each: a rack with its boot and one that is empty on purpose; an opening inside a nil rack;
+-- a rack that is opened plainly and has nothing
+abbrev pub racksTaken : EventSample
+racksTaken =
+    eventsGet
+    (0x21 ∷ 0x00
+    ∷ 0x21 ∷ 0x01 ∷ 0x21 ∷ 0x02 ∷ 0x22 ∷ 0x02 ∷ 0x22 ∷ 0x01
+    ∷ 0x23 ∷ 0x01 ∷ 0x22 ∷ 0x01
+    ∷ 0x22 ∷ 0x00 ∷ 0x2f ∷ []
+    )
+    0 17
+    (0 ∷ 1 ∷ 2 ∷ 1 ∷ [])
+
+abbrev pub insideNil : EventSample
+insideNil = eventsGet (0x21 ∷ 0x00 ∷ 0x23 ∷ 0x01 ∷ 0x21 ∷ 0x02 ∷ []) 13 4 (0 ∷ 1 ∷ [])
+
+abbrev pub plainlyEmpty : EventSample
+plainlyEmpty = eventsGet (0x21 ∷ 0x00 ∷ 0x21 ∷ 0x01 ∷ 0x22 ∷ 0x01 ∷ []) 17 4 (0 ∷ 1 ∷ [])
+
+-- The rack's block is by states or by an expression.
+abbrev pub emptyOnPurpose : List Sample
+emptyOnPurpose = eventFile fileRacks racksTaken ∷ eventFile fileRacksWritten insideNil ∷ eventFile fileRacks plainlyEmpty ∷ []

@@ -156,8 +156,8 @@ returns-12 c =
     let a = c .before .before .before .before .before .before .before .before .before .args in
     long (a .file .now) (a .at) 31 1 _ (omega arith) (omega arith) (omega arith) refl
 
-expression-command-requires : tie.Need-expression-command-requires
-expression-command-requires c κs = search needs
+added-command-requires : tie.Need-added-command-requires
+added-command-requires c κs = search needs
 
 returns-13 : tie.Need-returns-13
 unfolding commandOf
@@ -178,7 +178,7 @@ returns-13 c =
       ne-eqb _ 20 (e10 .if10 .left),
       ne-eqb _ 31 (e12 .if12 .left),
     )
-    (sym (c .expression-command .ensures)))
+    (sym (c .added-command .ensures)))
 
 pub command-at-spec : {M : Type 1} → statement M
 command-at-spec =
@@ -214,5 +214,5 @@ command-at-spec =
     shared-slice-read-t39
     returns-11
     returns-12
-    expression-command-requires
+    added-command-requires
     returns-13)

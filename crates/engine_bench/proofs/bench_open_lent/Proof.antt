@@ -25,7 +25,7 @@ use denote.Memory.{mem}
 use denote.Plain.{uint-vals, uint-tells, uint-makes}
 use denote.Builtin.{u8}
 use denote.Ref.{RefT, MutRef, ptr-vals, mut-tells}
-use denote.Signature.{plain}
+use denote.Signature.{plain as slot}
 use denote.Steps.{owned, facts, heard, nothing}
 use denote.Struct.Laws as LL
 use denote.Enum.Laws as EL
@@ -37,6 +37,7 @@ use denote.Triple.Table.{entered, cited}
 use denote.Triple.Clauses.{ensured, lasts}
 use denote.Triple.Walked.{says, Stays, gave-ref, stay-none, walkOf, goes-none, goes-gave-ref, Walks, ends-at, walked, walk-meets}
 use denote.Exit.{yes}
+use Rattle.sdtd.specs.Tree.{plain}
 use Rattle.sdtd.specs.Document.{opening}
 use Rattle.sdtd.specs.Numbered.{tagNo}
 use Rattle.sdtd.specs.declared.Tag.{Tag}
@@ -73,7 +74,7 @@ abbrev Arg : Type 0
 Arg = RefT Reading × (Schema × (ℕ × Unit {0}))
 
 abbrev stayed : Stays (self.ended .signature .params) (self.ended .kept)
-stayed = (gave-ref (0 ∷ []) tt (plain (λ _. R.the-row)), (stay-none (λ _. S.the-row) yes, (stay-none (λ _. u8) yes, tt)))
+stayed = (gave-ref (0 ∷ []) tt (slot (λ _. R.the-row)), (stay-none (λ _. S.the-row) yes, (stay-none (λ _. u8) yes, tt)))
 
 module _ {M : Type 1} (𝓤 : URA M) (H : Heap 𝓤) (A : Atoms 𝓤) (at-mem : Memory → SProp 𝓤) (run : Routine → Fun 𝓤) where
   -- the contracts that the proof cites
@@ -111,7 +112,7 @@ module _ {M : Type 1} (𝓤 : URA M) (H : Heap 𝓤) (A : Atoms 𝓤) (W : Given
   tag-is : Is G.the-row tag (LL.vals G.the-type G′.the-laws tag)
   tag-is = LL.owes G.the-type G′.the-laws tag ((refl, g-fits), tt)
 
-  exits : (z : Reading) (n : Answer) (v : Val) → Is N.the-row n (v ∷ []) → HandedLent (meaning s) h (opening g) z n
+  exits : (z : Reading) (n : Answer) (v : Val) → Is N.the-row n (v ∷ []) → HandedLent (meaning s) h (opening plain g) z n
       → ent 𝓤 (sep 𝓤 (A .lft κ q) (A .res γ (R.the-row .coded .code z))) (Post v)
   exits z n v is handed =
       qed W (‵ (flft κ q) ∷ ‵ (fres γ (R.the-row .coded .code z)) ∷ []) ∵
@@ -153,8 +154,8 @@ module _ {M : Type 1} (𝓤 : URA M) (H : Heap 𝓤) (A : Atoms 𝓤) (W : Given
         calls-at ! fm (OpenLent 𝓤 H A at-mem run) known-lent to-lent (and-then ! (load ! (from ! (stop !)) (look ! 3 refl)) (and-then ! (load ! (from ! (stop !)) (look ! 9 refl)) (and-then ! (load ! (from ! (stop !)) (look ! 1 refl)) (no-more !)))) (λ w.
         use1 W (later (some (λ (r : EventAnswer). ((‵ (flft κ q) ⊛ ‵ ftrue) ⊛ ‵ (E.the-row .own r (w ∷ []))) ⊛ raw (ensured 𝓤 H A open-lent.ended (open-lent.clauses 𝓤 H A at-mem run) (κ, tt) (lent, (s, (tag, tt))) tt r)))) (id⊢ 𝓤 _) $ await ! tt $ pick ! (λ r.
         split ! $ move ! (1 ∷ []) $
-        use1 W (some (λ (zs : Reading × (Unit {0} × (Unit {0} × Unit {0}))). ‵ (lasts open-lent.ended (κ, tt) (lent, (s, (tag, tt))) zs) ⊛ raw (fact 𝓤 (CallMeans (meaning s) h (opening g) (gives r (zs .0)))))) (id⊢ 𝓤 _) $ pick ! (λ zs.
-        split ! $ move ! (1 ∷ []) $ heard ! (CallMeans (meaning s) h (opening g) (gives r (zs .0))) (λ means. fsplit ! $ move ! (2 ∷ []) $ split ! $ move ! (1 ∷ []) $
+        use1 W (some (λ (zs : Reading × (Unit {0} × (Unit {0} × Unit {0}))). ‵ (lasts open-lent.ended (κ, tt) (lent, (s, (tag, tt))) zs) ⊛ raw (fact 𝓤 (CallMeans (meaning s) h (opening plain g) (gives r (zs .0)))))) (id⊢ 𝓤 _) $ pick ! (λ zs.
+        split ! $ move ! (1 ∷ []) $ heard ! (CallMeans (meaning s) h (opening plain g) (gives r (zs .0))) (λ means. fsplit ! $ move ! (2 ∷ []) $ split ! $ move ! (1 ∷ []) $
         facts ! E.the-row (Is E.the-row) (shows 𝓤 H A E.the-row) r (w ∷ []) (λ r-is. split ! $
         -- [the token; true; the last reading; true; _6; …; _5; …; room for _4; …; _3; …; _2; …; _1; …; room for _0; …]
         land ! (from ! (stop !)) (init ! 8 refl (EL.lawful E.the-type E′.the-laws 𝓤 H A W tt .typed r _ r-is .0)) $
@@ -181,7 +182,7 @@ module _ {M : Type 1} (𝓤 : URA M) (H : Heap 𝓤) (A : Atoms 𝓤) (W : Given
       → Meets 𝓤 H A self.signature (WpFn 𝓤 H (𝓣 .C) (𝓣 .Λ) code.function) (self.spec 𝓤 H A at-mem run)
   meets 𝓣 known-lent known-numbers =
       walk-meets 𝓤 H A self.ended stayed W
-      (goes-gave-ref 𝓤 H A W 1 0 tt (plain (λ _. R.the-row)), (goes-none 𝓤 H A W 1 (λ _. S.the-row) yes (λ κs x f. refl), (goes-none 𝓤 H A W 1 (λ _. u8) yes (λ κs x f. refl), tt)))
+      (goes-gave-ref 𝓤 H A W 1 0 tt (slot (λ _. R.the-row)), (goes-none 𝓤 H A W 1 (λ _. S.the-row) yes (λ κs x f. refl), (goes-none 𝓤 H A W 1 (λ _. u8) yes (λ κs x f. refl), tt)))
       (self.clauses 𝓤 H A at-mem run) (WpFn 𝓤 H (𝓣 .C) (𝓣 .Λ) code.function) (WpFn-mono 𝓤 H (W .laws) 𝓣 code.function)
       (walks (𝓣 .C) (𝓣 .Λ) (fmOf 𝓤 H (W .laws) 𝓣) known-lent known-numbers)
 

@@ -1,7 +1,8 @@
--- `open_lending` meets its contract: `LendingTagged`, at the event opening and the lent call `open_lent`.
+-- `open_lending` meets its contract: `LendingTagged`, at a plain opening and the lent call `open_lent`.
 use contract.Running.{givenOf, tables, tablesOf}
 use denote.Triple.Spec.{tripleOf}
 use denote.Triple.Table.{entered, cited}
+use Rattle.sdtd.specs.Tree.{plain}
 use Rattle.sdtd.specs.Document.{opening}
 use Rattle.reading.proofs.open_lent.Symbol as callee
 use Rattle.reading.proofs.open_lent.Symbol.{name as #callee}
@@ -17,5 +18,5 @@ unfolding code.routine tablesOf
 open-lending-spec 𝓤 H 𝓜 𝓖 𝓡 =
     entered 𝓤 H (tripleOf 𝓤 H (𝓖 .A) self.signature (self.spec 𝓤 H (𝓖 .A) (𝓜 .mem) (𝓡 .run)))
     (tables 𝓤 H 𝓜 𝓡 code.env .C) (tables 𝓤 H 𝓜 𝓡 code.env .Λ) #self code.function (code.unfolded 𝓤 H 𝓜 𝓡)
-    (meets opening 𝓤 H (𝓖 .A) (givenOf 𝓤 H 𝓜 𝓖) (tablesOf 𝓤 H 𝓜 (tables 𝓤 H 𝓜 𝓡 code.env)) #callee
-    (cited 𝓤 H (Lent opening 𝓤 H (𝓖 .A)) 𝓜 𝓡 code.env #callee callee.routine code.calls-reading·open-lent (callee-thm.met 𝓤 H 𝓜 𝓖 𝓡)))
+    (meets (opening plain) 𝓤 H (𝓖 .A) (givenOf 𝓤 H 𝓜 𝓖) (tablesOf 𝓤 H 𝓜 (tables 𝓤 H 𝓜 𝓡 code.env)) #callee
+    (cited 𝓤 H (Lent (opening plain) 𝓤 H (𝓖 .A)) 𝓜 𝓡 code.env #callee callee.routine code.calls-reading·open-lent (callee-thm.met 𝓤 H 𝓜 𝓖 𝓡)))

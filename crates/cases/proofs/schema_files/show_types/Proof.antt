@@ -5,10 +5,10 @@ use Rattle.cases.proofs.schema_files.show_types.Statement.{statement}
 use Rattle.cases.proofs.schema_files.show_types.Tie as tie
 
 abbrev Inv-loop : tie.InvT-loop
-Inv-loop tag states accepting steps types rest₀ a₀ rest a = Unit {0}
+Inv-loop tag states accepting nillable steps types rest₀ a₀ rest a = Unit {0}
 
 abbrev μ-loop : tie.MeasureT-loop
-μ-loop tag states accepting steps types rest₀ a₀ rest a = 64 - a
+μ-loop tag states accepting nillable steps types rest₀ a₀ rest a = 64 - a
 
 cast-types : tie.Need-cast-types Inv-loop μ-loop
 cast-types c = search needs
@@ -28,11 +28,14 @@ mul-show-type c = search needs
 array-read-show-type-3 : tie.Need-array-read-show-type-3 Inv-loop μ-loop
 array-read-show-type-3 c = search needs
 
+array-read-show-type-4 : tie.Need-array-read-show-type-4 Inv-loop μ-loop
+array-read-show-type-4 c = search needs
+
 mul-show-type-2 : tie.Need-mul-show-type-2 Inv-loop μ-loop
 mul-show-type-2 c = search needs
 
-array-read-show-type-4 : tie.Need-array-read-show-type-4 Inv-loop μ-loop
-array-read-show-type-4 c = search needs
+array-read-show-type-5 : tie.Need-array-read-show-type-5 Inv-loop μ-loop
+array-read-show-type-5 c = search needs
 
 show-type-requires : tie.Need-show-type-requires Inv-loop μ-loop
 show-type-requires c κs = search needs
@@ -61,8 +64,9 @@ show-types-spec =
     array-read-show-type-2
     mul-show-type
     array-read-show-type-3
-    mul-show-type-2
     array-read-show-type-4
+    mul-show-type-2
+    array-read-show-type-5
     show-type-requires
     add-a
     loop-less

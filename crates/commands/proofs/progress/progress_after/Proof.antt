@@ -4,7 +4,7 @@ use mathlib.Core.List.{[], _∷_}
 use types.Run.{OneOf, miss}
 use denote.Enum.Declared.{tagOf}
 use Rattle.command.specs.declared.Command.{Command}
-use Rattle.command.specs.declared.Command.the-variants.{Tags, TypeBlock, Final, Step, Root, Done, Expression, NoCommand}
+use Rattle.command.specs.declared.Command.the-variants.{Tags, TypeBlock, Final, Step, Root, Nil, Done, Expression, NoCommand}
 use Rattle.command.proofs.Command.{the-type}
 use Rattle.commands.specs.Progress.{progressAfter}
 use Rattle.commands.specs.declared.progress.Progress.{Progress}
@@ -13,14 +13,15 @@ use Rattle.commands.proofs.progress.progress_after.Statement.{statement
 use Rattle.commands.proofs.progress.progress_after.Tie as tie
 
 -- FINAL changes nothing here
-others : (s : Progress) (c : Command) → OneOf (2 ∷ 6 ∷ 7 ∷ []) (tagOf the-type c) → s ≡ progressAfter s c
+others : (s : Progress) (c : Command) → OneOf (2 ∷ 7 ∷ 8 ∷ []) (tagOf the-type c) → s ≡ progressAfter s c
 unfolding progressAfter
-others s (Tags n) k = absurd (miss (2 ∷ 6 ∷ 7 ∷ []) 0 tt k)
-others s (TypeBlock t n) k = absurd (miss (2 ∷ 6 ∷ 7 ∷ []) 1 tt k)
+others s (Tags n) k = absurd (miss (2 ∷ 7 ∷ 8 ∷ []) 0 tt k)
+others s (TypeBlock t n) k = absurd (miss (2 ∷ 7 ∷ 8 ∷ []) 1 tt k)
 others s (Final q) k = refl
-others s (Step p j q) k = absurd (miss (2 ∷ 6 ∷ 7 ∷ []) 3 tt k)
-others s (Root a) k = absurd (miss (2 ∷ 6 ∷ 7 ∷ []) 4 tt k)
-others s Done k = absurd (miss (2 ∷ 6 ∷ 7 ∷ []) 5 tt k)
+others s (Step p j q) k = absurd (miss (2 ∷ 7 ∷ 8 ∷ []) 3 tt k)
+others s (Root a) k = absurd (miss (2 ∷ 7 ∷ 8 ∷ []) 4 tt k)
+others s Nil k = absurd (miss (2 ∷ 7 ∷ 8 ∷ []) 5 tt k)
+others s Done k = absurd (miss (2 ∷ 7 ∷ 8 ∷ []) 6 tt k)
 others s (Expression x) k = refl
 others s NoCommand k = refl
 
@@ -60,6 +61,12 @@ with-root-requires c κs = tt
 enum-told-2 : tie.Need-enum-told-2
 enum-told-2 c = search needs
 
+with-nil-requires : tie.Need-with-nil-requires
+with-nil-requires c κs = tt
+
+enum-told-3 : tie.Need-enum-told-3
+enum-told-3 c = search needs
+
 with-counts-requires-4 : tie.Need-with-counts-requires-4
 with-counts-requires-4 c κs = tt
 
@@ -79,11 +86,14 @@ returns-4 : tie.Need-returns-4
 returns-4 c = rw (c .before .before .command3 .given .1) (c .with-root .ensures)
 
 returns-5 : tie.Need-returns-5
-unfolding progressAfter
-returns-5 c = rw (c .before .enum-told2 .given .1) (c .with-counts4 .ensures)
+returns-5 c = rw (c .before .enum-told2 .given .1) (c .with-nil .ensures)
 
 returns-6 : tie.Need-returns-6
-returns-6 c = others _ _ (c .match .keys6)
+unfolding progressAfter
+returns-6 c = rw (c .before .enum-told3 .given .1) (c .with-counts4 .ensures)
+
+returns-7 : tie.Need-returns-7
+returns-7 c = others _ _ (c .match .keys7)
 
 pub progress-after-spec : {M : Type 1} → statement M
 progress-after-spec =
@@ -101,10 +111,13 @@ progress-after-spec =
     enum-known-command-3
     with-root-requires
     enum-told-2
+    with-nil-requires
+    enum-told-3
     with-counts-requires-4
     returns
     returns-2
     returns-3
     returns-4
     returns-5
-    returns-6)
+    returns-6
+    returns-7)

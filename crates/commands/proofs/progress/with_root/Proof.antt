@@ -10,12 +10,12 @@ cast-root c = search needs
 array-write-root : tie.Need-array-write-root
 array-write-root c = search needs
 
-add-t9 : tie.Need-add-t9
-add-t9 c = search needs
+add-t10 : tie.Need-add-t10
+add-t10 c = search needs
 
 returns : tie.Need-returns
 unfolding progressAfter
 returns c = search needs
 
 pub with-root-spec : {M : Type 1} → statement M
-with-root-spec = tie.close (tie.spec cast-root array-write-root add-t9 returns)
+with-root-spec = tie.close (tie.spec cast-root array-write-root add-t10 returns)

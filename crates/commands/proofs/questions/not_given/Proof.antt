@@ -2,7 +2,6 @@
 use borrow.Author.Needs.{needs}
 use Rattle.commands.proofs.questions.not_given.Statement.{statement}
 use Rattle.commands.proofs.questions.not_given.Tie as tie
-use Rattle.schema.proofs.state_set.StateSet.has.Reads as has-reads
 
 enum-told : tie.Need-enum-told
 enum-told c = search needs
@@ -31,6 +30,9 @@ enum-told-6 c = search needs
 enum-told-7 : tie.Need-enum-told-7
 enum-told-7 c = search needs
 
+enum-told-8 : tie.Need-enum-told-8
+enum-told-8 c = search needs
+
 returns : tie.Need-returns
 returns c = search needs
 
@@ -55,6 +57,9 @@ returns-7 c = search needs
 returns-8 : tie.Need-returns-8
 returns-8 c = search needs
 
+returns-9 : tie.Need-returns-9
+returns-9 c = search needs
+
 pub not-given-spec : {M : Type 1} → statement M
 not-given-spec =
     tie.close
@@ -68,6 +73,7 @@ not-given-spec =
     enum-told-5
     enum-told-6
     enum-told-7
+    enum-told-8
     returns
     returns-2
     returns-3
@@ -75,4 +81,5 @@ not-given-spec =
     returns-5
     returns-6
     returns-7
-    returns-8)
+    returns-8
+    returns-9)

@@ -4,15 +4,15 @@ use native.Mathlib.Omega.{arith}
 use borrow.Author.Count.{below-more}
 use borrow.Author.Needs.{needs}
 use Rattle.sdtd.specs.Limits.{mostTypes}
-use Rattle.competition.specs.Roots.{MarkedRivals}
+use Rattle.competition.specs.Roots.{OpeningRivals}
 use Rattle.competition.proofs.roots.rival_roots.Statement.{statement}
 use Rattle.competition.proofs.roots.rival_roots.Tie as tie
 
 abbrev Inv-loop : tie.InvT-loop
-Inv-loop marked tag i₀ i = (n : ℕ) → n < i → (k : ℕ) → ¬ MarkedRivals marked tag n k
+Inv-loop opening tag i₀ i = (n : ℕ) → n < i → (k : ℕ) → ¬ OpeningRivals opening tag n k
 
 abbrev μ-loop : tie.MeasureT-loop
-μ-loop marked tag i₀ i = mostTypes - i
+μ-loop opening tag i₀ i = mostTypes - i
 
 loop-holds : tie.Need-loop-holds Inv-loop μ-loop
 loop-holds c n l = absurd (omega arith)
@@ -43,7 +43,7 @@ loop-again c =
     let r = c .before .before in
     let l = r .before .before in
     let a = l .before .args in
-    below-more (λ n. (k : ℕ) → ¬ MarkedRivals (a .marked .now) (a .tag .now) n k) (l .loop .i) (l .loop .inv)
+    below-more (λ n. (k : ℕ) → ¬ OpeningRivals (a .opening .now) (a .tag .now) n k) (l .loop .i) (l .loop .inv)
     (rw (c .enum-told .given .1) at (r .rival-after .ensures))
 
 returns-2 : tie.Need-returns-2 Inv-loop μ-loop

@@ -30,25 +30,25 @@ within c =
 opening-types-requires : tie.Need-opening-types-requires
 opening-types-requires c κs = (within c, c .before .before .trim .ensures .0 .exact (within c))
 
-some-marked-requires : tie.Need-some-marked-requires
-some-marked-requires c κs = search needs
+some-opens-requires : tie.Need-some-opens-requires
+some-opens-requires c κs = search needs
 
 returns-3 : tie.Need-returns-3
 returns-3 c =
-    let m = c .before .some-marked in
+    let m = c .before .some-opens in
     let o = c .before .before .before in
     let w = within (o .before) in
     treeless-judged _ _ (omega arith) w
-    (λ b. failed (m .result) (c .if3 .taken) (m .ensures) (some-opens w (o .opening-types .ensures) .1 b))
+    (λ b. failed (m .result) (c .if3 .taken) (m .ensures) (some-opens _ w (o .opening-types .ensures) .1 b))
 
 -- and after that a root bears a tree
 bears :
     (c : tie.Else3)
     → SomeRootBears (meaning (c .before .before .before .before .before .before .before .before .before .before .before .args .schema))
 bears c =
-    let m = c .before .some-marked in
+    let m = c .before .some-opens in
     let o = c .before .before .before in
-    some-opens (within (o .before)) (o .opening-types .ensures) .0 (passed (m .result) (c .if3 .left) (m .ensures))
+    some-opens _ (within (o .before)) (o .opening-types .ensures) .0 (passed (m .result) (c .if3 .left) (m .ensures))
 
 competes-requires : tie.Need-competes-requires
 competes-requires c κs =
@@ -83,7 +83,7 @@ judge-spec =
     trim-requires
     returns-2
     opening-types-requires
-    some-marked-requires
+    some-opens-requires
     returns-3
     competes-requires
     same-length

@@ -1,4 +1,5 @@
--- `competition::search::roots_compete` meets its contract: two marked roots of one tag compete, and where there are none, no roots do.
+-- `competition::search::roots_compete` meets its contract: two types of one tag that open a document alike are
+-- roots that compete, and where there are none, no roots do.
 use borrow.Author.Needs.{needs}
 use Rattle.competition.proofs.RootLaws.{rivals-found, no-rivals-found}
 use Rattle.competition.proofs.search.roots_compete.Statement.{statement}

@@ -24,8 +24,14 @@ tag-at-requires-2 c κs = search needs
 enum-told-3 : tie.Need-enum-told-3
 enum-told-3 c = search needs
 
+tag-at-requires-3 : tie.Need-tag-at-requires-3
+tag-at-requires-3 c κs = search needs
+
 enum-told-4 : tie.Need-enum-told-4
 enum-told-4 c = search needs
+
+enum-told-5 : tie.Need-enum-told-5
+enum-told-5 c = search needs
 
 returns : tie.Need-returns
 returns c =
@@ -43,15 +49,22 @@ returns-2 c =
 
 returns-3 : tie.Need-returns-3
 returns-3 c =
-    let f = c .before .before in
+    let v = c .before in
+    let f = v .before .before in
     let a = f .before .before .args in
-    matched-kind (a .events .now) (a .at) (f .kind-at .ensures) (c .enum-told3 .given .1) (operand (a .events .now) (a .at)) refl
+    matched-kind (a .events .now) (a .at) (f .kind-at .ensures) (v .enum-told3 .given .1) (c .tag-at3 .result) (c .tag-at3 .ensures)
 
 returns-4 : tie.Need-returns-4
 returns-4 c =
     let f = c .before .before in
     let a = f .before .before .args in
     matched-kind (a .events .now) (a .at) (f .kind-at .ensures) (c .enum-told4 .given .1) (operand (a .events .now) (a .at)) refl
+
+returns-5 : tie.Need-returns-5
+returns-5 c =
+    let f = c .before .before in
+    let a = f .before .before .args in
+    matched-kind (a .events .now) (a .at) (f .kind-at .ensures) (c .enum-told5 .given .1) (operand (a .events .now) (a .at)) refl
 
 pub event-at-spec : {M : Type 1} → statement M
 event-at-spec =
@@ -63,8 +76,11 @@ event-at-spec =
     enum-told-2
     tag-at-requires-2
     enum-told-3
+    tag-at-requires-3
     enum-told-4
+    enum-told-5
     returns
     returns-2
     returns-3
-    returns-4)
+    returns-4
+    returns-5)

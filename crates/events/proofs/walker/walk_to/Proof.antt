@@ -152,7 +152,7 @@ module _ {M : Type 1} (𝓤 : URA M) (H : Heap 𝓤) (A : Atoms 𝓤) (W : Given
         let event-is = subst (λ (vs : List Val). Is E.the-row t vs) (EL.tells E.the-type E′.the-laws t (w ∷ []) is-event) is-event in
         let passed : PassedEvent = record { event = t; past = m .at } in
         let passed-is = LL.owes P.the-type P′.the-laws passed (event-is, (at-is, tt)) in
-        assigns ! (of-opd ! (load ! (from ! (fld ! refl (stop !))) (look-in ! 8 (sub ! 1 refl (whole !))))) (from ! (stop !)) (init ! 2 refl (tt, record { fits = at-is .1 })) $
+        assigns ! (of-opd ! (load ! (from ! (fld ! {d = 16} refl (stop !))) (look-in ! 8 (sub ! 1 refl (whole !))))) (from ! (stop !)) (init ! 2 refl (tt, record { fits = at-is .1 })) $
         assigns ! (agg ! (and-then ! (load ! (from ! (stop !)) (look ! 10 refl)) (and-then ! (load ! (from ! (stop !)) (look ! 2 refl)) (no-more !)))) (from ! (stop !))
         (init ! 18 refl (LL.lawful P.the-type P′.the-laws 𝓤 H A W .typed passed _ passed-is .0)) $
         returns ! (look ! 18 refl) $ forget ! 2 refl $ forget ! 4 refl $ forget ! 6 refl $ forget ! 8 refl $ forget ! 10 refl $ forget ! 12 refl $ forget ! 14 refl $ forget ! 16 refl $ forget ! 18 refl $

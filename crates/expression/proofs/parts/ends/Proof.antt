@@ -21,14 +21,17 @@ enum-told-5 c = search needs
 enum-told-6 : tie.Need-enum-told-6
 enum-told-6 c = search needs
 
+enum-told-7 : tie.Need-enum-told-7
+enum-told-7 c = search needs
+
 enum-known-command : tie.Need-enum-known-command
 enum-known-command c = search needs
 
 part-ends-requires : tie.Need-part-ends-requires
 part-ends-requires c κs = search needs
 
-enum-told-7 : tie.Need-enum-told-7
-enum-told-7 c = search needs
+enum-told-8 : tie.Need-enum-told-8
+enum-told-8 c = search needs
 
 returns : tie.Need-returns
 returns c = search needs
@@ -49,10 +52,13 @@ returns-6 : tie.Need-returns-6
 returns-6 c = search needs
 
 returns-7 : tie.Need-returns-7
-returns-7 c = rw (c .before .before .command .given .1) (c .part-ends .ensures)
+returns-7 c = search needs
 
 returns-8 : tie.Need-returns-8
-returns-8 c = search needs
+returns-8 c = rw (c .before .before .command .given .1) (c .part-ends .ensures)
+
+returns-9 : tie.Need-returns-9
+returns-9 c = search needs
 
 pub ends-spec : {M : Type 1} → statement M
 ends-spec =
@@ -64,9 +70,10 @@ ends-spec =
     enum-told-4
     enum-told-5
     enum-told-6
+    enum-told-7
     enum-known-command
     part-ends-requires
-    enum-told-7
+    enum-told-8
     returns
     returns-2
     returns-3
@@ -74,4 +81,5 @@ ends-spec =
     returns-5
     returns-6
     returns-7
-    returns-8)
+    returns-8
+    returns-9)

@@ -26,25 +26,28 @@ sub-level c = search needs
 cast-level : tie.Need-cast-level
 cast-level c = search needs
 
-element-copy-out-t11 : tie.Need-element-copy-out-t11
-element-copy-out-t11 c = search needs
+element-copy-out-t12 : tie.Need-element-copy-out-t12
+element-copy-out-t12 c = search needs
 
 cast-a : tie.Need-cast-a
 cast-a c = search needs
 
-element-copy-out-t11-2 : tie.Need-element-copy-out-t11-2
-element-copy-out-t11-2 c = inner (c .before .before .before)
+element-copy-out-t12-2 : tie.Need-element-copy-out-t12-2
+element-copy-out-t12-2 c = inner (c .before .before .before)
 
-mul-t17 : tie.Need-mul-t17
-mul-t17 c = search needs
+element-copy-out-t10 : tie.Need-element-copy-out-t10
+element-copy-out-t10 c = inner (c .before .before .before .before)
 
-element-copy-out-t20 : tie.Need-element-copy-out-t20
-element-copy-out-t20 c = inner (c .before .before .before .before)
+mul-t20 : tie.Need-mul-t20
+mul-t20 c = search needs
+
+element-copy-out-t23 : tie.Need-element-copy-out-t23
+element-copy-out-t23 c = inner (c .before .before .before .before .before)
 
 returns-2 : tie.Need-returns-2
 unfolding innerOf
 returns-2 c =
-    let e = c .before .before .before .before .before in
+    let e = c .before .before .before .before .before .before in
     rw (sub-one (e .before .before .args .at .depth), ne-eqb _ 0 (e .if1 .left))
 
 pub inner-of-spec : {M : Type 1} → statement M
@@ -54,9 +57,10 @@ inner-of-spec =
     returns
     sub-level
     cast-level
-    element-copy-out-t11
+    element-copy-out-t12
     cast-a
-    element-copy-out-t11-2
-    mul-t17
-    element-copy-out-t20
+    element-copy-out-t12-2
+    element-copy-out-t10
+    mul-t20
+    element-copy-out-t23
     returns-2)

@@ -10,19 +10,20 @@ use lib.Dec.{T, eqb}
 use lib.Pow.{shr-shr, shr-le}
 use mir.Syntax.{w32}
 use mir.Val.{Fits}
-use Rattle.sdtd.specs.Limits.{mostTags, mostTypes, mostStates}
+use Rattle.sdtd.specs.Limits.{mostTypes, mostStates}
 use Rattle.sdtd.proofs.Basics.{is-true}
 use Rattle.schema.specs.States.{member}
 use Rattle.schema.specs.Rows.{mostRows, RowsInside}
 use Rattle.schema.proofs.Bits.{member-below}
-use Rattle.reading.specs.Coming.{Least, least, noneYet, Move, joins, comingOf, gathered, rowMoves, Lowest}
+use Rattle.reading.specs.Coming.{Least, least, noneYet, Move, joins, comingOf, gathered, kindSought, tagSought, IsSought, rowMoves, Lowest}
+use Rattle.reading.specs.declared.coming.Sought.{Sought}
 use Rattle.reading.proofs.ComingLaws.{joins-most, joins-turn, gathered-past}
 use Rattle.reading.proofs.coming.coming_rows.Statement.{statement}
 use Rattle.reading.proofs.coming.coming_rows.Tie as tie
 
 -- the moves at the state p, whose row stands p after the first
-abbrev moves : List ℕ → List ℕ → ℕ → ℕ → ℕ → ℕ → List Move
-moves entries begins states g first p = cond (member p states) (rowMoves entries begins g (first + p)) []
+abbrev moves : List ℕ → List ℕ → ℕ → Sought → ℕ → ℕ → List Move
+moves entries begins states o first p = cond (member p states) (rowMoves entries begins (kindSought (o .0)) (tagSought (o .0)) (first + p)) []
 
 -- what is left of the set from the state p on
 module _ (states p left : ℕ) (e : left ≡ states / 2 ^ p) where
@@ -52,11 +53,12 @@ module _ (states p left : ℕ) (e : left ≡ states / 2 ^ p) where
     next = rw e (ap (λ (n : ℕ). n / 2) (shr-shr states p q) ∙ shr-shr states (p + q) 1)
 
     -- a turn takes the row of the lowest
-    turn : (entries begins : List ℕ) (g first : ℕ) (x x′ y : Least) → x′ ≡ joins (rowMoves entries begins g (first + (p + q))) x
-        → joins (gathered (moves entries begins states g first) p (mostStates - p)) x ≡ y
-        → joins (gathered (moves entries begins states g first) (p + q + 1) (mostStates - (p + q + 1))) x′ ≡ y
-    turn entries begins g first x x′ y h all =
-        let f = moves entries begins states g first in
+    turn : (entries begins : List ℕ) (o : Sought) (first : ℕ) (x x′ y : Least)
+        → x′ ≡ joins (rowMoves entries begins (kindSought (o .0)) (tagSought (o .0)) (first + (p + q))) x
+        → joins (gathered (moves entries begins states o first) p (mostStates - p)) x ≡ y
+        → joins (gathered (moves entries begins states o first) (p + q + 1) (mostStates - (p + q + 1))) x′ ≡ y
+    turn entries begins o first x x′ y h all =
+        let f = moves entries begins states o first in
         let n : mostStates - p ≡ q + (mostStates - (p + q)) = omega (arith, below) in
         let rest : gathered f p (mostStates - p) ≡ gathered f (p + q) (mostStates - (p + q)) =
         ap (gathered f p) n ∙ gathered-past f q (mostStates - (p + q)) p (λ k l m. rw (passed k l m)) in
@@ -64,25 +66,25 @@ module _ (states p left : ℕ) (e : left ≡ states / 2 ^ p) where
         (ap (λ (ms : List Move). joins ms x) (sym rest) ∙ all)
 
 -- where none is left, no move is
-done : (entries begins : List ℕ) (states g first p left : ℕ) (x y : Least) → left ≡ states / 2 ^ p → left ≡ 0
-    → joins (gathered (moves entries begins states g first) p (mostStates - p)) x ≡ y → x ≡ y
+done : (entries begins : List ℕ) (states : ℕ) (o : Sought) (first p left : ℕ) (x y : Least) → left ≡ states / 2 ^ p → left ≡ 0
+    → joins (gathered (moves entries begins states o first) p (mostStates - p)) x ≡ y → x ≡ y
 unfolding gathered joins
-done entries begins states g first p left x y e z all =
-    let f = moves entries begins states g first in
+done entries begins states o first p left x y e z all =
+    let f = moves entries begins states o first in
     let n : mostStates - p ≡ mostStates - p + 0 = omega arith in
     let none : gathered f p (mostStates - p) ≡ [] =
     ap (gathered f p) n ∙ gathered-past f (mostStates - p) 0 p (λ k l m. rw (none-left states p left e z k l)) in
     ap (λ (ms : List Move). joins ms x) (sym none) ∙ all
 
 abbrev Inv-loop : tie.InvT-loop
-Inv-loop entries begins states g first of₀ kept₀ left₀ p₀ of kept left p =
+Inv-loop entries begins states o first of₀ kept₀ left₀ p₀ of kept left p =
     (p ≤ mostStates) × (left ≡ states / 2 ^ p) × (states < 2 ^ mostStates) × (first + mostStates ≤ mostRows)
-    × RowsInside begins × (g .0 < mostTags) × (of ≤ mostTypes)
-    × (joins (gathered (moves entries begins states (g .0) first) p (mostStates - p)) (least of kept)
-    ≡ joins (gathered (moves entries begins states (g .0) first) 0 mostStates) noneYet)
+    × RowsInside begins × IsSought (o .0) × (of ≤ mostTypes)
+    × (joins (gathered (moves entries begins states o first) p (mostStates - p)) (least of kept)
+    ≡ joins (gathered (moves entries begins states o first) 0 mostStates) noneYet)
 
 abbrev μ-loop : tie.MeasureT-loop
-μ-loop entries begins states g first of₀ kept₀ left₀ p₀ of kept left p = left
+μ-loop entries begins states o first of₀ kept₀ left₀ p₀ of kept left p = left
 
 cast-first : tie.Need-cast-first Inv-loop μ-loop
 cast-first c = search needs
@@ -99,7 +101,7 @@ cast-of c = search needs
 loop-holds : tie.Need-loop-holds Inv-loop μ-loop
 loop-holds c =
     let below : Fits w32 (c .before .args .states) = search needs in
-    (omega arith, sym (div-one _), below .fits, omega arith, c .before .pre .1, omega arith, omega arith, refl)
+    (omega arith, sym (div-one _), below .fits, omega arith, c .before .pre .1, c .before .pre .2, omega arith, refl)
 
 lowest-requires : tie.Need-lowest-requires Inv-loop μ-loop
 lowest-requires c κs = search needs
@@ -149,7 +151,7 @@ loop-again c =
       v .4,
       v .5,
       joins-most _ _ _ (c .before .join-row .ensures) (v .6),
-      turn (a .states) (l .loop .p) (l .loop .left) (v .1) _ low (v .2) (a .entries .now) (a .begins .now) (a .g .0) (mostStates * a .a .0) (least (l .loop .of) (l .loop .kept)) _ _
+      turn (a .states) (l .loop .p) (l .loop .left) (v .1) _ low (v .2) (a .entries .now) (a .begins .now) (a .o) (mostStates * a .a .0) (least (l .loop .of) (l .loop .kept)) _ _
           (c .before .join-row .ensures) (v .7),
     )
 
@@ -165,7 +167,7 @@ returns c =
     let a = l .before .before .args in
     let v = l .loop .inv in
     c .coming-of .ensures
-    ∙ ap comingOf (done (a .entries .now) (a .begins .now) (a .states) (a .g .0) (mostStates * a .a .0) (l .loop .p) (l .loop .left) _ _ (v .1) (c .before .before .loop-test .left) (v .7))
+    ∙ ap comingOf (done (a .entries .now) (a .begins .now) (a .states) (a .o) (mostStates * a .a .0) (l .loop .p) (l .loop .left) _ _ (v .1) (c .before .before .loop-test .left) (v .7))
 
 pub coming-rows-spec : {M : Type 1} → statement M
 coming-rows-spec =

@@ -5,14 +5,15 @@ use Prim.Native.Nat.{ℕ, suc, _+_}
 use native.Mathlib.Numerals.{add-one}
 use borrow.Author.Needs.{needs}
 use lib.ListN.{getD}
-use Rattle.reading.specs.Coming.{Least, joins, movesUpTo, rowMoves}
+use Rattle.sdtd.specs.Tree.{Kind}
+use Rattle.reading.specs.Coming.{kindSought, tagSought, Least, least, joins, movesUpTo, rowMoves}
 use Rattle.reading.proofs.coming.join_row.Statement.{statement}
 use Rattle.reading.proofs.coming.join_row.Tie as tie
 
 -- the row's entries stand from where it begins up to where the next does
-row-joined : (entries begins : List ℕ) (g i : ℕ) (x y : Least) (s e : ℕ) → s ≡ getD begins i 0 → e ≡ getD begins (i + 1) 0
-    → y ≡ joins (movesUpTo entries g s e) x → y ≡ joins (rowMoves entries begins g i) x
-row-joined entries begins g i x y s e se ee h =
+row-joined : (entries begins : List ℕ) (κ : Kind) (g i : ℕ) (x y : Least) (s e : ℕ) → s ≡ getD begins i 0 → e ≡ getD begins (i + 1) 0
+    → y ≡ joins (movesUpTo entries κ g s e) x → y ≡ joins (rowMoves entries begins κ g i) x
+row-joined entries begins κ g i x y s e se ee h =
     let next : e ≡ getD begins (suc i) 0 = rw (add-one i) at ee in
     rw (← se, ← next) h
 
@@ -49,7 +50,7 @@ returns c =
     let f = c .before .before .before in
     let s = f .before .before in
     let a = s .before .before .args in
-    row-joined (a .entries .now) (a .begins .now) _ _ _ _ _ _ (s .place .ensures) (f .place2 .ensures) (c .join-entries .ensures)
+    row-joined (a .entries .now) (a .begins .now) (kindSought (a .o .0)) _ _ (least (a .of .now) (a .kept .now)) _ _ _ (s .place .ensures) (f .place2 .ensures) (c .join-entries .ensures)
 
 pub join-row-spec : {M : Type 1} → statement M
 join-row-spec =

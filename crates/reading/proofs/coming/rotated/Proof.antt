@@ -25,6 +25,12 @@ mul-result c = search needs
 add-result : tie.Need-add-result
 add-result c = search needs
 
+mul-result-2 : tie.Need-mul-result-2
+mul-result-2 c = search needs
+
+add-result-2 : tie.Need-add-result-2
+add-result-2 c = search needs
+
 returns : tie.Need-returns
 returns c = refl
 
@@ -39,4 +45,6 @@ rotated-spec =
     rem-result-2
     mul-result
     add-result
+    mul-result-2
+    add-result-2
     returns)

@@ -5,7 +5,7 @@ use types.Run.{OneOf, miss}
 use denote.Enum.Declared.{tagOf}
 use Rattle.sdtd.specs.declared.Tag.{Tag}
 use Rattle.events.specs.declared.decoder.EventKind.{EventKind}
-use Rattle.events.specs.declared.decoder.EventKind.the-variants.{OpenKind, CloseKind, FinishKind, NoKind}
+use Rattle.events.specs.declared.decoder.EventKind.the-variants.{OpenKind, OpenNilKind, CloseKind, FinishKind, NoKind}
 use Rattle.events.specs.Events.{operand}
 use Rattle.events.proofs.EventLaws.{ofKind, matched-kind}
 use Rattle.events.proofs.decoder.EventKind.{the-type}
@@ -15,11 +15,12 @@ use Rattle.reading.proofs.event_file.outside.Statement.{statement}
 use Rattle.reading.proofs.event_file.outside.Tie as tie
 
 -- an event gets 10
-event : (k : EventKind) → OneOf (0 ∷ 1 ∷ 2 ∷ []) (tagOf the-type k) → (g : Tag) → 10 ≡ outsideNumber (ofKind k g)
+event : (k : EventKind) → OneOf (0 ∷ 1 ∷ 2 ∷ 3 ∷ []) (tagOf the-type k) → (g : Tag) → 10 ≡ outsideNumber (ofKind k g)
 event OpenKind o g = refl
+event OpenNilKind o g = refl
 event CloseKind o g = refl
 event FinishKind o g = refl
-event NoKind o g = absurd (miss (0 ∷ 1 ∷ 2 ∷ []) 3 tt o)
+event NoKind o g = absurd (miss (0 ∷ 1 ∷ 2 ∷ 3 ∷ []) 4 tt o)
 
 walk-kind-requires : tie.Need-walk-kind-requires
 walk-kind-requires c κs = search needs

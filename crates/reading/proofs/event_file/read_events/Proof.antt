@@ -11,7 +11,6 @@ use Rattle.schema.specs.Value.{meaning}
 use Rattle.schema.specs.declared.value.Schema.{Schema}
 use Rattle.schema.proofs.FirstTables.{Fits}
 use Rattle.schema.proofs.LimitLaws.{passed, failed}
-use Rattle.schema.proofs.TablesExact.{bears-in}
 use Rattle.reading.specs.Steps.{stepTables}
 use Rattle.reading.specs.Turns.{walkedOf}
 use Rattle.reading.proofs.StepLaws.{TablesMean, stands-fit}
@@ -91,7 +90,7 @@ heads-requires : tie.Need-heads-requires Inv-loop μ-loop
 heads-requires c κs =
     let e = c .before in
     let k = made e .live-rows in
-    (within e, bears-in _ (k .result .live) (k .ensures .0 .live (within e)))
+    (within e, k .ensures .0 .ways (within e))
 
 loop-holds : tie.Need-loop-holds Inv-loop μ-loop
 loop-holds c = first-laid (within (c .before .before)) _ _ 19

@@ -4,22 +4,23 @@ use mathlib.Core.Path.{_≡_}
 use native.Mathlib.Numerals.{add-one}
 use native.Mathlib.Omega.{arith}
 use borrow.Author.Needs.{needs}
+use Rattle.reading.specs.Coming.{kindBy}
 use Rattle.reading.specs.Heads.{addRoots}
 use Rattle.reading.proofs.heads.lay_roots.Statement.{statement}
 use Rattle.reading.proofs.heads.lay_roots.Tie as tie
 
 abbrev Inv-loop : tie.InvT-loop
-Inv-loop heads₀ roots tag bears root n i₀ heads i = (i ≤ n) × (heads ≡ addRoots heads₀ tag bears root i)
+Inv-loop heads₀ roots tag ways nil root n i₀ heads i = (i ≤ n) × (heads ≡ addRoots heads₀ tag ways (kindBy nil) root i)
 
 abbrev μ-loop : tie.MeasureT-loop
-μ-loop heads₀ roots tag bears root n i₀ heads i = n - i
+μ-loop heads₀ roots tag ways nil root n i₀ heads i = n - i
 
 loop-holds : tie.Need-loop-holds Inv-loop μ-loop
 unfolding addRoots
 loop-holds c = (omega arith, cc)
 
-array-read-t14 : tie.Need-array-read-t14 Inv-loop μ-loop
-array-read-t14 c = omega (arith, c .before .before .before .pre .count)
+array-read-t15 : tie.Need-array-read-t15 Inv-loop μ-loop
+array-read-t15 c = omega (arith, c .before .before .before .pre .count)
 
 add-root-requires : tie.Need-add-root-requires Inv-loop μ-loop
 add-root-requires c κs =
@@ -51,7 +52,7 @@ lay-roots-spec =
     Inv-loop
     μ-loop
     loop-holds
-    array-read-t14
+    array-read-t15
     add-root-requires
     add-i
     loop-less

@@ -1,7 +1,8 @@
--- `open_lent` meets its contract: `LentTagged`, at the event opening and the call `open` by value.
+-- `open_lent` meets its contract: `LentTagged`, at a plain opening and the call `open` by value.
 use contract.Running.{givenOf, tables, tablesOf}
 use denote.Triple.Spec.{tripleOf}
 use denote.Triple.Table.{entered, cited}
+use Rattle.sdtd.specs.Tree.{plain}
 use Rattle.sdtd.specs.Document.{opening}
 use Rattle.reading.proofs.LentTagged.{Called, meets}
 use Rattle.reading.proofs.value.Reading.open.Symbol as callee
@@ -17,5 +18,5 @@ unfolding code.routine tablesOf
 open-lent-spec 𝓤 H 𝓜 𝓖 𝓡 =
     entered 𝓤 H (tripleOf 𝓤 H (𝓖 .A) self.signature (self.spec 𝓤 H (𝓖 .A) (𝓜 .mem) (𝓡 .run)))
     (tables 𝓤 H 𝓜 𝓡 code.env .C) (tables 𝓤 H 𝓜 𝓡 code.env .Λ) #self code.function (code.unfolded 𝓤 H 𝓜 𝓡)
-    (meets opening 𝓤 H (𝓖 .A) (givenOf 𝓤 H 𝓜 𝓖) #callee (tablesOf 𝓤 H 𝓜 (tables 𝓤 H 𝓜 𝓡 code.env))
-    (cited 𝓤 H (Called opening 𝓤 H (𝓖 .A)) 𝓜 𝓡 code.env #callee callee.routine code.calls-reading·value·Reading·open (callee-thm.met 𝓤 H 𝓜 𝓖 𝓡)))
+    (meets (opening plain) 𝓤 H (𝓖 .A) (givenOf 𝓤 H 𝓜 𝓖) #callee (tablesOf 𝓤 H 𝓜 (tables 𝓤 H 𝓜 𝓡 code.env))
+    (cited 𝓤 H (Called (opening plain) 𝓤 H (𝓖 .A)) 𝓜 𝓡 code.env #callee callee.routine code.calls-reading·value·Reading·open (callee-thm.met 𝓤 H 𝓜 𝓖 𝓡)))

@@ -7,23 +7,24 @@ use borrow.Author.Needs.{needs}
 use Rattle.sdtd.specs.Limits.{mostTypes, mostSteps}
 use Rattle.schema.specs.Value.{stepAt}
 use Rattle.reading.specs.declared.own_steps.Asked.{Asked}
-use Rattle.reading.specs.Coming.{least, noneYet, Move, joins, comingOf, gathered, stepMoves}
+use Rattle.reading.specs.Coming.{least, noneYet, Move, joins, comingOf, gathered, kindBy, stepMoves}
 use Rattle.reading.proofs.ComingLaws.{joins-most, joins-turn, joins-done}
 use Rattle.reading.proofs.own_steps.coming_span.Statement.{statement}
 use Rattle.reading.proofs.own_steps.coming_span.Tie as tie
 
 -- the moves at the place i
 abbrev moves : List ℕ → List ℕ → List ℕ → List ℕ → List ℕ → Asked → ℕ → List Move
-moves from by to tag live asked i = stepMoves tag live (asked .own) (asked .states) (asked .g .0) (stepAt from by to i)
+moves from by to tag ways asked i =
+    stepMoves tag ways (asked .own) (asked .states) (kindBy (asked .opening .nil)) (asked .opening .tag .0) (stepAt from by to i)
 
 abbrev Inv-loop : tie.InvT-loop
-Inv-loop from by to tag live asked of₀ kept₀ end i₀ of kept i =
+Inv-loop from by to tag ways asked of₀ kept₀ end i₀ of kept i =
     (end ≤ mostSteps) × (of ≤ mostTypes)
-    × (joins (gathered (moves from by to tag live asked) i (end - i)) (least of kept)
-    ≡ joins (gathered (moves from by to tag live asked) i₀ (end - i₀)) noneYet)
+    × (joins (gathered (moves from by to tag ways asked) i (end - i)) (least of kept)
+    ≡ joins (gathered (moves from by to tag ways asked) i₀ (end - i₀)) noneYet)
 
 abbrev μ-loop : tie.MeasureT-loop
-μ-loop from by to tag live asked of₀ kept₀ end i₀ of kept i = end - i
+μ-loop from by to tag ways asked of₀ kept₀ end i₀ of kept i = end - i
 
 cast-of : tie.Need-cast-of Inv-loop μ-loop
 cast-of c = search needs
@@ -57,7 +58,7 @@ loop-again c =
     let i = c .before .before .before .before .before .before in
     let l = i .before in
     let a = l .before .before .args in
-    (omega arith, joins-most _ _ _ (c .join-step .ensures) (l .loop .inv .1), joins-turn (moves (a .from .now) (a .by .now) (a .to .now) (a .tag .now) (a .live .now) (a .asked)) _ _ _ _ _ (i .loop-test .taken) (c .join-step .ensures) (l .loop .inv .2))
+    (omega arith, joins-most _ _ _ (c .join-step .ensures) (l .loop .inv .1), joins-turn (moves (a .from .now) (a .by .now) (a .to .now) (a .tag .now) (a .ways .now) (a .asked)) _ _ _ _ _ (i .loop-test .taken) (c .join-step .ensures) (l .loop .inv .2))
 
 cast-t28 : tie.Need-cast-t28 Inv-loop μ-loop
 cast-t28 c = search needs
@@ -71,7 +72,7 @@ returns c =
     let a = l .before .before .args in
     let e : a .span .start + a .span .n - a .span .start ≡ a .span .n = omega arith in
     c .coming-of .ensures
-    ∙ ap comingOf (joins-done (moves (a .from .now) (a .by .now) (a .to .now) (a .tag .now) (a .live .now) (a .asked)) _ _ _ _ (c .before .before .loop-test .left) (rw e at (l .loop .inv .2)))
+    ∙ ap comingOf (joins-done (moves (a .from .now) (a .by .now) (a .to .now) (a .tag .now) (a .ways .now) (a .asked)) _ _ _ _ (c .before .before .loop-test .left) (rw e at (l .loop .inv .2)))
 
 pub coming-span-spec : {M : Type 1} → statement M
 coming-span-spec =

@@ -9,14 +9,14 @@ cast-inner c = search needs
 start-of-requires : tie.Need-start-of-requires
 start-of-requires c κs = search needs
 
-mul-t15 : tie.Need-mul-t15
-mul-t15 c = search needs
+mul-t17 : tie.Need-mul-t17
+mul-t17 c = search needs
 
-array-read-t18 : tie.Need-array-read-t18
-array-read-t18 c = search needs
+array-read-t20 : tie.Need-array-read-t20
+array-read-t20 c = search needs
 
-cast-t19 : tie.Need-cast-t19
-cast-t19 c = search needs
+cast-t21 : tie.Need-cast-t21
+cast-t21 c = search needs
 
 mul-own : tie.Need-mul-own
 mul-own c = search needs
@@ -36,9 +36,9 @@ coming-steps-spec =
     (tie.spec
     cast-inner
     start-of-requires
-    mul-t15
-    array-read-t18
-    cast-t19
+    mul-t17
+    array-read-t20
+    cast-t21
     mul-own
     array-read-own
     coming-span-requires

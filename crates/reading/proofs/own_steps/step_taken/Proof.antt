@@ -8,8 +8,8 @@ use Rattle.reading.proofs.own_steps.step_taken.Tie as tie
 cast-a : tie.Need-cast-a
 cast-a c = search needs
 
-element-copy-out-t13 : tie.Need-element-copy-out-t13
-element-copy-out-t13 c = search needs
+element-copy-out-t14 : tie.Need-element-copy-out-t14
+element-copy-out-t14 c = search needs
 
 same-requires : tie.Need-same-requires
 same-requires c κs = search needs
@@ -27,8 +27,8 @@ returns-2 c =
       λ t. absurd t,
     )
 
-bears-in-requires : tie.Need-bears-in-requires
-bears-in-requires c κs = search needs
+opens-in-requires : tie.Need-opens-in-requires
+opens-in-requires c κs = search needs
 
 returns-3 : tie.Need-returns-3
 returns-3 c =
@@ -37,7 +37,7 @@ returns-3 c =
       rw (
         sym (e .before .same .ensures) ∙ not-false _ (e .if1 .left),
         sym (h .before .has .ensures) ∙ not-false _ (h .if2 .left),
-        sym (c .before .bears-in .ensures) ∙ not-true _ (c .if3 .taken),
+        sym (c .before .opens-in .ensures) ∙ not-true _ (c .if3 .taken),
       ),
       λ t. absurd t,
     )
@@ -53,7 +53,7 @@ returns-4 c =
       rw (
         sym (e .before .same .ensures) ∙ not-false _ (e .if1 .left),
         sym (h .before .has .ensures) ∙ not-false _ (h .if2 .left),
-        sym (b .before .bears-in .ensures) ∙ not-false _ (b .if3 .left),
+        sym (b .before .opens-in .ensures) ∙ not-false _ (b .if3 .left),
       ) (c .in-set .ensures .0),
       c .in-set .ensures .1,
     )
@@ -63,12 +63,12 @@ step-taken-spec =
     tie.close
     (tie.spec
     cast-a
-    element-copy-out-t13
+    element-copy-out-t14
     same-requires
     returns
     has-requires
     returns-2
-    bears-in-requires
+    opens-in-requires
     returns-3
     in-set-requires
     returns-4)

@@ -2,7 +2,7 @@
 use mathlib.Core.Path.{_∙_}
 use native.Mathlib.Omega.{arith}
 use borrow.Author.Needs.{needs}
-use Rattle.reading.specs.Coming.{movesByRows}
+use Rattle.reading.specs.Coming.{kindSought, tagSought, movesByRows}
 use Rattle.reading.specs.Steps.{readingOf}
 use Rattle.reading.proofs.LevelLaws.{sub-one}
 use Rattle.reading.proofs.StepWays.{coming-none, coming-inside}
@@ -16,7 +16,7 @@ coming-first-requires : tie.Need-coming-first-requires
 coming-first-requires c κs = search needs
 
 returns : tie.Need-returns
-returns c = c .coming-first .ensures ∙ coming-none _ _ _ _ (c .before .if1 .taken)
+returns c = c .coming-first .ensures ∙ coming-none _ _ _ _ _ (c .before .if1 .taken)
 
 sub-t11 : tie.Need-sub-t11
 sub-t11 c = search needs
@@ -42,7 +42,8 @@ returns-2 : tie.Need-returns-2
 returns-2 c =
     let e = c .before .before .before in
     let a = e .before .before .args in
-    c .coming-rows .ensures ∙ coming-inside _ (readingOf (a .at) (a .types .now) (a .sets .now)) (a .g .0) (λ t s. movesByRows (a .entries .now) (a .begins .now) t s (a .g .0)) (e .if1 .left)
+    c .coming-rows .ensures ∙ coming-inside _ (readingOf (a .at) (a .types .now) (a .sets .now)) (kindSought (a .o .0)) (tagSought (a .o .0))
+    (λ t s. movesByRows (a .entries .now) (a .begins .now) t s (kindSought (a .o .0)) (tagSought (a .o .0))) (e .if1 .left)
 
 pub coming-at-spec : {M : Type 1} → statement M
 coming-at-spec =

@@ -3,6 +3,7 @@ use mathlib.Core.Path.{_≡_, refl}
 use mathlib.Core.Logic.{⊎-elim}
 use lib.ListN.{set}
 use borrow.Author.Needs.{needs}
+use Rattle.reading.specs.Coming.{kindSought}
 use Rattle.reading.specs.Questions.{setsAfter}
 use Rattle.reading.proofs.LevelLaws.{inside-sets, outside-sets}
 use Rattle.reading.proofs.steps.descend.Statement.{statement}
@@ -23,24 +24,30 @@ mul-sets c = search needs
 element-write-sets : tie.Need-element-write-sets
 element-write-sets c = search needs
 
+first-set-requires : tie.Need-first-set-requires
+first-set-requires c κs = search needs
+
 mul-sets-2 : tie.Need-mul-sets-2
 mul-sets-2 c = search needs
 
 element-write-sets-2 : tie.Need-element-write-sets-2
 element-write-sets-2 c = search needs
 
-add-t19 : tie.Need-add-t19
-add-t19 c = search needs
+add-t20 : tie.Need-add-t20
+add-t20 c = search needs
 
 returns : tie.Need-returns
 returns c =
-    let k = c .before .before .before .args in
+    let f = c .before in
+    let j = f .before in
+    let k = j .before .before .args in
     let d = k .at .depth in
-    let stored : set (c .before .if1 .sets) d 1 ≡ setsAfter (k .sets .now) d (k .kept) =
+    let κ = kindSought (k .o .0) in
+    let stored : set (j .if1 .sets) d (f .first-set .result) ≡ setsAfter κ (k .sets .now) d (k .kept) =
     ⊎-elim
-    (λ x. rw (x .1) (inside-sets (k .sets .now) d (k .kept) (x .0 .taken)))
-    (λ x. rw (x .1) (outside-sets (k .sets .now) d (k .kept) (x .0 .left)))
-    (c .before .if1 .came) in
+    (λ x. rw (x .1, f .first-set .ensures) (inside-sets κ (k .sets .now) d (k .kept) (x .0 .taken)))
+    (λ x. rw (x .1, f .first-set .ensures) (outside-sets κ (k .sets .now) d (k .kept) (x .0 .left)))
+    (j .if1 .came) in
     (refl, stored, refl, refl, refl, refl)
 
 pub descend-spec : {M : Type 1} → statement M
@@ -52,7 +59,8 @@ descend-spec =
     sub-sets
     mul-sets
     element-write-sets
+    first-set-requires
     mul-sets-2
     element-write-sets-2
-    add-t19
+    add-t20
     returns)

@@ -23,13 +23,13 @@ stays-requires-2 c κs = search needs
 returns : tie.Need-returns
 returns c =
     let v = c .before .before .before .before in
-    stayed _ _ _ _ _ (c .stays2 .ensures) ∙ open-deep _ _ _ _ (v .next .given .1) (c .before .if1 .taken)
+    stayed _ _ _ _ _ (c .stays2 .ensures) ∙ open-deep _ _ _ _ _ (v .next .given .1) (c .before .if1 .taken)
 
 descend-requires : tie.Need-descend-requires
 descend-requires c κs = search needs
 
 returns-2 : tie.Need-returns-2
-returns-2 c = stayed _ _ _ _ _ (c .stays .ensures) ∙ open-none _ _ (c .before .enum-told .given .1)
+returns-2 c = stayed _ _ _ _ _ (c .stays .ensures) ∙ open-none _ _ _ (c .before .enum-told .given .1)
 
 returns-3 : tie.Need-returns-3
 returns-3 c =
@@ -37,8 +37,8 @@ returns-3 c =
     let v = d .before .before .before in
     let a = v .before .before .args in
     let x = c .descend .ensures in
-    descended _ (a .at) (a .types .now) (a .sets .now) _ _ _ _ (x .0) (x .1) (x .2) (x .3) (x .4) (x .5)
-    ∙ open-taken _ _ _ _ (v .next .given .1) (d .if1 .left)
+    descended _ _ (a .at) (a .types .now) (a .sets .now) _ _ _ _ (x .0) (x .1) (x .2) (x .3) (x .4) (x .5)
+    ∙ open-taken _ _ _ _ _ (v .next .given .1) (d .if1 .left)
 
 pub open-by-spec : {M : Type 1} → statement M
 open-by-spec =

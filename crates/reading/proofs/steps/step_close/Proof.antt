@@ -1,11 +1,32 @@
 -- `reading::steps::step_close` meets its contract.
-use mathlib.Core.Path.{sym, _∙_}
+use mathlib.Core.Path.{_≡_, refl, sym, _∙_}
+use mathlib.Core.Bool.{Bool, true, false, _||_}
+use Prim.Native.Nat.{ℕ, _-_}
 use borrow.Author.Needs.{needs}
 use borrow.Author.Tests.{not-true, not-false}
+use lib.ListN.{getD}
+use Rattle.schema.specs.States.{meet}
+use Rattle.reading.specs.declared.steps.Inner.{Inner}
+use Rattle.reading.specs.Steps.{onPurpose, complete}
 use Rattle.reading.proofs.LevelLaws.{sub-one}
 use Rattle.reading.proofs.StepWays.{stayed, close-finished, close-tag, close-outside, close-other, close-word, close-taken}
 use Rattle.reading.proofs.steps.step_close.Statement.{statement}
 use Rattle.reading.proofs.steps.step_close.Tie as tie
+
+-- whether the element is complete, by the two tests
+second-true : (p : Bool) {b : Bool} → b ≡ true → p || b ≡ true
+second-true true e = refl
+second-true false e = e
+
+module _ (own : Inner) (set : ℕ) where
+  accepts : meet set (own .accepting) ≡ true → complete own set ≡ true
+  accepts e = second-true (onPurpose own set) e
+
+  purposely : onPurpose own set ≡ true → complete own set ≡ true
+  purposely e = rw e
+
+  neither : onPurpose own set ≡ false → meet set (own .accepting) ≡ false → complete own set ≡ false
+  neither e f = rw (e, f)
 
 stays-requires : tie.Need-stays-requires
 stays-requires c κs = search needs
@@ -51,17 +72,17 @@ sub-level c = search needs
 cast-level : tie.Need-cast-level
 cast-level c = search needs
 
-mul-t11 : tie.Need-mul-t11
-mul-t11 c = search needs
+mul-set : tie.Need-mul-set
+mul-set c = search needs
 
-element-copy-out-t14 : tie.Need-element-copy-out-t14
-element-copy-out-t14 c = search needs
+element-copy-out-set : tie.Need-element-copy-out-set
+element-copy-out-set c = search needs
 
 meets-requires : tie.Need-meets-requires
 meets-requires c κs = search needs
 
-stays-requires-5 : tie.Need-stays-requires-5
-stays-requires-5 c κs = search needs
+ascend-requires : tie.Need-ascend-requires
+ascend-requires c κs = search needs
 
 returns-5 : tie.Need-returns-5
 returns-5 c =
@@ -70,25 +91,48 @@ returns-5 c =
     let p = f .before in
     let o = p .before .before in
     let e = o .before .before in
+    let a = e .before .before .before .args in
     λ types.
-    stayed _ _ _ _ _ (c .stays5 .ensures)
-    ∙ close-word _ _ _ _ (e .before .before .if1 .left) (e .if2 .left) (o .if3 .left) (sym (p .same .ensures) ∙ not-false _ (f .if4 .left))
-    (sym (m .meets .ensures) ∙ not-true _ (c .before .if5 .taken))
+    rw (c .ascend .ensures, sub-one (a .at .depth))
+    (close-taken _ _ _ _ (e .before .before .if1 .left) (e .if2 .left) (o .if3 .left) (sym (p .same .ensures) ∙ not-false _ (f .if4 .left))
+    (accepts (a .own) (getD (a .sets .now) (a .at .depth - 1) 0) (sym (m .meets .ensures) ∙ c .before .if5 .taken)))
 
-sub-t10 : tie.Need-sub-t10
-sub-t10 c = search needs
+on-purpose-requires : tie.Need-on-purpose-requires
+on-purpose-requires c κs = search needs
+
+stays-requires-5 : tie.Need-stays-requires-5
+stays-requires-5 c κs = search needs
 
 returns-6 : tie.Need-returns-6
 returns-6 c =
-    let m = c .before .before in
+    let q = c .before .before in
+    let m = q .before .before in
     let f = m .before .before .before in
     let p = f .before in
     let o = p .before .before in
     let e = o .before .before in
+    let a = e .before .before .before .args in
     λ types.
-    rw (sub-one (e .before .before .before .args .at .depth))
+    stayed _ _ _ _ _ (c .stays5 .ensures)
+    ∙ close-word _ _ _ _ (e .before .before .if1 .left) (e .if2 .left) (o .if3 .left) (sym (p .same .ensures) ∙ not-false _ (f .if4 .left))
+    (neither (a .own) (getD (a .sets .now) (a .at .depth - 1) 0) (sym (q .on-purpose .ensures) ∙ not-true _ (c .before .if6 .taken)) (sym (m .meets .ensures) ∙ q .before .if5 .left))
+
+ascend-requires-2 : tie.Need-ascend-requires-2
+ascend-requires-2 c κs = search needs
+
+returns-7 : tie.Need-returns-7
+returns-7 c =
+    let q = c .before .before in
+    let m = q .before .before in
+    let f = m .before .before .before in
+    let p = f .before in
+    let o = p .before .before in
+    let e = o .before .before in
+    let a = e .before .before .before .args in
+    λ types.
+    rw (c .ascend2 .ensures, sub-one (a .at .depth))
     (close-taken _ _ _ _ (e .before .before .if1 .left) (e .if2 .left) (o .if3 .left) (sym (p .same .ensures) ∙ not-false _ (f .if4 .left))
-    (sym (m .meets .ensures) ∙ not-false _ (c .before .if5 .left)))
+    (purposely (a .own) (getD (a .sets .now) (a .at .depth - 1) 0) (sym (q .on-purpose .ensures) ∙ not-false _ (c .before .if6 .left))))
 
 pub step-close-spec : {M : Type 1} → statement M
 step-close-spec =
@@ -105,10 +149,13 @@ step-close-spec =
     returns-4
     sub-level
     cast-level
-    mul-t11
-    element-copy-out-t14
+    mul-set
+    element-copy-out-set
     meets-requires
-    stays-requires-5
+    ascend-requires
     returns-5
-    sub-t10
-    returns-6)
+    on-purpose-requires
+    stays-requires-5
+    returns-6
+    ascend-requires-2
+    returns-7)

@@ -52,8 +52,8 @@ rem-t23 c = search needs
 cast-t14 : tie.Need-cast-t14
 cast-t14 c = search needs
 
-head-accepting-requires : tie.Need-head-accepting-requires
-head-accepting-requires c κs = inner (c .before .before .before .before .before)
+head-nillable-requires : tie.Need-head-nillable-requires
+head-nillable-requires c κs = inner (c .before .before .before .before .before)
 
 mul-t26 : tie.Need-mul-t26
 mul-t26 c = search needs
@@ -61,14 +61,25 @@ mul-t26 c = search needs
 element-copy-out-t29 : tie.Need-element-copy-out-t29
 element-copy-out-t29 c = omega (arith, inner (c .before .before .before .before .before .before))
 
+head-accepting-requires : tie.Need-head-accepting-requires
+head-accepting-requires c κs = inner (c .before .before .before .before .before .before .before)
+
+mul-t31 : tie.Need-mul-t31
+mul-t31 c = search needs
+
+element-copy-out-t34 : tie.Need-element-copy-out-t34
+element-copy-out-t34 c = omega (arith, inner (c .before .before .before .before .before .before .before .before))
+
 step-close-requires-2 : tie.Need-step-close-requires-2
 step-close-requires-2 c κs = search needs
 
 returns-2 : tie.Need-returns-2
 returns-2 c =
     let a = c .before .before in
-    let t = a .before .before in
-    c .step-close2 .ensures _ ∙ close-inner _ _ _ _ (t .before .before .before .before .if1 .left) _ _ (t .head-tag .ensures) (a .head-accepting .ensures)
+    let n = a .before .before in
+    let t = n .before .before in
+    c .step-close2 .ensures _
+    ∙ close-inner _ _ _ _ (t .before .before .before .before .if1 .left) _ _ _ (t .head-tag .ensures) (n .head-nillable .ensures) (a .head-accepting .ensures)
 
 pub step-close-in-spec : {M : Type 1} → statement M
 step-close-in-spec =
@@ -86,8 +97,11 @@ step-close-in-spec =
     cast-t22
     rem-t23
     cast-t14
-    head-accepting-requires
+    head-nillable-requires
     mul-t26
     element-copy-out-t29
+    head-accepting-requires
+    mul-t31
+    element-copy-out-t34
     step-close-requires-2
     returns-2)

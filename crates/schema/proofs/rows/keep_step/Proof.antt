@@ -14,11 +14,14 @@ returns : tie.Need-returns
 unfolding putAll
 returns c = rw (sym (c .before .counts .ensures) ∙ not-true _ (c .if1 .taken)) (refl, omega arith)
 
-cast-t12 : tie.Need-cast-t12
-cast-t12 c = search needs
+cast-b : tie.Need-cast-b
+cast-b c = search needs
 
 element-copy-out-t16 : tie.Need-element-copy-out-t16
 element-copy-out-t16 c = search needs
+
+element-copy-out-entry-of : tie.Need-element-copy-out-entry-of
+element-copy-out-entry-of c = search needs
 
 entry-of-requires : tie.Need-entry-of-requires
 entry-of-requires c κs = search needs
@@ -35,7 +38,7 @@ add-result c = search needs
 returns-2 : tie.Need-returns-2
 unfolding putAll
 returns-2 c =
-    let k = c .before .before .before in
+    let k = c .before .before .before .before in
     rw (sym (k .before .counts .ensures) ∙ not-false _ (k .if1 .left)) (rw (c .entry-of .ensures), omega arith)
 
 pub keep-step-spec : {M : Type 1} → statement M
@@ -44,8 +47,9 @@ keep-step-spec =
     (tie.spec
     counts-requires
     returns
-    cast-t12
+    cast-b
     element-copy-out-t16
+    element-copy-out-entry-of
     entry-of-requires
     mul-kept
     element-write-kept

@@ -77,9 +77,9 @@ type-rows-requires c κs =
     let i = k .loop .inv in
     let e = c .before .before .before .counted .ensures in
     let a = k .before .before .before .args in
-    let is = entries-from (a .t1) (a .bears .now) (a .live .now) (k .loop .a) (k .loop .start) (i .1) in
-    let count : c .before .before .before .counted .result ≡ length (typeEntries (a .t1) (a .bears .now) (a .live .now) (k .loop .a)) = e .1 ∙ ap length is in
-    let few = type-few (a .t1) (a .bears .now) (a .live .now) (k .loop .a) in
+    let is = entries-from (a .t1) (a .ways .now) (a .live .now) (k .loop .a) (k .loop .start) (i .1) in
+    let count : c .before .before .before .counted .result ≡ length (typeEntries (a .t1) (a .ways .now) (a .live .now) (k .loop .a)) = e .1 ∙ ap length is in
+    let few = type-few (a .t1) (a .ways .now) (a .live .now) (k .loop .a) in
     let most = fit t in
     let types = room t .types in
     let long : length (c .before .before .before .counted .last .0) ≡ mostSteps = rw (e .0) (put-long _ _ _ ∙ i .2) in
@@ -103,11 +103,11 @@ loop-again c =
     let e = c .before .before .before .before .counted .ensures in
     let a = k .before .before .before .args in
     let types = room t .types in
-    let is = entries-from (a .t1) (a .bears .now) (a .live .now) (k .loop .a) (k .loop .start) (i .1) in
-    let count : c .before .before .before .before .counted .result ≡ length (typeEntries (a .t1) (a .bears .now) (a .live .now) (k .loop .a)) = e .1 ∙ ap length is in
-    let kept : c .before .before .before .before .counted .last .0 ≡ putAll (typeEntries (a .t1) (a .bears .now) (a .live .now) (k .loop .a)) 0 (k .loop .kept) =
+    let is = entries-from (a .t1) (a .ways .now) (a .live .now) (k .loop .a) (k .loop .start) (i .1) in
+    let count : c .before .before .before .before .counted .result ≡ length (typeEntries (a .t1) (a .ways .now) (a .live .now) (k .loop .a)) = e .1 ∙ ap length is in
+    let kept : c .before .before .before .before .counted .last .0 ≡ putAll (typeEntries (a .t1) (a .ways .now) (a .live .now) (k .loop .a)) 0 (k .loop .kept) =
     e .0 ∙ ap (λ es. putAll es 0 (k .loop .kept)) is in
-    let added = type-added (a .t1) (a .bears .now) (a .live .now) (k .loop .kept) (k .loop .a) (k .loop .start) _ (i .2) (omega arith) (fit t) (i .3) in (
+    let added = type-added (a .t1) (a .ways .now) (a .live .now) (k .loop .kept) (k .loop .a) (k .loop .start) _ (i .2) (omega arith) (fit t) (i .3) in (
       omega arith,
       offset-more (a .t1 .steps) (k .loop .a) _ (i .1),
       rw (e .0) (put-long _ _ _ ∙ i .2),
@@ -120,7 +120,7 @@ returns c =
     let start = c .before .before .before .before in
     let a = start .args in
     let all : c .before .loop .a ≡ a .t1 .types = omega arith in
-    rows-exact (fits start) (start .pre .0) (a .bears .now) (a .live .now) (start .pre .1) (start .pre .2) (rw all at (c .before .loop .inv .3 .laid))
+    rows-exact (fits start) (start .pre .0) (a .ways .now) (a .live .now) (start .pre .1) (start .pre .2) (rw all at (c .before .loop .inv .3 .laid))
 
 pub make-rows-spec : {M : Type 1} → statement M
 make-rows-spec =

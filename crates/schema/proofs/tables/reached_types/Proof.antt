@@ -15,7 +15,7 @@ use Rattle.schema.proofs.tables.reached_types.Tie as tie
 abbrev Inv-loop : tie.InvT-loop
 Inv-loop from by to steps types roots tables starts reached₀ queue₀ count₀ at₀ reached queue count at =
     Starts steps types starts
-    × Visited (stepsIn steps (stepsOf from by to) types) (tables .bears) (tables .forward) (tables .live) roots at (queued reached queue count)
+    × Visited (stepsIn steps (stepsOf from by to) types) (tables .ways) (tables .forward) (tables .live) roots at (queued reached queue count)
 
 abbrev μ-loop : tie.MeasureT-loop
 μ-loop from by to steps types roots tables starts reached₀ queue₀ count₀ at₀ reached queue count at = mostTypes - at

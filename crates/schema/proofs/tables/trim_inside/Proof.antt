@@ -34,20 +34,15 @@ reached-types-requires c κs =
     let r = room (c .before .before .before .before .before .before .before .before .before .before .before .before .before .before .before) in
     (r .types, r .steps)
 
-bearing-types-requires : tie.Need-bearing-types-requires
-bearing-types-requires c κs = search needs
-
 returns : tie.Need-returns
 returns c =
-    let marked = c .before .before .before .before .before .before .before .before .before .before .before .before .before .before .before in
+    let marked = c .before .before .before .before .before .before .before .before .before .before .before .before .before .before in
     let start = marked .before .before in (
       tt,
-      rw (c .bearing-types .ensures)
-          (tables-exact (fits start) (start .pre .0) (start .args .t2) (search needs) (start .pre .1)
-          (c .before .before .before .before .before .before .before .before .forward-states .ensures) (marked .root-types .ensures)
-          (c .before .reached-types .ensures)),
+      tables-exact (fits start) (start .pre .0) (start .args .live) (start .args .t3) (start .pre .1) (start .pre .2)
+          (c .before .before .before .before .before .before .before .forward-states .ensures) (marked .root-types .ensures)
+          (c .reached-types .ensures),
     )
 
 pub trim-inside-spec : {M : Type 1} → statement M
-trim-inside-spec =
-    tie.close (tie.spec cast-types root-types-requires forward-states-requires reached-types-requires bearing-types-requires returns)
+trim-inside-spec = tie.close (tie.spec cast-types root-types-requires forward-states-requires reached-types-requires returns)

@@ -42,20 +42,20 @@ steady c =
     stands-steady (c .before .before .args .t2) (passed (k .result) (c .if1 .left) (k .ensures))
 
 inner-of-requires : tie.Need-inner-of-requires
-inner-of-requires c κs = steady (c .before .before .before .before .before .before .before)
+inner-of-requires c κs = steady (c .before .before .before .before .before .before .before .before)
 
 step-close-requires : tie.Need-step-close-requires
-step-close-requires c κs = steady (c .before .before .before .before .before .before .before .before .before) .depth
+step-close-requires c κs = steady (c .before .before .before .before .before .before .before .before .before .before) .depth
 
 with-levels-requires : tie.Need-with-levels-requires
 with-levels-requires c κs = search needs
 
 returns-2 : tie.Need-returns-2
 returns-2 c =
-    let e = c .before .before .before .before .before .before .before .before .before .before .before in
+    let e = c .before .before .before .before .before .before .before .before .before .before .before .before in
     let k = e .before .both-within in
     let start = e .before .before in
-    let own : c .before .before .before .inner-of .result ≡ innerOf (start .args .t2 .tag) (start .args .t2 .accepting) (start .args .self) =
+    let own : c .before .before .before .inner-of .result ≡ innerOf (start .args .t2 .tag) (start .args .t2 .nillable) (start .args .t2 .accepting) (start .args .self) =
     c .before .before .before .inner-of .ensures in
     rw (c .with-levels .ensures ∙ c .before .step-close .ensures _, own)
     (close-step-means (fits start) (passed (k .result) (e .if1 .left) (k .ensures)) (kept-below start) (start .args .tag .0))
