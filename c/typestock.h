@@ -34,12 +34,38 @@ extern "C" {
 
 /*
  * The greatest length of an accepted schema file with one ROOT and only the commands 10 to 14 and 1F. One with more ROOTs may be longer, by two
- * bytes for each, and one with expressions too: an expression has no largest length.
+ * bytes for each, one with NIL by a byte for each, and one with expressions too: an expression has no largest length.
  */
 #define TYPESTOCK_LONGEST_SCHEMA 8389
 
 /* The most levels that may be open in a document. */
 #define TYPESTOCK_LEVELS 64
+
+/* The commands of a schema file, by their first bytes, each with the operands that follow it, a byte each. */
+#define TYPESTOCK_TAGS 0x10  /* count: the number of tags */
+#define TYPESTOCK_TYPE 0x11  /* tag, states: begins the next type's block; with 0 for the states an expression follows */
+#define TYPESTOCK_FINAL 0x12 /* state: it accepts */
+#define TYPESTOCK_STEP 0x13  /* from, type, to: a child of the type leads from the one state to the other */
+#define TYPESTOCK_ROOT 0x14  /* type: the root element may be of it */
+#define TYPESTOCK_NIL 0x15   /* the type of this block is nillable */
+#define TYPESTOCK_DONE 0x1F  /* the end */
+
+/* Those of an expression. */
+#define TYPESTOCK_OPEN_BRACKET 0x30
+#define TYPESTOCK_CLOSE_BRACKET 0x31
+#define TYPESTOCK_USE 0x32    /* type: a child of it */
+#define TYPESTOCK_OR 0x33     /* divides what is chosen from */
+#define TYPESTOCK_REPEAT 0x34 /* what stands right before it, zero or more times */
+#define TYPESTOCK_END 0x3F    /* the end of the expression */
+
+/*
+ * The events of an event file, likewise. An element that is opened as nil has a nillable type and no children: it is empty on purpose, whatever its
+ * content would need.
+ */
+#define TYPESTOCK_OPEN 0x21     /* tag: an element opens */
+#define TYPESTOCK_CLOSE 0x22    /* tag: the innermost element closes */
+#define TYPESTOCK_OPEN_NIL 0x23 /* tag: an element opens as nil */
+#define TYPESTOCK_FINISH 0x2F   /* the document ends */
 
 /*
  * The answers to a schema file: the number of the first question that is answered no, with the place of the command in question. Each command
@@ -49,20 +75,25 @@ extern "C" {
  * that type, what stands side by side comes in that order, 33 divides what is chosen from, 30 and 31 are brackets, 34 repeats the use or
  * the brackets before it zero or more times, and 3F ends the expression. Both may stand in one file. docs/FORMATS.md says what it becomes.
  *
+ * NIL makes a type nillable. It is given at most once in a block: in one by states anywhere after its TYPE, in one by an expression after its 3F.
+ * A nillable type bears a tree, a nil element, whatever its content.
+ *
  * ROOT is given one to eight times, each time with another type, after all types and right before DONE. A document's root element may be of any of
  * these types.
  */
 #define TYPESTOCK_ACCEPTED 0        /* accepted; place 0 */
 #define TYPESTOCK_SHORT_WITNESS 1   /* the witness buffer has fewer than 532 bytes; place 0 */
 #define TYPESTOCK_NO_COMMAND 2      /* no command, or its operands run past the end; an unfinished file: at its length */
-#define TYPESTOCK_OUT_OF_ORDER 3    /* a command out of its order: also one of an expression outside, any other inside, and any but ROOT
-                                       and DONE after a ROOT; a byte after DONE: at that byte */
+#define TYPESTOCK_OUT_OF_ORDER 3    /* a command out of its order: also one of an expression outside, any other inside, NIL among these, a NIL
+                                       outside a block, a FINAL or STEP after a 3F, and any but ROOT and DONE after a ROOT; a byte after
+                                       DONE: at that byte */
 #define TYPESTOCK_OUT_OF_RANGE 4    /* an operand out of range: also a ROOT with a type that was not given */
 #define TYPESTOCK_TOO_MANY 5        /* a 65th type, a 1,025th step or a ninth ROOT; for an expression's steps at its 3F */
-#define TYPESTOCK_REPEATED 6        /* a FINAL or STEP that its block already has, or a second ROOT of one type */
+#define TYPESTOCK_REPEATED 6        /* a FINAL, STEP or NIL that its block already has, or a second ROOT of one type */
 #define TYPESTOCK_UNKNOWN_TYPE 7    /* a STEP or a 32 with a type that was not given; the first such in the file */
-#define TYPESTOCK_NO_TREE 8         /* no root type bears a tree; place 0 */
-#define TYPESTOCK_COMPETITION 9     /* two types compete, as roots or inside a type, as the witness shows; place 0 */
+#define TYPESTOCK_NO_TREE 8         /* no root type bears a tree, plain or nil; place 0 */
+#define TYPESTOCK_COMPETITION 9     /* two types that both are nillable, or both bear a tree opened by 21, compete, as roots or inside a type, as
+                                       the witness shows; place 0 */
 #define TYPESTOCK_CANNOT_FOLLOW 21  /* in an expression, a 31 with no bracket open, a 34 that is not right after a 32 or a 31, or a 3F with
                                        a bracket open */
 #define TYPESTOCK_TOO_MANY_USES 22  /* a 32nd use in one expression */
@@ -75,13 +106,13 @@ extern "C" {
 #define TYPESTOCK_TAKEN 0             /* taken whole; the place is the file's length */
 #define TYPESTOCK_FINISHED 11         /* an event after the finish */
 #define TYPESTOCK_UNKNOWN_TAG 12      /* a tag that is not below the schema's count */
-#define TYPESTOCK_NO_SUCH_OPENING 13  /* an opening with which no valid document goes on */
+#define TYPESTOCK_NO_SUCH_OPENING 13  /* an opening with which, of its kind, no valid document goes on: any inside a nil element is such */
 #define TYPESTOCK_TOO_DEEP 14         /* an opening of a 65th level */
 #define TYPESTOCK_NOTHING_OPEN 15     /* a closing where no element is open */
 #define TYPESTOCK_OTHER_TAG 16        /* a closing of another tag than the innermost element's */
-#define TYPESTOCK_INCOMPLETE 17       /* a closing of an element whose children form no word of its content automaton */
+#define TYPESTOCK_INCOMPLETE 17       /* a closing of an element, not nil, whose children form no word of its content automaton */
 #define TYPESTOCK_ROOT_NOT_CLOSED 18  /* a finish before the root was opened and closed */
-#define TYPESTOCK_NO_EVENT 19         /* none of the three events, or its tag runs past the end; no finish: at the file's length */
+#define TYPESTOCK_NO_EVENT 19         /* none of the four events, or its tag runs past the end; no finish: at the file's length */
 #define TYPESTOCK_NO_ROOM 20          /* an opening for whose type the buffer has no byte left */
 
 /* A schema file's answer. */
@@ -100,7 +131,7 @@ struct typestock_document {
     /* where the schema is refused no event is read: number and place are the schema's once more, and count is 0 */
 };
 
-/* The next opening of an event file, and where to look on from. */
+/* The next opening of an event file, and where to look on from. Two bytes before `at` it begins, with TYPESTOCK_OPEN or TYPESTOCK_OPEN_NIL. */
 struct typestock_opening {
     bool found;
     uint8_t tag;  /* the opening's tag; 0 where none is found */
@@ -113,12 +144,12 @@ struct typestock_opening {
  *
  * schema    the file's bytes.
  * witness   a buffer, of TYPESTOCK_WITNESS bytes or more for an answer other than 1. On TYPESTOCK_COMPETITION its first 5 + n bytes say why:
- *           type A, types J and K, the length n of a word in two bytes, the low one first, and the word, a byte a type. J < K, and both have
- *           one tag. Where A is TYPESTOCK_NO_PARENT they are root types that both bear a tree: a document may begin with either, and n is 0. This
- *           is looked at first. Else no two roots compete: after that word of children an element of type A may go on with J or with K, and
- *           A is the smallest type in which two compete. The word is shortest: no two types compete in A after fewer children. So A and n are fixed
- *           by the schema, n is at most 527, and J, K and the word are one choice of those that are left. The rest of the buffer is unchanged;
- *           on every other answer all of it is.
+ *           type A, types J and K, the length n of a word in two bytes, the low one first, and the word, a byte a type. J < K, both have one
+ *           tag, and both bear a tree opened by 21 or both are nillable. Where A is TYPESTOCK_NO_PARENT they are root types: a document may
+ *           begin with either, and n is 0. This is looked at first. Else no two roots compete: after that word of children an element of type A
+ *           may go on with J or with K, opened by that kind, and A is the smallest type in which two compete. The word is shortest: no two types
+ *           compete in A after fewer children. So A and n are fixed by the schema, n is at most 527, and J, K and the word are one choice of
+ *           those that are left. The rest of the buffer is unchanged; on every other answer all of it is.
  */
 struct typestock_schema typestock_check_schema(const uint8_t *schema, size_t schema_length, uint8_t *witness, size_t witness_length);
 
@@ -137,8 +168,8 @@ struct typestock_document typestock_type_document(
     uint8_t *types, size_t types_length);
 
 /*
- * Finds the first opening of the event file from the place `at` on, where `level` elements are open. It passes over closings and finishes
- * and stops where the file ends or goes on with what is no event. To go through all openings, start with at 0 and level 0 and hand back
+ * Finds the first opening, plain or nil, of the event file from the place `at` on, where `level` elements are open. It passes over closings and
+ * finishes and stops where the file ends or goes on with what is no event. To go through all openings, start with at 0 and level 0 and hand back
  * the `at` and `level` of each; the first `count` of them are those that typestock_type_document wrote types of. A closing at level 0 leaves
  * 0, and a level of SIZE_MAX stays.
  */

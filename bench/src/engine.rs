@@ -1,5 +1,6 @@
 //! The proved engine's calls: those on values in libengine_bench.a, and the schema file's in
 //! libtypestock_c.a. The values lie in memory as the plain implementation has them.
+use plain::kinds::KindsOf;
 use plain::limits::{MOST_STEPS, MOST_TYPES, Tag, Type, WITNESS};
 use plain::rows::{Entry, ROWS};
 use plain::{Answer, Answered, EventAnswer, Reading, Rows, Schema, SchemaAnswer, States};
@@ -10,7 +11,7 @@ use std::mem::{offset_of, size_of};
 pub struct Trimmed {
     pub inside: bool,
     pub live: [States; MOST_TYPES],
-    pub bears: [bool; MOST_TYPES],
+    pub ways: KindsOf,
     pub reached: [bool; MOST_TYPES],
 }
 
@@ -20,11 +21,12 @@ type Begins = [u16; ROWS + 1];
 
 // The layouts that the exports have: C's, of the fields in the engine's order.
 const _: () = {
-    assert!(size_of::<Schema>() == 3596 && offset_of!(Schema, root) == 3);
+    assert!(size_of::<Schema>() == 3660 && offset_of!(Schema, root) == 3);
     assert!(offset_of!(Schema, tag) == 11 && offset_of!(Schema, accepting) == 140);
-    assert!(offset_of!(Schema, steps) == 396 && offset_of!(Schema, from) == 524);
+    assert!(offset_of!(Schema, nillable) == 396 && offset_of!(Schema, steps) == 460);
+    assert!(offset_of!(Schema, from) == 588);
     assert!(size_of::<Trimmed>() == 388 && offset_of!(Trimmed, live) == 4);
-    assert!(offset_of!(Trimmed, bears) == 260 && offset_of!(Trimmed, reached) == 324);
+    assert!(offset_of!(Trimmed, ways) == 260 && offset_of!(Trimmed, reached) == 324);
     assert!(size_of::<Entries>() == 4096 && size_of::<Begins>() == 4098);
     assert!(size_of::<Reading>() == 324 && offset_of!(Reading, sets) == 68);
     assert!(size_of::<Answer>() == 2 && size_of::<Answered>() == 328);
@@ -43,6 +45,8 @@ unsafe extern "C" {
     pub safe fn open(schema: Schema, reading: Reading, tag: Tag) -> Answered;
     #[link_name = "bench_open_lent"]
     pub safe fn open_lent(reading: &mut Reading, schema: Schema, tag: Tag) -> Answer;
+    #[link_name = "bench_open_nil"]
+    pub safe fn open_nil(schema: Schema, reading: Reading, tag: Tag) -> Answered;
     #[link_name = "bench_close"]
     pub safe fn close(schema: Schema, reading: Reading, tag: Tag) -> Answered;
     #[link_name = "bench_finish"]

@@ -38,10 +38,19 @@ impl Random {
         let roots: Vec<u8> = (0..=self.byte(most)).map(|_| self.byte(types)).collect();
         let mut s = schema(tags, roots[0], &blocks);
         set_roots(&mut s, &roots);
+        self.nillable(&mut s);
         if self.below(8) == 0 {
             self.spoil(&mut s);
         }
         s
+    }
+
+    /// Makes none, some or all of the types nillable, those that are not used among them.
+    fn nillable(&mut self, s: &mut Schema) {
+        let share = [0, 1, 2, 4][self.below(4) as usize];
+        for flag in &mut s.nillable {
+            *flag = self.below(4) < share;
+        }
     }
 
     /// Some number of the schema becomes another: one of its counts, one near a limit or any.

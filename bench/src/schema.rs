@@ -3,7 +3,9 @@
 use crate::engine::{self, Trimmed};
 use crate::measure::{Asked, agree, heading, in_turn, row};
 use crate::random::Random;
-use crate::schemas::{chain, chain_back, dense, eight_lists, eight_roots, small, wide};
+use crate::schemas::{
+    chain, chain_back, dense, eight_lists, eight_roots, layered, nillable, small, wide,
+};
 use crate::witness::is_left_right;
 use plain::limits::{NO_PARENT, WITNESS};
 use plain::questions::{COMPETITION, NONE, OUTSIDE_LIMITS};
@@ -20,7 +22,7 @@ fn same_tables(proved: &Trimmed, rows: &Rows, plain: &Option<Trimming>) -> bool 
     let tables = plain.as_ref().unwrap_or(&Trimming::NONE);
     proved.inside == plain.is_some()
         && proved.live == tables.live
-        && proved.bears == tables.bears
+        && proved.ways == tables.opened
         && proved.reached == tables.reached
         && sorted(*rows) == sorted(tables.rows)
 }
@@ -126,6 +128,11 @@ pub fn run() -> bool {
         ("the same, 32 leaves", 20e3, wide(32)),
         ("8 roots, 64 types of 16 steps", 20e3, eight_roots()),
         ("8 roots, each of a kind of list", 20e3, eight_lists()),
+        (
+            "64 types of 16 steps, nillable",
+            20e3,
+            nillable(layered(64)),
+        ),
     ];
     heading("Schemas as values", "steps", &["plain"]);
     let mut same = true;

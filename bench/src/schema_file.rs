@@ -5,10 +5,10 @@ use crate::measure::{Asked, agree, heading, in_turn, row};
 use crate::random::Random;
 use crate::schemas::{
     STEPS_GROW, chain, chain_back, competing_roots, eight_lists, eight_roots, full, layered,
-    longest, mixed, samples, schema_file, shuffled, single, small, wide,
+    longest, mixed, nillable, samples, schema_file, shuffled, single, small, wide,
 };
 use crate::witness::is_left_right;
-use plain::codes::{CLOSE_BRACKET, END, OPEN_BRACKET, REPEAT, ROOT, STEP, TYPE, USE};
+use plain::codes::{CLOSE_BRACKET, END, NIL, OPEN_BRACKET, REPEAT, ROOT, STEP, TYPE, USE};
 use plain::limits::WITNESS;
 use plain::{Schema, SchemaAnswer, check_schema, competes, schema_file::read};
 use std::hint::black_box;
@@ -149,6 +149,7 @@ fn spoiled() -> Option<[u32; NUMBERS]> {
     let mut schemas = samples();
     schemas.extend([small(), layered(5), layered(64), mixed(8, 4)]);
     schemas.extend([eight_roots(), competing_roots(), eight_lists()]);
+    schemas.extend([nillable(small()), nillable(layered(5))]);
     let mut files: Vec<Vec<u8>> = schemas.iter().map(schema_file).collect();
     files.extend([
         expressions::five_uses(),
@@ -159,14 +160,17 @@ fn spoiled() -> Option<[u32; NUMBERS]> {
     for n in 0..40_000 {
         let mut file = files[n % files.len()].clone();
         if random.below(4) == 0 {
-            let more: [&[u8]; 4] = [
+            let more: [&[u8]; 7] = [
                 &[TYPE, 0, 1],
+                &[TYPE, 0, 1, NIL],
+                &[NIL],
                 &[STEP, 0, 0, 0],
                 &[TYPE, 0, 0, USE, 0, END],
+                &[TYPE, 0, 0, USE, 0, END, NIL],
                 &[TYPE, 0, 0, OPEN_BRACKET, USE, 1, CLOSE_BRACKET, REPEAT, END],
             ];
             let root = file.len() - 3;
-            file.splice(root..root, more[random.below(4) as usize].iter().copied());
+            file.splice(root..root, more[random.below(7) as usize].iter().copied());
         }
         if random.below(4) == 0 {
             let roots = [random.byte(8), random.byte(64)].map(|root| [ROOT, root]);
@@ -233,6 +237,7 @@ pub fn run() -> bool {
     same &= one("8 roots, 64 types of 16 steps", &eight_roots());
     same &= one("the same, two roots compete", &competing_roots());
     same &= one("8 roots, each of a kind of list", &eight_lists());
+    same &= one("64 types of 16 steps, NIL in each", &nillable(layered(64)));
     same &= expression_files();
     match spoiled() {
         Some(numbers) => println!(

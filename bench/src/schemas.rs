@@ -1,6 +1,6 @@
 //! The schemas that are timed, and the file that states a schema.
 use crate::random::Random;
-use plain::codes::{DONE, FINAL, ROOT, STEP, TAGS, TYPE};
+use plain::codes::{DONE, FINAL, NIL, ROOT, STEP, TAGS, TYPE};
 use plain::{Schema, States};
 
 pub struct Type {
@@ -54,6 +54,12 @@ pub fn set_roots(s: &mut Schema, roots: &[u8]) {
     s.root[..roots.len()].copy_from_slice(roots);
 }
 
+/// The schema with each type nillable.
+pub fn nillable(mut s: Schema) -> Schema {
+    s.nillable[..usize::from(s.types)].fill(true);
+    s
+}
+
 /// The schema file that states the schema.
 pub fn schema_file(s: &Schema) -> Vec<u8> {
     let mut file = vec![TAGS, s.tags];
@@ -64,6 +70,7 @@ pub fn schema_file(s: &Schema) -> Vec<u8> {
             s.steps_at(own)
                 .flat_map(|step| [STEP, step.from, step.by, step.to]),
         );
+        file.extend(s.nillable[a].then_some(NIL));
     }
     file.extend(s.root_types().iter().flat_map(|&root| [ROOT, root]));
     file.push(DONE);

@@ -7,6 +7,7 @@ use plain::{Answer, Answered, EventAnswer, Reading, Schema, event_file, event_fi
 #[derive(Clone, Copy)]
 pub enum Call {
     Open(Tag),
+    OpenNil(Tag),
     Close(Tag),
     Finish,
 }
@@ -16,6 +17,7 @@ pub type Calls = fn(&Schema, &Reading, Call) -> Answered;
 pub fn proved_call(schema: &Schema, reading: &Reading, call: Call) -> Answered {
     match call {
         Call::Open(tag) => engine::open(*schema, *reading, tag),
+        Call::OpenNil(tag) => engine::open_nil(*schema, *reading, tag),
         Call::Close(tag) => engine::close(*schema, *reading, tag),
         Call::Finish => engine::finish(*schema, *reading),
     }
@@ -24,31 +26,26 @@ pub fn proved_call(schema: &Schema, reading: &Reading, call: Call) -> Answered {
 pub fn plain_call(schema: &Schema, reading: &Reading, call: Call) -> Answered {
     match call {
         Call::Open(tag) => open(*schema, *reading, tag),
+        Call::OpenNil(tag) => open_nil(*schema, *reading, tag),
         Call::Close(tag) => close(*schema, *reading, tag),
         Call::Finish => finish(*schema, *reading),
     }
 }
 
-/// As `proved_call`, an opening on a lent copy.
+/// As `proved_call`, a plain opening on a lent copy.
 pub fn proved_lent(schema: &Schema, reading: &Reading, call: Call) -> Answered {
-    let open = |reading: &mut Reading, schema, tag| engine::open_lent(reading, schema, tag);
-    on_copy(schema, reading, call, open, proved_call)
-}
-
-/// As `plain_call`, an opening on a lent copy.
-pub fn plain_lent(schema: &Schema, reading: &Reading, call: Call) -> Answered {
-    on_copy(schema, reading, call, open_lent, plain_call)
-}
-
-fn on_copy(
-    schema: &Schema,
-    reading: &Reading,
-    call: Call,
-    open_lent: impl Fn(&mut Reading, Schema, Tag) -> Answer,
-    other: Calls,
-) -> Answered {
     let Call::Open(tag) = call else {
-        return other(schema, reading, call);
+        return proved_call(schema, reading, call);
+    };
+    let mut reading = *reading;
+    let answer = engine::open_lent(&mut reading, *schema, tag);
+    Answered { answer, reading }
+}
+
+/// As `plain_call`, a plain opening on a lent copy.
+pub fn plain_lent(schema: &Schema, reading: &Reading, call: Call) -> Answered {
+    let Call::Open(tag) = call else {
+        return plain_call(schema, reading, call);
     };
     let mut reading = *reading;
     let answer = open_lent(&mut reading, *schema, tag);
@@ -58,6 +55,11 @@ fn on_copy(
 #[inline(never)]
 fn open(schema: Schema, reading: Reading, tag: Tag) -> Answered {
     reading.open(&schema, tag)
+}
+
+#[inline(never)]
+fn open_nil(schema: Schema, reading: Reading, tag: Tag) -> Answered {
+    reading.open_nil(&schema, tag)
 }
 
 #[inline(never)]

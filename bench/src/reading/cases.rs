@@ -1,6 +1,6 @@
 //! The calls on a reading that are timed: schemas, and the readings that the calls are made on.
 use super::calls::Call;
-use crate::schemas::{Type, chain, chain_back, leaf, line, schema, small, wide};
+use crate::schemas::{Type, chain, chain_back, leaf, line, nillable, schema, small, wide};
 use plain::limits::MOST_OPEN;
 use plain::{Reading, Schema, States};
 
@@ -139,6 +139,15 @@ pub fn cases() -> Vec<Case> {
             Call::Close(0),
         ),
         on_r("R, after the root: finish", None, over, Call::Finish),
+        Case {
+            schema: nillable(small()),
+            ..on_r(
+                "R, all types nillable, in the root: open tag 1 as nil",
+                Some(1.0),
+                inside,
+                Call::OpenNil(1),
+            )
+        },
     ];
     let largest = [
         ("chain of 64 types, 16 steps each: open", chain(), 63, 30),

@@ -2,8 +2,10 @@
 use super::calls::Events;
 use crate::documents::document;
 use crate::random::Random;
-use crate::schemas::{STEPS_GROW, dense, eight_lists, eight_roots, layered, mixed, nesting, small};
-use plain::codes::{CLOSE, FINISH, OPEN};
+use crate::schemas::{
+    STEPS_GROW, dense, eight_lists, eight_roots, layered, mixed, nesting, nillable, small,
+};
+use plain::codes::{CLOSE, FINISH, OPEN, OPEN_NIL};
 use plain::limits::MOST_OPEN;
 use plain::questions::TOO_DEEP;
 use plain::{Answer, Reading, Schema};
@@ -76,6 +78,19 @@ pub fn file_cases() -> Vec<FileCase> {
             [1, 3],
         ),
         case("the same, 1 KB", eight_lists(), 1024, [1, 3]),
+        case("R, many elements nil", nillable(small()), LONGEST, [1, 2]),
+        case(
+            "64 types of 16 steps, many elements nil",
+            nillable(layered(64)),
+            LONGEST,
+            [1, 12],
+        ),
+        case(
+            "1 type, 1,024 steps by 31 types, many nil",
+            nillable(mixed(32, 32)),
+            LONGEST,
+            [1, 2],
+        ),
     ]);
     for types in [1, 2, 4, 8, 16, 32, 64] {
         let name = format!("types grow: {types}, 16 steps each");
@@ -109,6 +124,7 @@ fn random_file(random: &mut Random, schema: &Schema) -> Vec<u8> {
         let (code, answered) = match random.below(12) {
             0 => (FINISH, reading.finish(schema)),
             1..=4 if !deep => (CLOSE, reading.close(schema, tag)),
+            5..=6 if !deep => (OPEN_NIL, reading.open_nil(schema, tag)),
             _ => (OPEN, reading.open(schema, tag)),
         };
         let refused = match answered.answer {

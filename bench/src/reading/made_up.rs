@@ -31,6 +31,10 @@ impl Random {
             r.types[n] = [s.types, of][self.below(2) as usize];
             r.sets[n] = [States::NONE, set][self.below(2) as usize];
         }
+        // As in a nil element.
+        if self.below(8) == 0 {
+            r.sets[usize::from(r.depth.clamp(1, 64)) - 1] = States::NONE;
+        }
         r
     }
 
@@ -39,6 +43,7 @@ impl Random {
         match self.below(10) {
             0 => Call::Finish,
             1..=4 => Call::Close(tag),
+            5..=6 => Call::OpenNil(tag),
             _ => Call::Open(tag),
         }
     }

@@ -39,8 +39,8 @@ fn report(case: &Case) -> bool {
     agree(once(proved_call) == once(plain_call))
 }
 
-/// The same for an opening on a lent reading. Each call is made on the reading of the case: what an opening that was taken has changed, the depth and
-/// the innermost set, is put back before it.
+/// The same for a plain opening on a lent reading. Each call is made on the reading of the case: what an opening that was taken has changed, the
+/// depth and the innermost set, is put back before it.
 fn report_lent(case: &Case) -> bool {
     let Call::Open(tag) = case.call else {
         return true;
@@ -119,7 +119,7 @@ fn report_calls() -> bool {
     }
     match compare(&[proved_call, plain_call, proved_lent, plain_lent]) {
         Some(counts) => println!(
-            "{} calls on random schemas and readings, openings by value and lent: the same. Types, taken, refusals 10 to 18: {:?}",
+            "{} calls on random schemas and readings, plain openings by value and lent: the same. Types, taken, refusals 10 to 18: {:?}",
             counts.calls, counts.answers
         ),
         None => return agree(false),

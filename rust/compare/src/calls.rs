@@ -64,6 +64,7 @@ fn walk(schema: &Schema, events: &[u8], room: usize) -> Result<(Job, Vec<Type>),
 fn call(schema: &Schema, reading: Reading, event: Event) -> Result<Answered, String> {
     let answered = match event {
         Event::Open { tag } => reading.open(schema, tag),
+        Event::OpenNil { tag } => reading.open_nil(schema, tag),
         Event::Close { tag } => reading.close(schema, tag),
         Event::Finish => reading.finish(schema),
     };

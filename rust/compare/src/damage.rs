@@ -2,13 +2,13 @@
 
 use crate::chance::Chance;
 use plain::codes::{
-    CLOSE, CLOSE_BRACKET, DONE, END, FINAL, FINISH, NEXT, OPEN, OPEN_BRACKET, REPEAT, ROOT, STEP,
-    TAGS, TYPE, USE,
+    CLOSE, CLOSE_BRACKET, DONE, END, FINAL, FINISH, NEXT, NIL, OPEN, OPEN_BRACKET, OPEN_NIL,
+    REPEAT, ROOT, STEP, TAGS, TYPE, USE,
 };
 use plain::limits::{MOST_ROOTS, MOST_STATES, MOST_STEPS, MOST_TYPES};
 
 /// Bytes at the edges of the file forms.
-const EDGES: [u8; 22] = [
+const EDGES: [u8; 24] = [
     0x00,
     0x01,
     TAGS,
@@ -16,10 +16,12 @@ const EDGES: [u8; 22] = [
     FINAL,
     STEP,
     ROOT,
+    NIL,
     DONE,
     0x20,
     OPEN,
     CLOSE,
+    OPEN_NIL,
     FINISH,
     OPEN_BRACKET,
     CLOSE_BRACKET,
@@ -67,7 +69,7 @@ fn commands(chance: &mut Chance, file: &mut Vec<u8>) {
     let pick = chance.below(count);
     let (start, end) = (offsets[pick], offsets[pick + 1]);
     let command = file[start..end].to_vec();
-    match chance.below(14) {
+    match chance.below(15) {
         // Again, at once or anywhere.
         0 => insert(file, end, &command),
         1 => insert(file, offsets[chance.below(count + 1)], &command),
@@ -93,9 +95,10 @@ fn commands(chance: &mut Chance, file: &mut Vec<u8>) {
             let inserted: Vec<u8> = [sign].into_iter().chain(of).collect();
             insert(file, start, &inserted);
         }
+        13 => nil(chance, file, &offsets),
         _ => {
             let any = [
-                chance.small(TAGS..=ROOT),
+                chance.small(TAGS..=NIL),
                 chance.small(0..=3),
                 chance.small(0..=3),
                 chance.small(0..=3),
@@ -171,6 +174,7 @@ fn roots(chance: &mut Chance, file: &mut Vec<u8>, offsets: &[usize]) {
                 &[TYPE, 0, 0, END],
                 &[FINAL, 0],
                 &[STEP, 0, 0, 0],
+                &[NIL],
                 &[TAGS, 1],
                 &[DONE],
                 &[END],
@@ -195,6 +199,25 @@ fn many_roots(chance: &mut Chance, file: &mut Vec<u8>, offsets: &[usize]) {
     let place = chance.of(&[first, file.len() - 1]);
     insert(file, place, &roots);
     insert(file, first, &[TYPE, 0, 1].repeat(more));
+}
+
+/// A NIL anywhere, or one or two at the end of a block or of its expression; then perhaps a command of the block.
+fn nil(chance: &mut Chance, file: &mut Vec<u8>, offsets: &[usize]) {
+    let ends: Vec<usize> = offsets[1..]
+        .iter()
+        .copied()
+        .filter(|&place| matches!(file.get(place), Some(&(TYPE | ROOT | END))))
+        .collect();
+    let place = match chance.below(3) {
+        0 => chance.of(offsets),
+        _ => chance.of(&ends),
+    };
+    let mut inserted = vec![NIL; chance.within(1..=2)];
+    if chance.once_in(3) {
+        let then: &[&[u8]] = &[&[FINAL, 0], &[STEP, 0, 0, 0], &[END]];
+        inserted.extend(chance.of(then));
+    }
+    insert(file, place, &inserted);
 }
 
 /// How often a command stands in a file that was not damaged.

@@ -2,7 +2,7 @@
 
 use crate::chance::Chance;
 use crate::guide::{DEEP, Guide, NEVER};
-use plain::codes::{CLOSE, FINISH, OPEN};
+use plain::codes::{CLOSE, FINISH, OPEN, OPEN_NIL};
 use plain::limits::MOST_OPEN;
 
 /// How a document is made.
@@ -12,6 +12,8 @@ struct Plan {
     long_enough: usize,
     /// In this many of 100 cases an element is closed if it may be.
     closing: usize,
+    /// In this many of 100 cases an element that may be nil is.
+    nil: usize,
     /// The level that is sought first of all.
     depth: usize,
     /// Before this many events one is put in that need not fit.
@@ -30,6 +32,7 @@ impl Plan {
             _ => chance.within(4..=40),
         };
         let closing = chance.of(&[5, 30, 60]);
+        let nil = chance.of(&[10, 30, 60]);
         let depth = if chance.percent(8) {
             chance.within(MOST_OPEN - 2..=MOST_OPEN + 3)
         } else {
@@ -41,6 +44,7 @@ impl Plan {
         Plan {
             long_enough,
             closing,
+            nil,
             depth,
             stray_at,
         }
@@ -67,8 +71,8 @@ struct Walk<'a> {
     guide: &'a Guide<'a>,
     plan: Plan,
     file: Vec<u8>,
-    /// Type and state of each open element.
-    open: Vec<(u8, u8)>,
+    /// The type of each open element, and its state if it is not nil.
+    open: Vec<(u8, Option<u8>)>,
     events: usize,
 }
 
@@ -105,12 +109,13 @@ impl Walk<'_> {
 
     fn go_on(&mut self) {
         let &(of, state) = self.open.last().expect("an element is open");
+        let Some(state) = state else {
+            return self.closing(of);
+        };
         let may_close = self.guide.rest[usize::from(of)][usize::from(state)] == 0;
         let steps: Vec<_> = self.guide.steps(of, state).collect();
         if may_close && (steps.is_empty() || self.wants_to_close()) {
-            self.open.pop();
-            self.put(&[CLOSE, self.guide.model.types[usize::from(of)].tag]);
-            return;
+            return self.closing(of);
         }
         let by_cost = || steps.iter().min_by_key(|step| self.guide.cost(of, **step));
         let by_depth = || {
@@ -126,7 +131,7 @@ impl Walk<'_> {
             Some(self.chance.of(&steps))
         };
         let step = step.expect("a live state that does not accept has a step");
-        self.open.last_mut().expect("an element is open").1 = step.to;
+        self.open.last_mut().expect("an element is open").1 = Some(step.to);
         self.opening(step.by);
     }
 
@@ -134,7 +139,7 @@ impl Walk<'_> {
     fn descends(&self) -> bool {
         let level = self.open.len();
         let sought = self.file.len() <= 2 * level && level < self.plan.depth;
-        let deep = |&(root, _): &(u8, u8)| self.guide.depth[usize::from(root)] == DEEP;
+        let deep = |&(root, _): &(u8, _)| self.guide.depth[usize::from(root)] == DEEP;
         sought && self.open.first().is_some_and(deep)
     }
 
@@ -148,8 +153,29 @@ impl Walk<'_> {
     }
 
     fn opening(&mut self, of: u8) {
-        self.put(&[OPEN, self.guide.model.types[usize::from(of)].tag]);
-        self.open.push((of, 0));
+        let tag = self.guide.model.types[usize::from(of)].tag;
+        let (code, state) = match self.is_nil(of) {
+            true => (OPEN_NIL, None),
+            false => (OPEN, Some(0)),
+        };
+        self.put(&[code, tag]);
+        self.open.push((of, state));
+    }
+
+    /// Is the next element, of this type, to be nil? Yes if it may not be plain, and of those that may be both
+    /// as often as is planned; none that leads to the level that is sought.
+    fn is_nil(&mut self, of: u8) -> bool {
+        let is_root = self.open.is_empty();
+        let rather_plain = self.descends() || is_root && !self.chance.once_in(8);
+        let wanted = self.file.len() >= self.plan.long_enough || self.chance.percent(self.plan.nil);
+        self.guide.model.types[usize::from(of)].nillable
+            && (!self.guide.has_plain(of) || wanted && !rather_plain)
+    }
+
+    /// Closes the innermost element, of this type.
+    fn closing(&mut self, of: u8) {
+        self.open.pop();
+        self.put(&[CLOSE, self.guide.model.types[usize::from(of)].tag]);
     }
 
     fn put(&mut self, event: &[u8]) {
@@ -177,7 +203,8 @@ impl Walk<'_> {
             self.chance.small(0..=tags - 1)
         };
         match self.chance.below(12) {
-            0..6 => self.file.extend([OPEN, tag]),
+            0..4 => self.file.extend([OPEN, tag]),
+            4..6 => self.file.extend([OPEN_NIL, tag]),
             6..9 => self.file.extend([CLOSE, tag]),
             9..11 => self.file.push(FINISH),
             _ => self.file.push(self.chance.byte()),

@@ -1,7 +1,7 @@
-//! What the generator of documents knows of a schema: the cost of the smallest tree of each type and
-//! of the smallest rest of each state, in openings.
+//! What the generator of documents knows of a schema: the cost of the smallest tree of each type, plain
+//! or nil, and of the smallest rest of each state, in openings.
 
-use crate::model::{Model, Step};
+use crate::model::{Model, Step, Type};
 use plain::limits::MOST_OPEN;
 
 /// No tree, or no rest.
@@ -12,7 +12,7 @@ const HIGH: u32 = 1_000_000;
 #[derive(Debug)]
 pub struct Guide<'m> {
     pub model: &'m Model,
-    /// For each type the openings of its smallest tree.
+    /// For each type the openings of its smallest tree: one if it is nillable.
     pub tree: Vec<u32>,
     /// For each type and state the openings of the smallest way to an accepting state.
     pub rest: Vec<Vec<u32>>,
@@ -36,9 +36,10 @@ impl<'m> Guide<'m> {
                 })
                 .collect()
         });
+        let nil = |block: &Type| if block.nillable { 1 } else { NEVER };
         let mut guide = Guide {
             model,
-            tree: vec![NEVER; model.types.len()],
+            tree: model.types.iter().map(nil).collect(),
             rest: rest.collect(),
             depth: vec![],
         };
@@ -51,6 +52,11 @@ impl<'m> Guide<'m> {
     pub fn steps(&self, of: u8, state: u8) -> impl Iterator<Item = Step> {
         let steps = self.model.types[usize::from(of)].steps.iter().copied();
         steps.filter(move |step| step.from == state && self.cost(of, *step) != NEVER)
+    }
+
+    /// Has the type a tree that is opened plainly?
+    pub fn has_plain(&self, of: u8) -> bool {
+        self.rest[usize::from(of)][0] != NEVER
     }
 
     /// The openings of the smallest way that begins with this step.

@@ -11,6 +11,7 @@ mod far_words;
 mod guide;
 mod input;
 mod model;
+mod nil;
 mod roots;
 mod schemas;
 mod side_by_side;

@@ -1,7 +1,7 @@
 //! A schema as the generators keep it, and its file.
 
 use crate::chance::Chance;
-use plain::codes::{DONE, END, FINAL, ROOT, STEP, TAGS, TYPE, USE};
+use plain::codes::{DONE, END, FINAL, NIL, ROOT, STEP, TAGS, TYPE, USE};
 use plain::limits::MOST_TYPES;
 use plain::{Schema, schema_file};
 
@@ -19,6 +19,7 @@ pub struct Type {
     pub states: u8,
     pub accepting: Vec<u8>,
     pub steps: Vec<Step>,
+    pub nillable: bool,
     /// The expression that the content is written as, without its end; the automaton is what it
     /// becomes, or has one state and nothing else where it is refused.
     pub content: Option<Vec<u8>>,
@@ -38,6 +39,7 @@ impl Type {
             states,
             accepting: vec![],
             steps: vec![],
+            nillable: false,
             content: None,
         }
     }
@@ -48,14 +50,18 @@ impl Type {
         block
     }
 
-    fn set_content(&mut self, text: Vec<u8>) {
+    /// Gives it this content in place of what it had.
+    pub fn set_content(&mut self, text: Vec<u8>) {
         let mut file = vec![TAGS, 1, TYPE, 0, 0];
         file.extend(&text);
         file.push(END);
         file.extend([TYPE, 0, 0, END].repeat(MOST_TYPES - 1));
         file.extend([ROOT, 0, DONE]);
         let mut schema = Schema::BLANK;
-        *self = Type::new(self.tag, 1);
+        *self = Type {
+            nillable: self.nillable,
+            ..Type::new(self.tag, 1)
+        };
         if schema_file::read(&file, &mut schema).is_ok() {
             self.states = schema.states[0];
             self.accepting = schema.accepting[0].iter().collect();
@@ -148,7 +154,7 @@ impl Model {
         }
     }
 
-    /// The file that states this schema, its FINAL and STEP commands in any order.
+    /// The file that states this schema, its FINAL, STEP and NIL commands in any order.
     pub fn file(&self, chance: &mut Chance) -> Vec<u8> {
         let mut file = vec![TAGS, self.tags];
         for block in &self.types {
@@ -156,6 +162,7 @@ impl Model {
                 file.extend([TYPE, block.tag, 0]);
                 file.extend(text);
                 file.push(END);
+                file.extend(block.nillable.then_some(NIL));
                 continue;
             }
             file.extend([TYPE, block.tag, block.states]);
@@ -167,7 +174,8 @@ impl Model {
                 .steps
                 .iter()
                 .map(|&Step { from, by, to }| (4, [STEP, from, by, to]));
-            let mut commands: Vec<(usize, [u8; 4])> = finals.chain(steps).collect();
+            let nil = block.nillable.then_some((1, [NIL, 0, 0, 0]));
+            let mut commands: Vec<(usize, [u8; 4])> = finals.chain(steps).chain(nil).collect();
             chance.shuffle(&mut commands);
             for (length, command) in commands {
                 file.extend(&command[..length]);

@@ -5,6 +5,7 @@ use crate::expressions;
 use crate::far_words;
 use crate::guide::{Guide, NEVER};
 use crate::model::{Model, Step, Type};
+use crate::nil;
 use crate::roots;
 use plain::limits::{MOST_STATES, MOST_STEPS, MOST_TAGS, MOST_TYPES};
 
@@ -56,6 +57,9 @@ pub fn schema(chance: &mut Chance) -> Model {
     }
     if chance.percent(45) {
         roots::add(chance, &mut model);
+    }
+    if chance.percent(45) {
+        nil::add(chance, &mut model);
     }
     if !chance.once_in(8) {
         model.renumber(chance);

@@ -4,9 +4,10 @@ use std::fmt;
 
 use crate::input::Input;
 use crate::side_by_side::Answers;
+use plain::event_file::{Event, event};
 use plain::limits::NO_PARENT;
 use plain::questions::{CANNOT_FOLLOW, COMPETITION, FINISHED, NO_ROOM, NONE, TOO_MANY_BRACKETS};
-use plain::{Job, Schema, schema_file};
+use plain::{Job, Kind, Schema, Trimming, competition, schema_file};
 
 /// One more than the highest number that a schema file and an event file are answered with.
 const SCHEMAS: usize = TOO_MANY_BRACKETS as usize + 1;
@@ -26,13 +27,51 @@ pub struct Tally {
     several_roots: u64,
     competing_roots: u64,
     most_roots: usize,
+    /// Accepted schemas with a nillable type; those of them that would compete if all openings were of one
+    /// kind; and refused ones in which two types compete as nil alone.
+    nillable: u64,
+    kinds_apart: u64,
+    competing_nil: u64,
+    /// Openings as nil that were taken.
+    nil_openings: u64,
 }
 
-/// The number of roots of an accepted schema.
-fn roots(file: &[u8]) -> usize {
+/// The schema that a file states, if it passes the questions up to 7.
+fn stated(file: &[u8]) -> Schema {
     let mut schema = Schema::BLANK;
-    schema_file::read(file, &mut schema).expect("an accepted file states a schema");
-    usize::from(schema.roots)
+    schema_file::read(file, &mut schema).expect("the file states a schema");
+    schema
+}
+
+/// Do two types compete once each that bears a tree is nillable?
+fn competes_by_one_kind(mut schema: Schema) -> bool {
+    let bears = Trimming::of(&schema).opened;
+    schema.nillable = bears.map(|kinds| !kinds.is_empty());
+    competition::find(&schema, &Trimming::of(&schema)).is_some()
+}
+
+/// Do the two that are found to compete share the nil kind alone?
+fn competes_as_nil(schema: &Schema) -> bool {
+    let trimming = Trimming::of(schema);
+    competition::find(schema, &trimming).is_some_and(|found| {
+        let [one, other] = [found.one, found.other].map(|of| trimming.opened[usize::from(of)]);
+        let shared = one.iter().filter(|&kind| other.has(kind));
+        shared.eq([Kind::Nil])
+    })
+}
+
+/// How many of the first `count` openings of a file are as nil.
+fn nil_openings(events: &[u8], count: usize) -> u64 {
+    let mut rest = events;
+    let mut nil = 0;
+    let mut left = count;
+    while left > 0 {
+        let (event, length) = event(rest).expect("an opening is left");
+        rest = &rest[length..];
+        nil += u64::from(matches!(event, Event::OpenNil { .. }));
+        left -= usize::from(matches!(event, Event::Open { .. } | Event::OpenNil { .. }));
+    }
+    nil
 }
 
 impl Tally {
@@ -48,22 +87,40 @@ impl Tally {
                 .map(|opening| opening.level);
             self.deepest = self.deepest.max(levels.max().unwrap_or(0));
             self.longest_schema = self.longest_schema.max(input.schema.len());
-            let roots = roots(&input.schema);
-            self.several_roots += u64::from(roots > 1);
-            self.most_roots = self.most_roots.max(roots);
+            self.nil_openings += nil_openings(&input.events, count);
+            self.count_accepted(stated(&input.schema));
         }
         if let Some(witness) = answers.witness {
             self.longest_word = self.longest_word.max(witness.length);
             self.competing_roots += u64::from(witness.within == NO_PARENT);
+            self.competing_nil += u64::from(competes_as_nil(&stated(&input.schema)));
+        }
+    }
+
+    fn count_accepted(&mut self, schema: Schema) {
+        let roots = usize::from(schema.roots);
+        self.several_roots += u64::from(roots > 1);
+        self.most_roots = self.most_roots.max(roots);
+        if schema.nillable.contains(&true) {
+            self.nillable += 1;
+            self.kinds_apart += u64::from(competes_by_one_kind(schema));
         }
     }
 
     pub fn add(&mut self, other: &Tally) {
-        self.inputs += other.inputs;
-        self.several_roots += other.several_roots;
-        self.competing_roots += other.competing_roots;
         let pairs = self.schemas.iter_mut().chain(&mut self.events);
         for (sum, more) in pairs.zip(other.schemas.iter().chain(&other.events)) {
+            *sum += more;
+        }
+        for (sum, more) in [
+            (&mut self.inputs, other.inputs),
+            (&mut self.several_roots, other.several_roots),
+            (&mut self.competing_roots, other.competing_roots),
+            (&mut self.nillable, other.nillable),
+            (&mut self.kinds_apart, other.kinds_apart),
+            (&mut self.competing_nil, other.competing_nil),
+            (&mut self.nil_openings, other.nil_openings),
+        ] {
             *sum += more;
         }
         for (most, more) in [
@@ -105,6 +162,26 @@ impl Tally {
     pub fn most_roots(&self) -> usize {
         self.most_roots
     }
+
+    /// How many accepted schemas have a nillable type.
+    pub fn nillable(&self) -> u64 {
+        self.nillable
+    }
+
+    /// How many accepted schemas would compete if all openings were of one kind.
+    pub fn kinds_apart(&self) -> u64 {
+        self.kinds_apart
+    }
+
+    /// How many schemas are refused since two types compete as nil alone.
+    pub fn competing_nil(&self) -> u64 {
+        self.competing_nil
+    }
+
+    /// How many openings as nil were taken.
+    pub fn nil_openings(&self) -> u64 {
+        self.nil_openings
+    }
 }
 
 impl fmt::Display for Tally {
@@ -127,6 +204,13 @@ impl fmt::Display for Tally {
             "accepted schemas with several roots: {}, at most {}",
             self.several_roots, self.most_roots
         )?;
-        writeln!(out, "schemas whose roots compete: {}", self.competing_roots)
+        writeln!(out, "schemas whose roots compete: {}", self.competing_roots)?;
+        writeln!(
+            out,
+            "accepted schemas with nillable types: {}, that compete if all openings are of one kind: {}",
+            self.nillable, self.kinds_apart
+        )?;
+        writeln!(out, "schemas that compete as nil: {}", self.competing_nil)?;
+        writeln!(out, "openings as nil taken: {}", self.nil_openings)
     }
 }

@@ -1,23 +1,15 @@
 //! Inputs at the edges of the file forms and of the lent buffers.
 
-use compare::{Answers, Chance, Fixed, Input, compare};
+mod common;
+
+use common::both;
+use compare::Fixed;
 use plain::Job;
-use plain::codes::{CLOSE, FINISH, OPEN};
+use plain::codes::{CLOSE, FINISH, NIL, OPEN};
 use plain::limits::{MOST_ROOTS, NO_PARENT, WITNESS};
 
 /// One type that holds itself without end.
 const NESTING: [u8; 14] = [0x10, 1, 0x11, 0, 1, 0x12, 0, 0x13, 0, 0, 0, 0x14, 0, 0x1F];
-
-/// Both answers to this input, which are the same.
-fn both(schema: &[u8], events: &[u8], witness: usize, types: usize) -> Answers {
-    let input = Input {
-        schema: schema.to_vec(),
-        events: events.to_vec(),
-        witness,
-        types,
-    };
-    compare(&input, &mut Chance::new(1)).unwrap_or_else(|what| panic!("{what}\n{input}"))
-}
 
 /// Type 0 has 32 states and two types that compete only after each pair of states was passed.
 fn longest_word() -> Vec<u8> {
@@ -355,7 +347,8 @@ fn roots_at_their_limit() {
 
 #[test]
 fn commands_among_roots() {
-    let between: [&[u8]; 12] = [
+    let between: [&[u8]; 13] = [
+        &[NIL],
         &[0x10, 1],
         &[0x11, 0, 1],
         &[0x11, 0, 0, 0x3F],

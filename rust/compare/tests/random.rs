@@ -26,4 +26,8 @@ fn nothing_differs_and_each_number_comes_up() {
     assert_eq!(tally.most_roots(), MOST_ROOTS, "{tally}");
     assert!(tally.several_roots() > INPUTS / 20, "{tally}");
     assert!(tally.competing_roots() > INPUTS / 100, "{tally}");
+    assert!(tally.nillable() > INPUTS / 20, "{tally}");
+    assert!(tally.kinds_apart() > INPUTS / 100, "{tally}");
+    assert!(tally.competing_nil() > INPUTS / 100, "{tally}");
+    assert!(tally.nil_openings() > INPUTS / 10, "{tally}");
 }

@@ -6,6 +6,7 @@ pub const TYPE: u8 = 0x11;
 pub const FINAL: u8 = 0x12;
 pub const STEP: u8 = 0x13;
 pub const ROOT: u8 = 0x14;
+pub const NIL: u8 = 0x15;
 pub const DONE: u8 = 0x1F;
 
 // Commands of an expression in a schema file.
@@ -19,4 +20,5 @@ pub const END: u8 = 0x3F;
 // Events of an event file.
 pub const OPEN: u8 = 0x21;
 pub const CLOSE: u8 = 0x22;
+pub const OPEN_NIL: u8 = 0x23;
 pub const FINISH: u8 = 0x2F;

@@ -1,5 +1,7 @@
-//! Competition: two types of one tag that may both come next in an element, or that are both roots.
+//! Competition: two types of one tag that may both come next in an element, or that are both roots, and
+//! that both bear a tree opened by one kind.
 
+use crate::kinds::Kind;
 use crate::limits::{LONGEST_WORD, MOST_STATES, MOST_TAGS, NO_PARENT, PAIRS, State, Type};
 use crate::rows::{Entry, Rows};
 use crate::schema::Schema;
@@ -32,20 +34,21 @@ pub fn find(schema: &Schema, trimming: &Trimming) -> Option<Competition> {
     among_roots(schema, trimming).or_else(|| in_types(schema, trimming))
 }
 
-/// Two tree-bearing roots of one tag, which come before any word.
+/// Two roots of one tag and one kind of opening, which come before any word.
 fn among_roots(schema: &Schema, trimming: &Trimming) -> Option<Competition> {
-    let bears = |of: &Type| trimming.bears[usize::from(*of)];
-    let mut first_of_tag = [None; MOST_TAGS];
-    for root in schema.root_types().iter().copied().filter(bears) {
-        let tag = schema.tag[usize::from(root)];
-        let first = *first_of_tag[usize::from(tag)].get_or_insert(root);
-        if first != root {
-            return Some(Competition {
-                within: NO_PARENT,
-                one: first.min(root),
-                other: first.max(root),
-                word: vec![],
-            });
+    let mut first_of = [[None; MOST_TAGS]; Kind::ALL.len()];
+    for &root in schema.root_types() {
+        let tag = usize::from(schema.tag[usize::from(root)]);
+        for kind in trimming.opened[usize::from(root)].iter() {
+            let first = *first_of[kind as usize][tag].get_or_insert(root);
+            if first != root {
+                return Some(Competition {
+                    within: NO_PARENT,
+                    one: first.min(root),
+                    other: first.max(root),
+                    word: vec![],
+                });
+            }
         }
     }
     None
@@ -55,7 +58,7 @@ fn among_roots(schema: &Schema, trimming: &Trimming) -> Option<Competition> {
 /// types compete in that type.
 fn in_types(schema: &Schema, trimming: &Trimming) -> Option<Competition> {
     let mut queue = Queue::EMPTY;
-    let counts = |&of: &Type| trimming.reached[usize::from(of)] && trimming.bears[usize::from(of)];
+    let counts = |&of: &Type| trimming.reached[usize::from(of)] && trimming.bears(of);
     let mut types = (0..schema.types).filter(counts);
     types.find_map(|within| queue.search(&trimming.rows, within))
 }
@@ -67,10 +70,13 @@ pub fn confirm(schema: &Schema, trimming: &Trimming, witness: &Witness) -> bool 
         found.within == witness.within && found.word.len() == witness.word.len()
     };
     let compete = || match witness.within {
-        NO_PARENT => both_open(schema, trimming, witness),
+        NO_PARENT => are_roots(schema, witness),
         _ => both_come(trimming, witness),
     };
-    has_form(schema, witness) && compete() && find(schema, trimming).is_some_and(is_least)
+    has_form(schema, witness)
+        && opened_alike(trimming, witness)
+        && compete()
+        && find(schema, trimming).is_some_and(is_least)
 }
 
 /// Are its types given, J less than K and of one tag, and the word not too long?
@@ -90,10 +96,16 @@ fn has_form(schema: &Schema, witness: &Witness) -> bool {
         && word.len() <= LONGEST_WORD
 }
 
-/// Are J and K tree-bearing roots?
-fn both_open(schema: &Schema, trimming: &Trimming, witness: &Witness) -> bool {
-    let opens = |of: Type| schema.root_types().contains(&of) && trimming.bears[usize::from(of)];
-    [witness.one, witness.other].into_iter().all(opens)
+/// Do J and K both bear a tree opened by one kind?
+fn opened_alike(trimming: &Trimming, witness: &Witness) -> bool {
+    let [one, other] = [witness.one, witness.other].map(|of| trimming.opened[usize::from(of)]);
+    one.meets(other)
+}
+
+/// Are J and K roots?
+fn are_roots(schema: &Schema, witness: &Witness) -> bool {
+    let is_root = |of: Type| schema.root_types().contains(&of);
+    [witness.one, witness.other].into_iter().all(is_root)
 }
 
 /// May J come after the word, and K too?
@@ -199,12 +211,15 @@ impl Queue {
         None
     }
 
-    /// Goes over the entries from the two states at a place. Two of one type lead to a further pair;
-    /// two of one tag and different types are rivals, whose types it answers.
+    /// Goes over the entries of one tag from the two states at a place. Two of one type lead to a further
+    /// pair; two of different types that share a kind are rivals, whose types it answers.
     fn go_on(&mut self, rows: &Rows, within: Type, place: usize) -> Option<(Type, Type)> {
         let Arrival { p, q, .. } = self.arrivals[place];
         for one in rows.row(within, p) {
             for other in rows.row(within, q) {
+                if one.tag() != other.tag() {
+                    continue;
+                }
                 if one.by() == other.by() {
                     self.add(Arrival {
                         p: one.to(),
@@ -212,7 +227,7 @@ impl Queue {
                         before: place as u16,
                         by: one.by(),
                     });
-                } else if one.tag() == other.tag() {
+                } else if one.opened().meets(other.opened()) {
                     return Some((one.by(), other.by()));
                 }
             }

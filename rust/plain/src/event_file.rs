@@ -1,9 +1,10 @@
 //! The event file: its events and the questions 19 and 20.
 
-use crate::codes::{CLOSE, FINISH, OPEN};
-use crate::limits::{MOST_TAGS, Tag, Type};
+use crate::codes::{CLOSE, FINISH, OPEN, OPEN_NIL};
+use crate::kinds::Kind;
+use crate::limits::{Tag, Type};
 use crate::questions::{NO_EVENT, NO_ROOM, Number, OUTSIDE_LIMITS};
-use crate::reading::{Ahead, Reading, RootOf, roots_by_tag};
+use crate::reading::{Ahead, NO_ROOTS, Reading, RootOf, roots_by_tag};
 use crate::rows::Rows;
 use crate::schema::Schema;
 use crate::states::States;
@@ -22,6 +23,7 @@ pub struct EventAnswer {
 #[derive(Debug, Clone, Copy, PartialEq, Eq)]
 pub enum Event {
     Open { tag: Tag },
+    OpenNil { tag: Tag },
     Close { tag: Tag },
     Finish,
 }
@@ -31,6 +33,7 @@ pub enum Event {
 pub fn event(bytes: &[u8]) -> Option<(Event, usize)> {
     match *bytes {
         [OPEN, tag, ..] => Some((Event::Open { tag }, 2)),
+        [OPEN_NIL, tag, ..] => Some((Event::OpenNil { tag }, 2)),
         [CLOSE, tag, ..] => Some((Event::Close { tag }, 2)),
         [FINISH, ..] => Some((Event::Finish, 1)),
         _ => None,
@@ -82,20 +85,20 @@ fn take(
     count: &mut usize,
 ) -> Result<usize, Number> {
     let (event, length) = event(bytes).ok_or(NO_EVENT)?;
-    match event {
-        Event::Open { tag } => {
-            let (of, after) = reading.ask_opening(ahead, tag)?;
-            *types.get_mut(*count).ok_or(NO_ROOM)? = of;
-            *count += 1;
-            reading.enter(of, after);
-        }
-        Event::Close { tag } => reading.take_closing(ahead.schema(), tag)?,
-        Event::Finish => reading.take_finish()?,
-    }
+    let (kind, tag) = match event {
+        Event::Open { tag } => (Kind::Plain, tag),
+        Event::OpenNil { tag } => (Kind::Nil, tag),
+        Event::Close { tag } => return reading.take_closing(ahead.schema(), tag).map(|()| length),
+        Event::Finish => return reading.take_finish().map(|()| length),
+    };
+    let (of, after) = reading.ask_opening(ahead, kind, tag)?;
+    *types.get_mut(*count).ok_or(NO_ROOM)? = of;
+    *count += 1;
+    reading.enter(kind, of, after);
     Ok(length)
 }
 
-/// A schema with its roots by tag and its rows, made once for a file.
+/// A schema with its roots by kind and tag and its rows, made once for a file.
 struct Ways<'s> {
     schema: &'s Schema,
     root_of: RootOf,
@@ -106,11 +109,11 @@ impl<'s> Ways<'s> {
     fn of(schema: &'s Schema) -> Self {
         let mut ways = Ways {
             schema,
-            root_of: [None; MOST_TAGS],
+            root_of: NO_ROOTS,
             rows: Rows::NONE,
         };
-        let live = live_and_rows(schema, &mut ways.rows);
-        ways.root_of = roots_by_tag(schema, &live);
+        let (_, opened) = live_and_rows(schema, &mut ways.rows);
+        ways.root_of = roots_by_tag(schema, &opened);
         ways
     }
 }
@@ -122,17 +125,17 @@ impl Ahead for Ways<'_> {
     }
 
     #[inline]
-    fn root(&self, tag: Tag) -> Option<Type> {
-        self.root_of[usize::from(tag)]
+    fn root(&self, kind: Kind, tag: Tag) -> Option<Type> {
+        self.root_of[kind as usize][usize::from(tag)]
     }
 
     #[inline]
-    fn child(&self, within: Type, set: States, tag: Tag) -> Option<(Type, States)> {
-        self.rows.smallest(within, set, tag)
+    fn child(&self, within: Type, set: States, kind: Kind, tag: Tag) -> Option<(Type, States)> {
+        self.rows.smallest(within, set, kind, tag)
     }
 }
 
-/// An opening of an event file: its level, the root's being 1, and its tag.
+/// An opening of an event file, of either kind: its level, the root's being 1, and its tag.
 #[derive(Debug, Clone, Copy, PartialEq, Eq)]
 pub struct Opening {
     pub level: usize,
@@ -149,7 +152,7 @@ pub fn openings(events: &[u8]) -> impl Iterator<Item = Opening> {
             let (event, length) = event(rest)?;
             rest = &rest[length..];
             match event {
-                Event::Open { tag } => {
+                Event::Open { tag } | Event::OpenNil { tag } => {
                     level += 1;
                     return Some(Opening { level, tag });
                 }

@@ -1,8 +1,8 @@
 //! Typing of tagged documents as they open, in plain Rust.
 //!
 //! A schema file states tags, types and a content automaton for each type, or an expression that
-//! becomes one, and the root types. If no two types compete, each element of a document gets its type
-//! at its opening tag.
+//! becomes one, which types may be empty on purpose, and the root types. If no two types compete, each
+//! element of a document gets its type at its opening tag.
 //! This crate is written from the documents that describe the files and answers, and shares no code
 //! with the engine: it is what the engine is compared with, and what its time is measured against.
 #![forbid(unsafe_code)]
@@ -12,6 +12,7 @@ pub mod competition;
 pub mod event_file;
 pub mod event_file_by_steps;
 mod expression;
+pub mod kinds;
 pub mod limits;
 mod program;
 pub mod questions;
@@ -27,6 +28,7 @@ mod witness;
 mod tests;
 
 pub use event_file::{EventAnswer, Opening, openings};
+pub use kinds::Kind;
 pub use program::print;
 pub use reading::{Answer, Answered, Reading};
 pub use rows::Rows;
@@ -102,7 +104,7 @@ pub fn competes(schema: &[u8], witness: &Witness) -> bool {
 /// Question 8: does a root type bear a tree?
 fn has_documents(schema: &Schema, trimming: &Trimming) -> bool {
     let mut roots = schema.root_types().iter();
-    roots.any(|&root| trimming.bears[usize::from(root)])
+    roots.any(|&root| trimming.bears(root))
 }
 
 /// Questions 1 to 9 and 21 to 23: reads the schema that the file states into a blank one, if it is accepted.

@@ -1,5 +1,6 @@
 //! A reading: the elements that are open, and the questions 10 to 18.
 
+use crate::kinds::{Kind, Kinds, KindsOf};
 use crate::limits::{MOST_OPEN, MOST_TAGS, MOST_TYPES, State, Tag, Type};
 use crate::questions::{
     FINISHED, INCOMPLETE, NO_SUCH_OPENING, NOTHING_OPEN, Number, OTHER_TAG, OUTSIDE_LIMITS,
@@ -10,7 +11,8 @@ use crate::states::{States, StatesOf};
 use crate::trimming::live_states;
 
 /// A reading: for each open level, the root's first, the element's type and the live states that its
-/// children's types lead to; entries past `depth` are not used. It lies in memory as the engine has it.
+/// children's types lead to, none if it is nil; entries past `depth` are not used. It lies in memory as
+/// the engine has it.
 #[derive(Debug, Clone, Copy, PartialEq, Eq)]
 #[repr(C)]
 pub struct Reading {
@@ -53,26 +55,28 @@ impl Reading {
     };
 
     #[inline]
-    pub fn open(mut self, schema: &Schema, tag: Tag) -> Answered {
-        let answer = self.open_lent(schema, tag);
-        Answered {
-            answer,
-            reading: self,
-        }
+    pub fn open(self, schema: &Schema, tag: Tag) -> Answered {
+        self.moved_on(|reading| reading.open_lent(schema, tag))
     }
 
     #[inline]
-    pub fn close(mut self, schema: &Schema, tag: Tag) -> Answered {
-        let answer = self.close_lent(schema, tag);
-        Answered {
-            answer,
-            reading: self,
-        }
+    pub fn open_nil(self, schema: &Schema, tag: Tag) -> Answered {
+        self.moved_on(|reading| reading.open_nil_lent(schema, tag))
     }
 
     #[inline]
-    pub fn finish(mut self, schema: &Schema) -> Answered {
-        let answer = self.finish_lent(schema);
+    pub fn close(self, schema: &Schema, tag: Tag) -> Answered {
+        self.moved_on(|reading| reading.close_lent(schema, tag))
+    }
+
+    #[inline]
+    pub fn finish(self, schema: &Schema) -> Answered {
+        self.moved_on(|reading| reading.finish_lent(schema))
+    }
+
+    #[inline]
+    fn moved_on(mut self, call: impl FnOnce(&mut Reading) -> Answer) -> Answered {
+        let answer = call(&mut self);
         Answered {
             answer,
             reading: self,
@@ -83,9 +87,18 @@ impl Reading {
 /// The same calls on a lent reading, which is moved on by one event.
 impl Reading {
     pub fn open_lent(&mut self, schema: &Schema, tag: Tag) -> Answer {
+        self.open_by(Kind::Plain, schema, tag)
+    }
+
+    pub fn open_nil_lent(&mut self, schema: &Schema, tag: Tag) -> Answer {
+        self.open_by(Kind::Nil, schema, tag)
+    }
+
+    #[inline]
+    fn open_by(&mut self, kind: Kind, schema: &Schema, tag: Tag) -> Answer {
         let opened = self.within_limits(schema).and_then(|()| {
-            let (of, after) = self.ask_opening(&Live::of(schema), tag)?;
-            self.enter(of, after);
+            let (of, after) = self.ask_opening(&Live::of(schema), kind, tag)?;
+            self.enter(kind, of, after);
             Ok(of)
         });
         opened.map_or_else(Answer::Refused, Answer::Typed)
@@ -122,12 +135,12 @@ impl Reading {
 pub(crate) trait Ahead {
     fn schema(&self) -> &Schema;
 
-    /// The smallest tree-bearing root type of a tag below the schema's count.
-    fn root(&self, tag: Tag) -> Option<Type>;
+    /// The smallest root type of a tag below the schema's count that bears a tree opened by the kind.
+    fn root(&self, kind: Kind, tag: Tag) -> Option<Type>;
 
-    /// The smallest tree-bearing type of the tag that leads from the set to a live state, in an
-    /// element of the type `within`; and the live states that it leads to.
-    fn child(&self, within: Type, set: States, tag: Tag) -> Option<(Type, States)>;
+    /// The smallest type of the tag that bears a tree opened by the kind and leads from the set to a live
+    /// state, in an element of the type `within`; and the live states that it leads to.
+    fn child(&self, within: Type, set: States, kind: Kind, tag: Tag) -> Option<(Type, States)>;
 }
 
 /// The events: questions 11 to 18, and the reading moved on if none is answered no.
@@ -137,23 +150,24 @@ impl Reading {
     pub(crate) fn ask_opening(
         &self,
         ahead: &impl Ahead,
+        kind: Kind,
         tag: Tag,
     ) -> Result<(Type, States), Number> {
         self.check(ahead.schema(), tag)?;
-        let coming = self.coming(ahead, tag).ok_or(NO_SUCH_OPENING)?;
+        let coming = self.coming(ahead, kind, tag).ok_or(NO_SUCH_OPENING)?;
         ask(TOO_DEEP, usize::from(self.depth) < MOST_OPEN)?;
         Ok(coming)
     }
 
     /// Moves on by an opening that was answered so.
     #[inline]
-    pub(crate) fn enter(&mut self, of: Type, after: States) {
+    pub(crate) fn enter(&mut self, kind: Kind, of: Type, after: States) {
         let depth = usize::from(self.depth);
         if depth > 0 {
             self.sets[depth - 1] = after;
         }
         self.types[depth] = of;
-        self.sets[depth] = States::START;
+        self.sets[depth] = kind.first_states();
         self.depth += 1;
         self.rooted = true;
     }
@@ -165,7 +179,9 @@ impl Reading {
         let inner = usize::from(self.depth) - 1;
         let of = usize::from(self.types[inner]);
         ask(OTHER_TAG, schema.tag[of] == tag)?;
-        ask(INCOMPLETE, self.sets[inner].meets(schema.accepting[of]))?;
+        let set = self.sets[inner];
+        let is_nil = set.is_empty() && schema.nillable[of];
+        ask(INCOMPLETE, set.meets(schema.accepting[of]) || is_nil)?;
         self.depth -= 1;
         Ok(())
     }
@@ -185,28 +201,33 @@ impl Reading {
         ask(UNKNOWN_TAG, tag < schema.tags)
     }
 
-    /// The type that an opening of this tag gets, and the states that it leads its parent to.
+    /// The type that an opening of this kind and tag gets, and the states that it leads its parent to.
     #[inline]
-    fn coming(&self, ahead: &impl Ahead, tag: Tag) -> Option<(Type, States)> {
+    fn coming(&self, ahead: &impl Ahead, kind: Kind, tag: Tag) -> Option<(Type, States)> {
         if self.depth > 0 {
             let inner = usize::from(self.depth) - 1;
-            return ahead.child(self.types[inner], self.sets[inner], tag);
+            return ahead.child(self.types[inner], self.sets[inner], kind, tag);
         }
-        let root = if self.rooted { None } else { ahead.root(tag) };
-        root.map(|root| (root, States::NONE))
+        if self.rooted {
+            return None;
+        }
+        ahead.root(kind, tag).map(|root| (root, States::NONE))
     }
 }
 
-/// For each tag the smallest tree-bearing root type of it.
-pub(crate) type RootOf = [Option<Type>; MOST_TAGS];
+/// For each kind and tag the smallest root type of the tag that bears a tree opened by the kind.
+pub(crate) type RootOf = [[Option<Type>; MOST_TAGS]; Kind::ALL.len()];
 
-/// The roots by tag, of a schema with these live states.
-pub(crate) fn roots_by_tag(schema: &Schema, live: &StatesOf) -> RootOf {
-    let mut root_of = [None; MOST_TAGS];
+pub(crate) const NO_ROOTS: RootOf = [[None; MOST_TAGS]; Kind::ALL.len()];
+
+/// The roots by kind and tag, of a schema whose types' trees are opened by these kinds.
+pub(crate) fn roots_by_tag(schema: &Schema, opened: &KindsOf) -> RootOf {
+    let mut root_of = NO_ROOTS;
     for &root in schema.root_types() {
-        let smallest = &mut root_of[usize::from(schema.tag[usize::from(root)])];
-        if live[usize::from(root)].has_start() {
-            *smallest = Some(smallest.map_or(root, |of: Type| of.min(root)));
+        let tag = usize::from(schema.tag[usize::from(root)]);
+        for kind in opened[usize::from(root)].iter() {
+            let smallest = &mut root_of[kind as usize][tag];
+            *smallest = Some(smallest.map_or(root, |of| of.min(root)));
         }
     }
     root_of
@@ -224,8 +245,11 @@ impl<'s> Live<'s> {
         Live { schema, live }
     }
 
-    fn bears(&self, of: Type) -> bool {
-        self.live[usize::from(of)].has_start()
+    /// May an opening of the kind and tag be of the type?
+    fn opens(&self, of: Type, kind: Kind, tag: Tag) -> bool {
+        let of = usize::from(of);
+        let opened = Kinds::of(self.live[of], self.schema.nillable[of]);
+        self.schema.tag[of] == tag && opened.has(kind)
     }
 }
 
@@ -234,18 +258,16 @@ impl Ahead for Live<'_> {
         self.schema
     }
 
-    fn root(&self, tag: Tag) -> Option<Type> {
+    fn root(&self, kind: Kind, tag: Tag) -> Option<Type> {
         let roots = self.schema.root_types().iter().copied();
-        let opens = |&of: &Type| self.schema.tag[usize::from(of)] == tag && self.bears(of);
-        roots.filter(opens).min()
+        roots.filter(|&of| self.opens(of, kind, tag)).min()
     }
 
-    fn child(&self, within: Type, set: States, tag: Tag) -> Option<(Type, States)> {
+    fn child(&self, within: Type, set: States, kind: Kind, tag: Tag) -> Option<(Type, States)> {
         let live = self.live[usize::from(within)];
         let steps = self.schema.steps_at(self.schema.block(within));
         let coming = steps.filter(|step| {
-            let fits = self.schema.tag[usize::from(step.by)] == tag;
-            fits && set.has(step.from) && self.bears(step.by) && live.has(step.to)
+            set.has(step.from) && self.opens(step.by, kind, tag) && live.has(step.to)
         });
         smallest(coming.map(|step| (step.by, step.to)))
     }

@@ -2,13 +2,14 @@
 
 use std::ops::Range;
 
+use crate::kinds::{Kind, Kinds, KindsOf};
 use crate::limits::{MOST_STATES, MOST_STEPS, MOST_TYPES, State, Tag, Type};
 use crate::schema::{Schema, Step};
 use crate::states::{States, StatesOf};
 
 /// A step that counts: by a tree-bearing type, into a live state. From the lowest bit on it has the
-/// state that it is from, the one that it leads to, its type and its type's tag in 5, 5, 9 and 5 bits;
-/// the bits above are 0.
+/// state that it is from, the one that it leads to, its type and its type's tag in 5, 5, 9 and 5 bits,
+/// then the number of the kinds by which its type's trees are opened; the bits above are 0.
 #[derive(Debug, Clone, Copy, PartialEq, Eq, PartialOrd, Ord)]
 #[repr(transparent)]
 pub struct Entry(pub u32);
@@ -26,14 +27,17 @@ impl Entry {
     const TO: u32 = 5;
     const BY: u32 = 10;
     const TAGGED: u32 = 19;
+    const OPENED: u32 = 24;
 
-    const fn new(Step { from, by, to }: Step, tag: Tag) -> Self {
-        Entry(
-            from as u32
-                | (to as u32) << Self::TO
-                | (by as u32) << Self::BY
-                | (tag as u32) << Self::TAGGED,
-        )
+    const fn new(Step { from, by, to }: Step, tag: Tag, opened: Kinds) -> Self {
+        let step = from as u32 | (to as u32) << Self::TO | (by as u32) << Self::BY;
+        Entry(step | Self::above_type(tag, opened))
+    }
+
+    /// A tag and kinds at their places.
+    #[inline]
+    const fn above_type(tag: Tag, opened: Kinds) -> u32 {
+        (tag as u32) << Self::TAGGED | (opened.0 as u32) << Self::OPENED
     }
 
     #[inline]
@@ -56,10 +60,17 @@ impl Entry {
         (self.0 >> Self::TAGGED & Self::TAG) as Tag
     }
 
-    /// Its type if it is of the tag, else a greater number than any type's: tag and type less the tag.
     #[inline]
-    const fn type_of(self, tag: Tag) -> u32 {
-        (self.0 >> Self::BY).wrapping_sub((tag as u32) << (Self::TAGGED - Self::BY))
+    pub const fn opened(self) -> Kinds {
+        Kinds((self.0 >> Self::OPENED) as u8)
+    }
+
+    /// Its type if an opening may be of it, else a greater number than any type's. `least` is the
+    /// opening's tag and the first kinds that have its kind; less it, only such an entry has nothing
+    /// above its type but the lowest bit of the kinds, which is left out.
+    #[inline]
+    const fn type_of(self, least: u32) -> u32 {
+        (self.0.wrapping_sub(least) & !(1 << Self::OPENED)) >> Self::BY
     }
 }
 
@@ -82,13 +93,14 @@ impl Rows {
         begins: [0; ROWS + 1],
     };
 
-    /// Fills empty rows with the steps of a schema inside the limits, of which these states are live.
-    pub fn fill(&mut self, schema: &Schema, live: &StatesOf) {
+    /// Fills empty rows with the steps of a schema inside the limits, of which these states are live and
+    /// whose trees are opened by these kinds.
+    pub fn fill(&mut self, schema: &Schema, live: &StatesOf, opened: &KindsOf) {
         let mut count = 0;
         let mut own_entries = Vec::new();
         for (of, own) in schema.blocks() {
             own_entries.clear();
-            own_entries.extend(entries_that_count(schema, live, of, own));
+            own_entries.extend(entries_that_count(schema, live[of], opened, own));
             let begins = &mut self.begins[of * MOST_STATES..][..MOST_STATES];
             let (used, unused) = begins.split_at_mut(usize::from(schema.states[of]));
             for (state, begin) in used.iter_mut().enumerate() {
@@ -112,13 +124,21 @@ impl Rows {
         &self.entries[begin..end]
     }
 
-    /// The smallest type of the tag that leads on from these states of a type, and where it leads to.
+    /// The smallest type of the tag that leads on from these states of a type and can be opened by the
+    /// kind, and where it leads to.
     #[inline]
-    pub fn smallest(&self, within: Type, states: States, tag: Tag) -> Option<(Type, States)> {
+    pub fn smallest(
+        &self,
+        within: Type,
+        states: States,
+        kind: Kind,
+        tag: Tag,
+    ) -> Option<(Type, States)> {
+        let least = Entry::above_type(tag, Kinds::first_with(kind));
         let (mut smallest, mut after) = (Entry::NO_TYPE, States::NONE);
         for state in states.iter() {
             for entry in self.row(within, state) {
-                let by = entry.type_of(tag);
+                let by = entry.type_of(least);
                 if by <= smallest {
                     if by < smallest {
                         (smallest, after) = (by, States::NONE);
@@ -138,14 +158,16 @@ impl Rows {
     }
 }
 
-/// The entries of a type's steps that count, in the steps' order.
+/// The entries of the steps that count at a type's own places, in the steps' order.
 fn entries_that_count(
     schema: &Schema,
-    live: &StatesOf,
-    of: usize,
+    live: States,
+    opened: &KindsOf,
     own: Range<usize>,
 ) -> impl Iterator<Item = Entry> {
-    let counts = move |step: &Step| live[usize::from(step.by)].has_start() && live[of].has(step.to);
-    let steps = schema.steps_at(own).filter(counts);
-    steps.map(|step| Entry::new(step, schema.tag[usize::from(step.by)]))
+    schema.steps_at(own).filter_map(move |step| {
+        let by = usize::from(step.by);
+        let counts = !opened[by].is_empty() && live.has(step.to);
+        counts.then(|| Entry::new(step, schema.tag[by], opened[by]))
+    })
 }

@@ -15,10 +15,12 @@ pub struct Schema {
     pub roots: u8,
     /// The root types, as they stand in the file.
     pub root: [Type; MOST_ROOTS],
-    /// For each type its tag, its number of states, its accepting states and its number of steps.
+    /// For each type its tag, its number of states, its accepting states, whether an element of it may be
+    /// nil, and its number of steps.
     pub tag: [Tag; MOST_TYPES],
     pub states: [u8; MOST_TYPES],
     pub accepting: [States; MOST_TYPES],
+    pub nillable: [bool; MOST_TYPES],
     pub steps: [u16; MOST_TYPES],
     /// For each step the state that it is from, the type that it is by and the state that it leads to.
     pub from: [State; MOST_STEPS],
@@ -35,7 +37,7 @@ pub struct Step {
 }
 
 impl Schema {
-    /// No tag, no type and no root; every entry is 0.
+    /// No tag, no type and no root; every entry is 0, and no type nillable.
     pub const BLANK: Schema = Schema {
         tags: 0,
         types: 0,
@@ -44,6 +46,7 @@ impl Schema {
         tag: [0; MOST_TYPES],
         states: [0; MOST_TYPES],
         accepting: [States::NONE; MOST_TYPES],
+        nillable: [false; MOST_TYPES],
         steps: [0; MOST_TYPES],
         from: [0; MOST_STEPS],
         by: [0; MOST_STEPS],

@@ -1,7 +1,7 @@
 //! The schema file: its commands and the questions 2 to 7, and those of expressions.
 
 use crate::codes::{
-    CLOSE_BRACKET, DONE, END, FINAL, NEXT, OPEN_BRACKET, REPEAT, ROOT, STEP, TAGS, TYPE, USE,
+    CLOSE_BRACKET, DONE, END, FINAL, NEXT, NIL, OPEN_BRACKET, REPEAT, ROOT, STEP, TAGS, TYPE, USE,
 };
 use crate::expression::Reader;
 use crate::limits::{MOST_ROOTS, MOST_STATES, MOST_STEPS, MOST_TAGS, MOST_TYPES, State, Tag, Type};
@@ -24,19 +24,21 @@ enum Command {
     Type { tag: Tag, states: u8 },
     Final { state: State },
     Step(Step),
+    Nil,
     Root { of: Type },
     Done,
     OfExpression,
 }
 
 /// The command that these bytes begin with, and its length.
-#[inline]
+#[inline(always)]
 fn command(bytes: &[u8]) -> Option<(Command, usize)> {
     match *bytes {
         [TAGS, count, ..] => Some((Command::Tags { count }, 2)),
         [TYPE, tag, states, ..] => Some((Command::Type { tag, states }, 3)),
         [FINAL, state, ..] => Some((Command::Final { state }, 2)),
         [STEP, from, by, to, ..] => Some((Command::Step(Step { from, by, to }), 4)),
+        [NIL, ..] => Some((Command::Nil, 1)),
         [ROOT, of, ..] => Some((Command::Root { of }, 2)),
         [DONE, ..] => Some((Command::Done, 1)),
         [USE, _, ..] => Some((Command::OfExpression, 2)),
@@ -85,7 +87,7 @@ pub fn read(file: &[u8], schema: &mut Schema) -> Result<(), Refusal> {
 }
 
 /// Which commands may come: TAGS, a TYPE, what stands in a block or after it, what stands after an
-/// expression, a ROOT or DONE, none.
+/// expression (NIL alone of a block's), a ROOT or DONE, none.
 #[derive(Debug, Clone, Copy, PartialEq, Eq)]
 enum Phase {
     Start,
@@ -141,6 +143,7 @@ impl Draft<'_> {
                 matches!(self.phase, Phase::Tags | Phase::Blocks | Phase::Expression)
             }
             Command::Final { .. } | Command::Step(_) => self.phase == Phase::Blocks,
+            Command::Nil => matches!(self.phase, Phase::Blocks | Phase::Expression),
             Command::Root { .. } => {
                 matches!(self.phase, Phase::Blocks | Phase::Expression | Phase::Roots)
             }
@@ -161,7 +164,7 @@ impl Draft<'_> {
                 from < self.states() && usize::from(by) < MOST_TYPES && to < self.states()
             }
             Command::Root { of } => of < self.schema.types,
-            Command::Done | Command::OfExpression => true,
+            Command::Nil | Command::Done | Command::OfExpression => true,
         }
     }
 
@@ -175,7 +178,7 @@ impl Draft<'_> {
         }
     }
 
-    /// Is it no FINAL or STEP that its block already has, and no ROOT that was given?
+    /// Is it no FINAL, STEP or NIL that its block already has, and no ROOT that was given?
     #[inline]
     fn is_new(&self, command: Command) -> bool {
         match command {
@@ -185,6 +188,7 @@ impl Draft<'_> {
                 let mut given = self.schema.steps_at(first..self.steps);
                 !given.any(|other| other == step)
             }
+            Command::Nil => !self.schema.nillable[self.block()],
             Command::Root { of } => !self.schema.root_types().contains(&of),
             _ => true,
         }
@@ -201,6 +205,7 @@ impl Draft<'_> {
             Command::Type { tag, states } => self.put_type(tag, states),
             Command::Final { state } => self.schema.accepting[self.block()].add(state),
             Command::Step(step) => self.put_step(step, place),
+            Command::Nil => self.schema.nillable[self.block()] = true,
             Command::Root { of } => self.put_root(of),
             Command::Done => self.phase = Phase::Done,
             Command::OfExpression => {}

@@ -2,20 +2,29 @@
 
 mod expressions;
 mod made_up;
+mod nil;
 mod roots;
 mod rows;
 mod shortest;
 
-use crate::codes::{CLOSE, FINISH, OPEN};
+use crate::codes::{CLOSE, FINISH, OPEN, OPEN_NIL};
 use crate::competition::pair_number;
 use crate::limits::WITNESS;
 use crate::{
-    Job, Opening, Schema, SchemaAnswer, Witness, check_schema, competes, openings, print,
+    Job, Kind, Opening, Schema, SchemaAnswer, Witness, check_schema, competes, openings, print,
     schema_file, type_document,
 };
 
 /// A byte that no answer writes.
 const UNTOUCHED: u8 = 0xEE;
+
+/// The first byte of an opening.
+fn code(kind: Kind) -> u8 {
+    match kind {
+        Kind::Plain => OPEN,
+        Kind::Nil => OPEN_NIL,
+    }
+}
 
 /// A type's tag, state count, accepting states and steps.
 type Block<'a> = (u8, u8, &'a [u8], &'a [(u8, u8, u8)]);
@@ -29,16 +38,24 @@ fn file(tags: u8, blocks: &[Block], root: u8) -> Vec<u8> {
 }
 
 fn file_of_roots(tags: u8, blocks: &[Block], roots: &[u8]) -> Vec<u8> {
+    let blocks: Vec<Vec<u8>> = blocks.iter().map(block_bytes).collect();
+    file_of_bytes(tags, &blocks, roots)
+}
+
+fn block_bytes(&(tag, states, accepting, steps): &Block) -> Vec<u8> {
+    let mut bytes = vec![0x11, tag, states];
+    bytes.extend(accepting.iter().flat_map(|&state| [0x12, state]));
+    bytes.extend(
+        steps
+            .iter()
+            .flat_map(|&(from, by, to)| [0x13, from, by, to]),
+    );
+    bytes
+}
+
+fn file_of_bytes(tags: u8, blocks: &[Vec<u8>], roots: &[u8]) -> Vec<u8> {
     let mut bytes = vec![0x10, tags];
-    for &(tag, states, accepting, steps) in blocks {
-        bytes.extend([0x11, tag, states]);
-        bytes.extend(accepting.iter().flat_map(|&state| [0x12, state]));
-        bytes.extend(
-            steps
-                .iter()
-                .flat_map(|&(from, by, to)| [0x13, from, by, to]),
-        );
-    }
+    bytes.extend(blocks.concat());
     bytes.extend(roots.iter().flat_map(|&root| [0x14, root]));
     bytes.push(0x1F);
     bytes

@@ -1,5 +1,6 @@
 //! Trimming: the live states, the types that bear a tree, the types that are reached.
 
+use crate::kinds::{Kinds, KindsOf};
 use crate::limits::{MOST_TYPES, State, Type};
 use crate::rows::Rows;
 use crate::schema::{Schema, Step};
@@ -11,8 +12,8 @@ use crate::states::{States, StatesOf};
 pub struct Trimming {
     /// The states from which an accepting state can be reached by types that bear a tree.
     pub live: StatesOf,
-    /// Does it bear a tree? Its start state is live then.
-    pub bears: [bool; MOST_TYPES],
+    /// The kinds by which its trees are opened; none if it bears no tree.
+    pub opened: KindsOf,
     /// Is it a root type, or in a word of a reached type?
     pub reached: [bool; MOST_TYPES],
     /// The steps that count.
@@ -22,7 +23,7 @@ pub struct Trimming {
 impl Trimming {
     pub const NONE: Trimming = Trimming {
         live: [States::NONE; MOST_TYPES],
-        bears: [false; MOST_TYPES],
+        opened: [Kinds::NONE; MOST_TYPES],
         reached: [false; MOST_TYPES],
         rows: Rows::NONE,
     };
@@ -40,47 +41,67 @@ impl Trimming {
     fn from_roots(schema: &Schema, roots: &[bool; MOST_TYPES]) -> Trimming {
         // Filled in place: a copy of the rows takes longer than a small schema's trimming.
         let mut trimming = Trimming::NONE;
-        trimming.live = live_and_rows(schema, &mut trimming.rows);
-        trimming.bears = trimming.live.map(States::has_start);
-        let ahead = states_ahead(schema, &trimming.live);
+        (trimming.live, trimming.opened) = live_and_rows(schema, &mut trimming.rows);
+        let ahead = states_ahead(schema, &trimming.opened);
         trimming.reached = reached_types(schema, roots, &trimming.rows, &ahead);
         trimming
     }
+
+    pub fn bears(&self, of: Type) -> bool {
+        !self.opened[usize::from(of)].is_empty()
+    }
 }
 
-/// The live states; and fills empty rows with the steps that count.
-pub fn live_and_rows(schema: &Schema, rows: &mut Rows) -> StatesOf {
+/// The live states and the kinds of the trees; and fills empty rows with the steps that count.
+pub fn live_and_rows(schema: &Schema, rows: &mut Rows) -> (StatesOf, KindsOf) {
     let live = live_states(schema);
-    rows.fill(schema, &live);
-    live
+    let opened = opened_kinds(schema, &live);
+    rows.fill(schema, &live, &opened);
+    (live, opened)
 }
 
-/// The live states: a type bears a tree once its start state is live.
+/// The kinds by which the trees of each type are opened, in a schema with these live states.
+pub fn opened_kinds(schema: &Schema, live: &StatesOf) -> KindsOf {
+    let mut opened = [Kinds::NONE; MOST_TYPES];
+    let used = opened[..usize::from(schema.types)].iter_mut();
+    for (kinds, (&live, &nillable)) in used.zip(live.iter().zip(&schema.nillable)) {
+        *kinds = Kinds::of(live, nillable);
+    }
+    opened
+}
+
+/// The live states: a type bears a tree if it is nillable, or once its start state is live.
 pub fn live_states(schema: &Schema) -> StatesOf {
     let types = usize::from(schema.types);
     let mut live = [States::NONE; MOST_TYPES];
     live[..types].copy_from_slice(&schema.accepting[..types]);
-    let bears = |live: &StatesOf, of: Type| live[usize::from(of)].has_start();
-    settle(schema, &mut live, bears, |step| (step.to, step.from));
+    let mut bears = live.map(States::has_start);
+    for (bears, &nillable) in bears[..types].iter_mut().zip(&schema.nillable) {
+        *bears |= nillable;
+    }
+    let backwards = |step: Step| (step.to, step.from);
+    settle(schema, &mut live, &mut bears, States::has_start, backwards);
     live
 }
 
 /// The states that words over tree-bearing types lead to from the start.
-fn states_ahead(schema: &Schema, live: &StatesOf) -> StatesOf {
+fn states_ahead(schema: &Schema, opened: &KindsOf) -> StatesOf {
     let mut ahead = [States::START; MOST_TYPES];
-    let bears = |_: &StatesOf, of: Type| live[usize::from(of)].has_start();
-    settle(schema, &mut ahead, bears, |step| (step.from, step.to));
+    let mut bears = opened.map(|kinds| !kinds.is_empty());
+    let forwards = |step: Step| (step.from, step.to);
+    settle(schema, &mut ahead, &mut bears, |_| false, forwards);
     ahead
 }
 
 /// A step by a tree-bearing type adds its second state to its type's set if that has the first. Goes
 /// over one type's steps until its set is unchanged, then over the next type's, and over all types
-/// again until no set grows. Which types bear a tree may hang on the sets.
+/// again until no set grows. From when a set fits `by_set` on, its type bears a tree.
 #[inline(always)]
 fn settle(
     schema: &Schema,
     sets: &mut StatesOf,
-    bears: impl Fn(&StatesOf, Type) -> bool,
+    bears: &mut [bool; MOST_TYPES],
+    by_set: impl Fn(States) -> bool,
     ends: impl Fn(Step) -> (State, State),
 ) {
     let mut grown = true;
@@ -91,7 +112,7 @@ fn settle(
                 let mut set = sets[of];
                 for step in schema.steps_at(own.clone()) {
                     let (first, second) = ends(step);
-                    if bears(sets, step.by) && set.has(first) {
+                    if bears[usize::from(step.by)] && set.has(first) {
                         set.add(second);
                     }
                 }
@@ -99,6 +120,7 @@ fn settle(
                     break;
                 }
                 sets[of] = set;
+                bears[of] |= by_set(set);
                 grown = true;
             }
         }

@@ -1,4 +1,5 @@
 //! What is tested of each answer before it is handed on: that it is one of document 01's, or of document 02's 21 to 23, for what was asked.
+use crate::event::{OPEN, OPEN_NIL};
 use crate::{foreign, witness, WITNESS};
 
 /// Types are below this.
@@ -81,7 +82,8 @@ pub fn opening(told: &foreign::Opening, events: &[u8], at: usize, level: usize) 
             past > at
                 && past - at >= 2
                 && past <= events.len()
-                && events[past - 2..past] == [0x21, tag]
+                && matches!(events[past - 2], OPEN | OPEN_NIL)
+                && events[past - 1] == tag
                 && deep >= 1
                 && deep - 1 <= level
         }
@@ -205,10 +207,12 @@ mod tests {
             at,
             level,
         };
-        let file = [0x21, 0, 0x22, 0, 0x21, 7];
-        assert!(opening(&told(1, 0, 2, 1), &file, 0, 0));
-        assert!(opening(&told(1, 7, 6, 1), &file, 2, 1));
-        assert!(!opening(&told(0, 0, 6, 1), &file, 6, 1));
+        let files = [OPEN, OPEN_NIL].map(|code| [code, 0, 0x22, 0, code, 7]);
+        for file in &files {
+            assert!(opening(&told(1, 0, 2, 1), file, 0, 0));
+            assert!(opening(&told(1, 7, 6, 1), file, 2, 1));
+            assert!(!opening(&told(0, 0, 6, 1), file, 6, 1));
+        }
         for (found, tag, at, level) in [
             (0, 1, 2, 1),
             (0, 0, 3, 1),
@@ -223,9 +227,11 @@ mod tests {
             (2, 7, 6, 1),
             (255, 7, 6, 1),
         ] {
-            breach(move || {
-                opening(&told(found, tag, at, level), &file, 2, 1);
-            });
+            for file in files {
+                breach(move || {
+                    opening(&told(found, tag, at, level), &file, 2, 1);
+                });
+            }
         }
     }
 }

@@ -30,11 +30,28 @@
 //! assert_eq!(job, typestock::Job::EventsRead { number: 0, place: 5, count: 1 });
 //! assert_eq!(types[0], 1);
 //! ```
+//!
+//! A type may be nillable. An element of it may be opened as nil: it is empty on purpose, whatever its content would need. [`command`] and [`event`]
+//! name the first bytes:
+//!
+//! ```
+//! use typestock::command::{DONE, FINAL, NIL, ROOT, STEP, TAGS, TYPE};
+//! use typestock::event::{CLOSE, FINISH, OPEN, OPEN_NIL};
+//! let rack = [TYPE, 0, 2, FINAL, 1, STEP, 0, 1, 1, NIL]; // type 0, of tag 0: one boot, or empty on purpose
+//! let boot = [TYPE, 1, 1, FINAL, 0]; // type 1, of tag 1
+//! let schema = [&[TAGS, 2], &rack[..], &boot, &[ROOT, 0, DONE]].concat();
+//! let job = |events: &[u8]| typestock::type_document(&schema, events, &mut [0; typestock::WITNESS], &mut [0; 2]);
+//! assert_eq!(job(&[OPEN_NIL, 0, CLOSE, 0, FINISH]), typestock::Job::EventsRead { number: 0, place: 5, count: 1 });
+//! assert_eq!(job(&[OPEN, 0, CLOSE, 0, FINISH]), typestock::Job::EventsRead { number: 17, place: 2, count: 1 });
+//! ```
 #[cfg(not(all(target_arch = "x86_64", target_os = "linux")))]
 compile_error!("libtypestock_c.a is for x86-64 Linux");
 
+mod codes;
 mod foreign;
 mod held;
+
+pub use codes::{command, event};
 
 /// The least length of a witness buffer: with fewer bytes every schema is refused with 1.
 pub const WITNESS: usize = 532;
@@ -94,7 +111,7 @@ pub fn type_document(schema: &[u8], events: &[u8], witness: &mut [u8], types: &m
     }
 }
 
-/// An opening of an event file: its level, the root's being 1, and its tag.
+/// An opening of an event file, plain or as nil: its level, the root's being 1, and its tag.
 #[derive(Debug, Clone, Copy, PartialEq, Eq)]
 pub struct Opening {
     pub level: usize,
@@ -139,7 +156,7 @@ impl Iterator for Openings<'_> {
 
 impl std::iter::FusedIterator for Openings<'_> {}
 
-/// Why a schema is refused with 9: types `one` and `other` have one tag, and both may be opened at one place.
+/// Why a schema is refused with 9: types `one` and `other` have one tag, and both may be opened at one place, both plainly or both as nil.
 ///
 /// ```
 /// let schema = b"\x10\x01\x11\x00\x01\x12\x00\x11\x00\x01\x12\x00\x14\x00\x14\x01\x1f"; // types 0 and 1, both of tag 0, are roots

@@ -1,7 +1,10 @@
 // Buffers of every length, damaged files and small threads: which bytes are written, and that every answer is one of document 01's or 02's
 // (the wrapper tests that of each).
 mod common;
-use common::{checked, hex, read, refused, typed, LISTS, R, R_BY_EXPRESSIONS, R_EVENTS, STOCK};
+use common::{
+    checked, hex, read, refused, typed, LISTS, R, R_BY_EXPRESSIONS, R_EVENTS, STOCK, WALL,
+    WALL_EVENTS,
+};
 use typestock::{check_schema, openings, witness, Job, SchemaAnswer, Witness, WITNESS};
 
 // The steps of a content automaton whose types 2 and 3 lead on from the states 30 and 31 alone. Type 1 enters two cycles, of the states 1 to
@@ -86,17 +89,27 @@ fn witness_buffers_of_competing_roots() {
     }
 }
 
+// Of a schema and a document: where its openings are, and their types.
+type Typed = (&'static str, &'static str, &'static [usize], &'static [u8]);
+
+const DOCUMENTS: [Typed; 2] = [
+    (R, R_EVENTS, &[0, 2, 6, 10], &[0, 1, 2, 3]),
+    (WALL, WALL_EVENTS, &[0, 2, 6, 8, 12], &[0, 1, 1, 3, 4]),
+];
+
 #[test]
 fn types_buffers_of_every_length() {
-    let places = [0, 2, 6, 10];
-    for room in 0..=40 {
-        let (job, _, types) = typed(&hex(R), &hex(R_EVENTS), WITNESS, room);
-        let expected = match places.get(room) {
-            Some(&place) => read(20, place, room),
-            None => read(0, 17, 4),
-        };
-        assert_eq!(job, expected);
-        assert_eq!(types, [0, 1, 2, 3][..room.min(4)]);
+    for (schema, events, places, given) in DOCUMENTS {
+        let (schema, events) = (hex(schema), hex(events));
+        for room in 0..=40 {
+            let (job, _, types) = typed(&schema, &events, WITNESS, room);
+            let expected = match places.get(room) {
+                Some(&place) => read(20, place, room),
+                None => read(0, events.len(), given.len()),
+            };
+            assert_eq!(job, expected);
+            assert_eq!(types, given[..room.min(given.len())]);
+        }
     }
 }
 
@@ -120,7 +133,7 @@ fn size(code: u8) -> usize {
     match code {
         0x13 => 4,
         0x11 => 3,
-        0x10 | 0x12 | 0x14 | 0x21 | 0x22 | 0x32 => 2,
+        0x10 | 0x12 | 0x14 | 0x21..=0x23 | 0x32 => 2,
         _ => 1,
     }
 }
@@ -136,24 +149,26 @@ fn cut_at(file: &[u8], length: usize) -> usize {
 
 #[test]
 fn files_cut_short() {
-    let (schema, events) = (hex(R), hex(R_EVENTS));
     let lists = hex(&format!("{LISTS} 14 01 14 00 1F"));
-    for schema in [&schema, &hex(R_BY_EXPRESSIONS), &lists] {
+    for schema in [hex(R), hex(R_BY_EXPRESSIONS), lists, hex(WALL)] {
         for length in 0..schema.len() {
             let expected = SchemaAnswer {
                 number: 2,
-                place: cut_at(schema, length),
+                place: cut_at(&schema, length),
             };
             assert_eq!(checked(&schema[..length], WITNESS).0, expected);
         }
     }
-    for length in 0..events.len() {
-        let cut = &events[..length];
-        let count = [0, 2, 6, 10].iter().filter(|&&p| p + 2 <= length).count();
-        let (job, _, types) = typed(&schema, cut, WITNESS, 4);
-        assert_eq!(job, read(19, cut_at(&events, length), count));
-        assert_eq!(types, [0, 1, 2, 3][..count]);
-        assert_eq!(openings(cut).count(), count);
+    for (schema, events, places, given) in DOCUMENTS {
+        let (schema, events) = (hex(schema), hex(events));
+        for length in 0..events.len() {
+            let cut = &events[..length];
+            let count = places.iter().filter(|&&p| p + 2 <= length).count();
+            let (job, _, types) = typed(&schema, cut, WITNESS, given.len());
+            assert_eq!(job, read(19, cut_at(&events, length), count));
+            assert_eq!(types, given[..count]);
+            assert_eq!(openings(cut).count(), count);
+        }
     }
 }
 
@@ -176,21 +191,22 @@ fn schema_byte_changed(schema: &[u8], events: &[u8]) {
     }
 }
 
-// So of R, by states and by expressions, and of a schema with three roots; of each byte of the events, no more is counted than there are openings.
+// So of R, by states and by expressions, of a schema with three roots and of one with a nillable type; of each byte of the events, no more is counted
+// than there are openings.
 #[test]
 fn one_byte_changed() {
-    let (schema, events) = (hex(R), hex(R_EVENTS));
-    schema_byte_changed(&schema, &events);
-    schema_byte_changed(&hex(R_BY_EXPRESSIONS), &events);
+    schema_byte_changed(&hex(R_BY_EXPRESSIONS), &hex(R_EVENTS));
     let lists = hex(&format!("{LISTS} 14 01 14 00 14 03 1F"));
     schema_byte_changed(&lists, &hex(STOCK));
-    for place in 0..events.len() {
-        for value in 0..=255 {
+    for (schema, events, _, given) in DOCUMENTS {
+        let (schema, events) = (hex(schema), hex(events));
+        schema_byte_changed(&schema, &events);
+        for (place, value) in (0..events.len()).flat_map(|p| (0..=255).map(move |v| (p, v))) {
             let mut damaged = events.clone();
             damaged[place] = value;
-            let (job, _, _) = typed(&schema, &damaged, WITNESS, 4);
+            let (job, _, _) = typed(&schema, &damaged, WITNESS, given.len());
             let Job::EventsRead { count, .. } = job else {
-                panic!("R is refused");
+                panic!("the schema is refused");
             };
             assert!(count <= openings(&damaged).count());
         }
@@ -206,6 +222,10 @@ fn openings_of_any_bytes() {
     assert_eq!(
         pairs("22 00 22 00 21 FF 2F 21 07 22 00 21 21"),
         [(1, 255), (2, 7), (2, 33)]
+    );
+    assert_eq!(
+        pairs("22 00 23 FF 2F 23 07 22 00 21 23 23"),
+        [(1, 255), (2, 7), (2, 35)]
     );
     assert_eq!(pairs("21 00 21"), [(1, 0)]);
     assert_eq!(pairs("21 00 00 21 01"), [(1, 0)]);
@@ -290,6 +310,7 @@ fn small_threads() {
     let work = || {
         let (competing, deepest) = (long_witness(), deepest());
         let roots = hex(&format!("{LISTS} 14 02 14 03 1F"));
+        let (wall, wall_events) = (hex(WALL), hex(WALL_EVENTS));
         let (schema, events) = (hex(R), hex(R_EVENTS));
         for _ in 0..200 {
             let mut buffer = vec![0; WITNESS];
@@ -298,6 +319,8 @@ fn small_threads() {
             assert_eq!(check_schema(&roots, &mut buffer).number, 9);
             let (job, _, types) = typed(&schema, &events, WITNESS, 4);
             assert_eq!((job, types), (read(0, 17, 4), vec![0, 1, 2, 3]));
+            let (job, _, types) = typed(&wall, &wall_events, WITNESS, 5);
+            assert_eq!((job, types), (read(0, 21, 5), vec![0, 1, 1, 3, 4]));
         }
     };
     let threads: Vec<_> = (0..8)

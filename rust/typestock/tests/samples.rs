@@ -1,7 +1,10 @@
-// Document 01's "Samples from the boot wall", schemas written as expressions and schemas with several roots. Where a sample names elements a, b, c
-// their tags are 1, 2, 3; the root's is 0.
+// Document 01's "Samples from the boot wall", schemas written as expressions, schemas with several roots, and elements that are nil. Where a sample
+// names elements a, b, c their tags are 1, 2, 3; the root's is 0.
 mod common;
-use common::{checked, hex, read, refused, typed, LISTS, R, R_BY_EXPRESSIONS, R_EVENTS, STOCK};
+use common::{
+    checked, hex, read, refused, typed, LISTS, R, R_BY_EXPRESSIONS, R_EVENTS, STOCK, WALL,
+    WALL_EVENTS,
+};
 use typestock::{openings, witness, Opening, SchemaAnswer, Witness, WITNESS};
 
 // The schema gets the number at the place, with the witness, from both calls.
@@ -325,4 +328,98 @@ fn roots_stand_together() {
     }
     schema_gets("10 01 14 00", 3, 2, "");
     schema_gets("10 01 11 00 01 14 00 14", 2, 7, "");
+}
+
+#[test]
+fn a_rack_empty_on_purpose() {
+    events_get(WALL, WALL_EVENTS, 0, 21, &[0, 1, 1, 3, 4]);
+    assert_eq!(
+        levels_and_tags(WALL_EVENTS),
+        [(1, 0), (2, 1), (2, 1), (3, 3), (3, 2)]
+    );
+    // opened plainly a rack needs its mark, and a nil one has nothing inside
+    events_get(WALL, "21 00 21 01 22 01", 17, 4, &[0, 1]);
+    for inside in ["21 02", "23 02", "21 03", "23 01"] {
+        let events = format!("21 00 23 01 {inside}");
+        events_get(WALL, &events, 13, 4, &[0, 1]);
+    }
+    events_get(WALL, "21 00 23 01 22 00", 16, 4, &[0, 1]);
+    events_get(WALL, "21 00 23 01 2F", 18, 4, &[0, 1]);
+    // neither the wall nor a boot is nillable
+    events_get(WALL, "23 00", 13, 0, &[]);
+    events_get(WALL, "21 00 21 01 23 02", 13, 4, &[0, 1]);
+    events_get(WALL, "21 00 23 04", 12, 2, &[0]);
+    events_get(WALL, "21 00 23", 19, 2, &[0]);
+}
+
+// The one type has no accepting state, so no tree that is opened plainly.
+#[test]
+fn a_nil_root() {
+    let schema = "10 01 11 00 01 15 14 00 1F";
+    events_get(schema, "23 00 22 00 2F", 0, 5, &[0]);
+    events_get(schema, "21 00", 13, 0, &[]);
+    events_get(schema, "23 00 22 00 23 00", 13, 4, &[0]);
+    events_get(schema, "23 00 22 00 2F 23 00", 11, 5, &[0]);
+    schema_gets("10 01 11 00 01 14 00 1F", 8, 0, "");
+    // each needs one of its own type, and the innermost may be nil
+    let nested = "10 01 11 00 00 32 00 3F 15 14 00 1F";
+    events_get(
+        nested,
+        "21 00 21 00 23 00 22 00 22 00 22 00 2F",
+        0,
+        13,
+        &[0; 3],
+    );
+    events_get(nested, "21 00 22 00", 17, 2, &[0]);
+}
+
+#[test]
+fn where_nil_may_stand() {
+    for block in [
+        "15 12 00 13 00 00 00",
+        "12 00 15 13 00 00 00",
+        "12 00 13 00 00 00 15",
+    ] {
+        schema_gets(&format!("10 01 11 00 01 {block} 14 00 1F"), 0, 0, "");
+        let twice = format!("10 01 11 00 01 {block} 15 14 00 1F");
+        schema_gets(&twice, 6, 12, "");
+    }
+    schema_gets("10 01 11 00 00 3F 15 14 00 1F", 0, 0, "");
+    for (schema, number, place) in [
+        ("15", 3, 0),
+        ("10 01 15", 3, 2),
+        ("10 01 11 00 00 15", 3, 5),
+        ("10 01 11 00 00 32 00 15", 3, 7),
+        ("10 01 11 00 00 3F 15 15", 6, 7),
+        ("10 01 11 00 00 3F 15 12 00", 3, 7),
+        ("10 01 11 00 00 3F 15 13 00 00 00", 3, 7),
+        ("10 01 11 00 01 14 00 15", 3, 7),
+        ("10 01 11 00 01 15 14 00 1F 15", 3, 9),
+        ("10 01 11 00 01 15", 2, 6),
+    ] {
+        schema_gets(schema, number, place, "");
+    }
+}
+
+// Types 1 and 2 of one tag, in type 0 or as roots: both nillable, both with a tree that is opened plainly, or one of each.
+#[test]
+fn kinds_of_openings_compete_apart() {
+    let plain = "11 01 01 12 00";
+    let nil = "11 01 01 15";
+    let both = "11 01 01 12 00 15";
+    let schema = |one: &str, other: &str, roots: &str| {
+        let owner = "11 00 02 12 01 13 00 01 01 13 00 02 01";
+        format!("10 02 {owner} {one} {other} {roots} 1F")
+    };
+    for [one, other] in [[plain, plain], [nil, nil], [both, plain], [nil, both]] {
+        schema_gets(&schema(one, other, "14 00"), 9, 0, "00 01 02 00 00");
+        let roots = schema(one, other, "14 01 14 02");
+        schema_gets(&roots, 9, 0, "FF 01 02 00 00");
+    }
+    let apart = schema(plain, nil, "14 00");
+    events_get(&apart, "21 00 21 01 22 01 22 00 2F", 0, 9, &[0, 1]);
+    events_get(&apart, "21 00 23 01 22 01 22 00 2F", 0, 9, &[0, 2]);
+    let roots = schema(nil, plain, "14 01 14 02");
+    events_get(&roots, "21 01 22 01 2F", 0, 5, &[2]);
+    events_get(&roots, "23 01 22 01 2F", 0, 5, &[1]);
 }

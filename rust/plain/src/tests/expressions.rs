@@ -138,6 +138,7 @@ fn other_commands_inside_and_outside() {
         "12 00",
         "13 00 00 00",
         "14 00",
+        "15",
         "1F",
         "11 00 00",
     ] {

@@ -1,17 +1,17 @@
 //! Calls on schemas and readings that no file stated and no events led to.
 
-use super::{Block, OPEN, boots, file_of_roots, leaf, stated};
+use super::{Block, OPEN, OPEN_NIL, boots, code, file_of_roots, leaf, stated};
 use crate::limits::{MOST_OPEN, MOST_ROOTS, MOST_STEPS, MOST_TYPES};
 use crate::questions::{
     INCOMPLETE, NO_EVENT, NO_SUCH_OPENING, OUTSIDE_LIMITS, TOO_DEEP, UNKNOWN_TAG,
 };
 use crate::{
-    Answer, Answered, Reading, Schema, States, Trimming, competition, event_file,
+    Answer, Answered, Kind, Reading, Schema, States, Trimming, competition, event_file,
     event_file_by_steps,
 };
 
 /// An element of this type is open, in these states.
-fn inside(of: u8, set: u32) -> Reading {
+pub(super) fn inside(of: u8, set: u32) -> Reading {
     let mut reading = Reading {
         depth: 1,
         rooted: true,
@@ -29,6 +29,7 @@ fn outside(schema: &Schema, reading: Reading) {
         reading,
     };
     assert_eq!(reading.open(schema, 0), answered);
+    assert_eq!(reading.open_nil(schema, 0), answered);
     assert_eq!(reading.close(schema, 0), answered);
     assert_eq!(reading.finish(schema), answered);
 }
@@ -63,6 +64,7 @@ fn schemas_outside_the_limits() {
         outside(&schema, Reading::FRESH);
         let number = |events: &[u8]| event_file::read(&schema, events, &mut []).number;
         assert_eq!(number(&[OPEN, 0]), OUTSIDE_LIMITS);
+        assert_eq!(number(&[OPEN_NIL, 0]), OUTSIDE_LIMITS);
         assert_eq!((number(&[]), number(&[OPEN])), (NO_EVENT, NO_EVENT));
     }
 }
@@ -74,6 +76,7 @@ fn entries_that_are_not_used() {
     schema.states[MOST_TYPES - 1] = 99;
     schema.by[3] = 99;
     schema.root[1] = 99;
+    schema.nillable[4..].fill(true);
     assert!(schema.within_limits());
     let mut reading = inside(0, 0b01);
     reading.types[1] = 99;
@@ -125,9 +128,25 @@ fn the_set_of_no_states() {
     assert_eq!(inside(0, 0b10).close(&schema, 0).answer, Answer::Taken);
 }
 
-/// The type that an opening of this tag gets, alike from a call and from an event file of both layouts.
-fn root_given(schema: &Schema, tag: u8) -> Option<u8> {
-    let called = match Reading::FRESH.open(schema, tag).answer {
+/// The answer to an opening and the reading that follows it, by value and on a lent reading alike.
+pub(super) fn opened(schema: &Schema, reading: Reading, kind: Kind, tag: u8) -> (Answer, Reading) {
+    let mut lent = reading;
+    let (answered, answer) = match kind {
+        Kind::Plain => (reading.open(schema, tag), lent.open_lent(schema, tag)),
+        Kind::Nil => (
+            reading.open_nil(schema, tag),
+            lent.open_nil_lent(schema, tag),
+        ),
+    };
+    assert_eq!((answered.answer, answered.reading), (answer, lent));
+    let refused = matches!(answer, Answer::Refused(_));
+    assert_eq!(refused, lent == reading);
+    (answer, lent)
+}
+
+/// The type that a first opening gets, alike from a call and from an event file of both layouts.
+pub(super) fn root_given(schema: &Schema, kind: Kind, tag: u8) -> Option<u8> {
+    let called = match opened(schema, Reading::FRESH, kind, tag).0 {
         Answer::Typed(of) => Some(of),
         answer => {
             assert_eq!(answer, Answer::Refused(NO_SUCH_OPENING));
@@ -136,7 +155,7 @@ fn root_given(schema: &Schema, tag: u8) -> Option<u8> {
     };
     for read in [event_file::read, event_file_by_steps::read] {
         let mut types = [99];
-        let count = read(schema, &[OPEN, tag], &mut types).count;
+        let count = read(schema, &[code(kind), tag], &mut types).count;
         assert_eq!(types[..count].first().copied(), called);
     }
     called
@@ -147,7 +166,7 @@ fn the_smallest_root_of_a_tag() {
     let barren: Block = (0, 1, &[], &[]);
     let blocks = [barren, leaf(0), leaf(0), leaf(0), leaf(1)];
     let mut schema = stated(&file_of_roots(3, &blocks, &[3, 4, 0, 2]));
-    let given = |schema: &Schema| [0, 1, 2].map(|tag| root_given(schema, tag));
+    let given = |schema: &Schema| [0, 1, 2].map(|tag| root_given(schema, Kind::Plain, tag));
     // Type 0 bears no tree, and type 1 is no root.
     assert_eq!(given(&schema), [Some(2), Some(4), None]);
     schema.roots = 3;
@@ -172,7 +191,7 @@ fn a_root_twice_is_no_competition() {
     let found = |schema: &Schema| competition::find(schema, &Trimming::of(schema));
     assert_eq!(found(&schema), None);
     assert_eq!(
-        [0, 1].map(|tag| root_given(&schema, tag)),
+        [0, 1].map(|tag| root_given(&schema, Kind::Plain, tag)),
         [Some(0), Some(1)]
     );
     schema.root[7] = 2;

@@ -1,8 +1,11 @@
 //! The rows of the steps that count, and event files over both layouts.
 
-use super::{Block, OPEN, boots, file, file_of_roots, leaf, nesting, row, stated, two_readings};
+use super::{
+    Block, OPEN, boots, file, file_of_roots, hex, leaf, nesting, row, stated, two_readings,
+};
+use crate::kinds::Kinds;
 use crate::rows::Entry;
-use crate::{Rows, Trimming, event_file, event_file_by_steps};
+use crate::{Kind, Rows, States, Trimming, event_file, event_file_by_steps};
 
 fn rows(file: &[u8]) -> Rows {
     Trimming::of(&stated(file)).rows
@@ -19,16 +22,41 @@ fn rows_of_the_boots() {
     let rows = rows(&boots());
     assert_eq!(entries(&rows, 0, 0), [[0, 1, 0, 1], [0, 2, 1, 2]]);
     assert_eq!(entries(&rows, 0, 1), [[1, 3, 1, 1]]);
+    // No type is nillable.
+    let plain = 1 << 24;
     let words = [
-        1 << 10 | 1 << 19,
-        1 << 5 | 2 << 10 | 2 << 19,
-        1 | 1 << 5 | 3 << 10 | 1 << 19,
+        1 << 10 | 1 << 19 | plain,
+        1 << 5 | 2 << 10 | 2 << 19 | plain,
+        1 | 1 << 5 | 3 << 10 | 1 << 19 | plain,
     ];
     assert_eq!(rows.entries[..3], words.map(Entry));
     assert!(rows.entries[3..].iter().all(|&entry| entry == Entry(0)));
     assert_eq!(rows.begins[..2], [0, 2]);
     assert!(rows.begins[2..=4 * 32].iter().all(|&begin| begin == 3));
     assert!(rows.begins[4 * 32 + 1..].iter().all(|&begin| begin == 0));
+}
+
+#[test]
+fn kinds_of_the_entries() {
+    // Types 1 to 4 have trees that are plain, nil, of both kinds and of none.
+    let file = hex(
+        "10 05 11 00 02 12 01 13 00 01 01 13 00 02 01 13 00 03 01 13 00 04 01 \
+         11 01 01 12 00 11 02 01 15 11 03 01 12 00 15 11 04 01 14 00 1F",
+    );
+    let rows = rows(&file);
+    let opened: Vec<_> = rows.row(0, 0).iter().map(|entry| entry.opened()).collect();
+    assert_eq!(opened, [Kinds::PLAIN, Kinds::NIL, Kinds::BOTH]);
+    for (n, (entry, kinds)) in (1..).zip(rows.entries.iter().zip([1, 3, 2])) {
+        assert_eq!(entry.0, 1 << 5 | n << 10 | n << 19 | kinds << 24);
+    }
+    for (tag, kind) in (0..5).flat_map(|tag| Kind::ALL.map(|kind| (tag, kind))) {
+        let found = rows.smallest(0, States::START, kind, tag);
+        let has = rows
+            .row(0, 0)
+            .iter()
+            .any(|entry| entry.tag() == tag && entry.opened().has(kind));
+        assert_eq!(found, has.then_some((tag, States::only(1))));
+    }
 }
 
 #[test]

@@ -1,5 +1,5 @@
-// What the tests share: bytes from hexadecimal text, document 01's schema R, by states and by expressions, one with two roots, and calls on
-// buffers that are watched.
+// What the tests share: bytes from hexadecimal text, document 01's schema R, by states and by expressions, one with two roots, one with a nillable
+// type, and calls on buffers that are watched.
 #![allow(dead_code)]
 use typestock::{check_schema, type_document, Job, SchemaAnswer};
 
@@ -23,6 +23,13 @@ pub const LISTS: &str =
     "10 03  11 00 01 12 00 13 00 02 00  11 01 01 12 00 13 00 03 00  11 02 01 12 00  11 02 01 12 00";
 // A stock list of two articles.
 pub const STOCK: &str = "21 01 21 02 22 02 21 02 22 02 22 01 2F";
+
+// A wall of racks, types 0 and 1. On a rack, which may be empty on purpose, are hire boots, type 2, the mark and boots for sale, type 4, of one tag.
+pub const WALL: &str =
+    "10 04  11 00 01 12 00 13 00 01 00  11 01 02 12 01 13 00 02 00 13 00 03 01 13 01 04 01 15
+    11 02 01 12 00  11 03 01 12 00  11 02 01 12 00  14 00 1F";
+// A rack empty on purpose, then one with the mark and a boot for sale.
+pub const WALL_EVENTS: &str = "21 00  23 01 22 01  21 01 21 03 22 03 21 02 22 02 22 01  22 00 2F";
 
 // A buffer between guard bytes. Each byte, the guards too, has a value of its place's; `turned` has each bit the other way, so that a
 // byte that is written differs from its value in one of the two.

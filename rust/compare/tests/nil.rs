@@ -1,0 +1,197 @@
+//! NIL and openings as nil: each place, each pair of kinds, each list of few events.
+
+mod common;
+
+use common::both;
+use compare::Fixed;
+use plain::Job;
+use plain::codes::{CLOSE, FINISH, NIL, OPEN, OPEN_NIL};
+use plain::limits::{NO_PARENT, WITNESS};
+
+/// The commands of a file, and whether a NIL may stand right before each: an owner by states, one by an
+/// expression, a leaf, two roots.
+const COMMANDS: [(&[u8], bool); 14] = [
+    (&[0x10, 3], false),
+    (&[0x11, 0, 2], false),
+    (&[0x12, 1], true),
+    (&[0x13, 0, 1, 1], true),
+    (&[0x13, 1, 2, 1], true),
+    (&[0x11, 1, 0], true),
+    (&[0x32, 2], false),
+    (&[0x34], false),
+    (&[0x3F], false),
+    (&[0x11, 2, 1], true),
+    (&[0x12, 0], true),
+    (&[0x14, 0], true),
+    (&[0x14, 2], false),
+    (&[0x1F], false),
+];
+
+/// The file of these commands with as many NILs before each as are given for it.
+fn with_nil(counts: [usize; 14]) -> Vec<u8> {
+    let parts = COMMANDS.iter().zip(counts);
+    let parts = parts.map(|((command, _), count)| [&[NIL].repeat(count), *command].concat());
+    parts.collect::<Vec<_>>().concat()
+}
+
+/// The place of the command with this number if no NIL stands before it.
+fn place_of(number: usize) -> usize {
+    let before = COMMANDS[..number].iter();
+    before.map(|(command, _)| command.len()).sum()
+}
+
+#[test]
+fn nil_before_each_command() {
+    for (number, (_, fits)) in COMMANDS.iter().enumerate() {
+        let place = place_of(number);
+        let answer = |count| {
+            let mut counts = [0; 14];
+            counts[number] = count;
+            both(&with_nil(counts), &[], WITNESS, 0).schema
+        };
+        assert_eq!(answer(1), if *fits { (0, 0) } else { (3, place) });
+        let twice = if *fits { (6, place + 1) } else { (3, place) };
+        assert_eq!((answer(2), answer(3)), (twice, twice));
+    }
+    let mut past_the_end = with_nil([0; 14]);
+    past_the_end.push(NIL);
+    let answer = both(&past_the_end, &[], WITNESS, 0).schema;
+    assert_eq!(answer, (3, place_of(14)));
+}
+
+#[test]
+fn nil_before_each_two_commands() {
+    // The type in whose block a NIL right before the command stands.
+    let block = |number: usize| match number {
+        2..=5 => 0,
+        9 => 1,
+        _ => 2,
+    };
+    let fitting = (0..14).filter(|&number| COMMANDS[number].1);
+    for (one, other) in fitting
+        .clone()
+        .flat_map(|one| fitting.clone().map(move |other| (one, other)))
+        .filter(|(one, other)| one < other)
+    {
+        let mut counts = [0; 14];
+        (counts[one], counts[other]) = (1, 1);
+        let again = (6, place_of(other) + 1);
+        let same = block(one) == block(other);
+        let answer = both(&with_nil(counts), &[], WITNESS, 0).schema;
+        assert_eq!(answer, if same { again } else { (0, 0) });
+    }
+}
+
+/// A type of this tag without children: with a plain tree, nillable, both or neither.
+fn childless(tag: u8, plain: bool, nillable: bool) -> Vec<u8> {
+    let mut block = vec![0x11, tag, 1];
+    block.extend([0x12, 0].iter().filter(|_| plain));
+    block.extend(nillable.then_some(NIL));
+    block
+}
+
+/// Types 1 and 2 of tag 1, with these trees, in type 0 or as roots.
+fn two_of_a_tag(one: [bool; 2], other: [bool; 2], roots: &[u8]) -> Vec<u8> {
+    let mut schema = vec![0x10, 2, 0x11, 0, 2, 0x12, 1, 0x13, 0, 1, 1, 0x13, 0, 2, 1];
+    for [plain, nillable] in [one, other] {
+        schema.extend(childless(1, plain, nillable));
+    }
+    schema.extend(roots.iter().flat_map(|&root| [0x14, root]));
+    schema.push(0x1F);
+    schema
+}
+
+#[test]
+fn competition_by_each_two_kinds() {
+    let kinds = [[false, false], [true, false], [false, true], [true, true]];
+    for (one, other) in kinds
+        .iter()
+        .flat_map(|one| kinds.map(|other| (*one, other)))
+    {
+        let shared = (0..2).any(|kind| one[kind] && other[kind]);
+        let none = one == kinds[0] && other == kinds[0];
+        let number = if none { 8 } else { 9 * u8::from(shared) };
+        for (within, roots) in [(0, &[0][..]), (NO_PARENT, &[1, 2]), (NO_PARENT, &[2, 1])] {
+            let schema = two_of_a_tag(one, other, roots);
+            let answers = both(&schema, &[], WITNESS, 0);
+            let fixed = shared.then_some(Fixed { within, length: 0 });
+            assert_eq!((answers.schema, answers.witness), ((number, 0), fixed));
+            let around: [&[u8]; 2] = match within {
+                0 => [&[OPEN, 0], &[CLOSE, 0]],
+                _ => [&[], &[]],
+            };
+            for (kind, code) in [OPEN, OPEN_NIL].into_iter().enumerate() {
+                let events = [around[0], &[code, 1, CLOSE, 1], around[1], &[FINISH]].concat();
+                let taken = match both(&schema, &events, WITNESS, 2).job {
+                    Job::EventsRead { number, .. } => Some(number == 0),
+                    Job::SchemaRefused { .. } => None,
+                };
+                assert_eq!(taken, (number == 0).then_some(one[kind] || other[kind]));
+            }
+        }
+    }
+}
+
+/// Type 0, tag 0, holds itself and types 1 and 2, of tag 1, in any number; type 0 is nillable, type 1 a
+/// leaf, and type 2 has nil trees alone.
+fn nested() -> Vec<u8> {
+    let mut schema = vec![0x10, 2, 0x11, 0, 1, 0x12, 0, NIL];
+    schema.extend((0..3).flat_map(|by| [0x13, 0, by, 0]));
+    schema.extend(childless(1, true, false));
+    schema.extend(childless(1, false, true));
+    schema.extend([0x14, 0, 0x1F]);
+    schema
+}
+
+#[test]
+fn every_list_of_few_events() {
+    let events: [&[u8]; 7] = [
+        &[OPEN, 0],
+        &[OPEN, 1],
+        &[OPEN_NIL, 0],
+        &[OPEN_NIL, 1],
+        &[CLOSE, 0],
+        &[CLOSE, 1],
+        &[FINISH],
+    ];
+    let mut files = vec![vec![]];
+    let mut whole = 0;
+    for _ in 0..5 {
+        files = files
+            .iter()
+            .flat_map(|file| events.map(|event| [file, event].concat()))
+            .collect();
+        let taken = |file: &&Vec<u8>| {
+            let job = both(&nested(), file, WITNESS, 3).job;
+            matches!(job, Job::EventsRead { number: 0, .. })
+        };
+        whole += files.iter().filter(taken).count();
+    }
+    // The root alone, plain or nil; and a plain one with a child of each tag and kind.
+    assert_eq!(whole, 2 + 4);
+}
+
+#[test]
+fn nil_elements_at_the_lowest_level() {
+    let job = |more: &[u8]| {
+        let events = [&[OPEN, 0].repeat(63), more].concat();
+        match both(&nested(), &events, WITNESS, 100).job {
+            Job::EventsRead { number, count, .. } => (number, count),
+            job => panic!("{job:?}"),
+        }
+    };
+    assert_eq!(job(&[OPEN_NIL, 0, CLOSE, 0, OPEN_NIL, 1]), (19, 65));
+    assert_eq!(job(&[OPEN_NIL, 0, OPEN_NIL, 1]), (13, 64));
+    assert_eq!(job(&[OPEN, 0, OPEN_NIL, 1]), (14, 64));
+    assert_eq!(job(&[OPEN, 0, OPEN_NIL, 2]), (12, 64));
+    let whole = [
+        &[OPEN_NIL, 1, CLOSE, 1][..],
+        &[CLOSE, 0].repeat(63),
+        &[FINISH],
+    ]
+    .concat();
+    assert_eq!(job(&whole), (0, 64));
+    for end in 0..whole.len() {
+        assert_eq!(job(&whole[..end]).0, 19);
+    }
+}
