@@ -1,5 +1,5 @@
--- Readings and event files: document 01's sections "A reading" and "The event file", and document 02, Req 05. `Heads`, `Coming`, `Steps` and `Turns` say
--- what the private steps compute; no public promise cites them.
+-- Readings and event files: document 01's sections "A reading" and "The event file", and document 02, Req 05. `Heads`, `Coming`, `Steps` and
+-- `Turns` say what the private steps compute; no public promise cites them.
 pub mod Levels
 pub mod Questions
 pub mod Calls

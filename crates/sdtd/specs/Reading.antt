@@ -1,5 +1,5 @@
--- Document 01, "A reading", and document 02, Req 05: questions 11 to 18 for the events taken and one more, and what a right answer is. Under a schema in which types
--- compete an opening may have no right answer; under an accepted one each call after right answers has exactly one.
+-- Document 01, "A reading", and document 02, Req 05: questions 11 to 18 for the events taken and one more, and what a right answer is. Under a
+-- schema in which types compete an opening may have no right answer; under an accepted one each call after right answers has exactly one.
 use mathlib.Core.Path.{_≡_}
 use mathlib.Core.List.{List, [], _∷_, _++_, List·Memᴰ, map, tail}
 use Prim.Native.Nat.{ℕ, suc, _<_}

@@ -1,5 +1,6 @@
 -- Document 01, "Samples from the boot wall": the starred samples from the bytes of their files, with numbers, places, counts, types and
--- witnesses, and one statement over the group; and the same of nil elements. Where a sample names elements a, b, c their tags are 1, 2, 3; the root's is 0.
+-- witnesses, and one statement over the group; and the same of nil elements. Where a sample names elements a, b, c their tags are 1, 2, 3; the
+-- root's is 0.
 use mathlib.Core.Path.{_≡_}
 use mathlib.Core.List.{List, [], _∷_, _++_}
 use Prim.Native.Nat.{ℕ, _≤_}
