@@ -3,7 +3,7 @@ use sdtd::Tag;
 use sdtd::TypeNo;
 ghost use mathlib.Core.Path.{_≡_};
 ghost use Prim.Native.Nat.{_<_};
-ghost use lib.ListN.{length, getD};
+ghost use lib.ListN.{length};
 ghost use Rattle.command.specs.Command.{addedCommand, commandAt, partSize, size};
 
 // the bytes of a command with no operand, with one, with two, with three

@@ -28,10 +28,11 @@ noSchema =
       to = replicate mostSteps 0;
     }
 
--- the table holds d from the place n on; it holds 0
+-- the table holds d from the place n on
 abbrev pub HoldsFrom : {A : Type 0} → A → ℕ → List A → Type 0
 HoldsFrom d n table = (i : ℕ) → n ≤ i → getD table i d ≡ d
 
+-- it holds 0 from there on
 abbrev pub EmptyFrom : ℕ → List ℕ → Type 0
 EmptyFrom n table = HoldsFrom 0 n table
 

@@ -5,7 +5,6 @@ mod rivals;
 mod roots;
 mod rows;
 mod search;
-mod ways;
 mod witness;
 
 pub use search::Searched;

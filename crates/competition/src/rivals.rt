@@ -1,13 +1,15 @@
 // Rival steps at a pair of states: an entry of the one's row and an entry of the other's, by different types of one tag that bear trees opened
 // alike.
 use crate::rows::Row;
-use crate::ways::alike;
 use schema::Entry;
 use schema::STEPS;
+use schema::opens_as_nil;
+use schema::opens_plainly;
 use sdtd::TypeNo;
+ghost use mathlib.Core.Path.{_≡_};
 ghost use Prim.Native.Nat.{_≤_};
 ghost use Rattle.sdtd.specs.Limits.{mostSteps};
-ghost use Rattle.competition.specs.Rivals.{RivalMeans, RivalsMean};
+ghost use Rattle.competition.specs.Rivals.{openAlike, RivalMeans, RivalsMean};
 
 // A type, or none.
 pub(crate) enum Rival {
@@ -19,6 +21,13 @@ pub(crate) enum Rival {
 pub(crate) enum Rivals {
     Of(TypeNo, TypeNo),
     NoTypes,
+}
+
+// Have two numbers of ways a kind in common?
+pub(crate) fn alike(w: u8, v: u8) -> bool
+    ensures { λ r. ⌜ r ≡ openAlike w v ⌝ }
+{
+    (opens_as_nil(w) & opens_as_nil(v)) | (opens_plainly(w) & opens_plainly(v))
 }
 
 // Another type of e's tag, where both bear trees opened alike, by an entry of the row.

@@ -1,11 +1,11 @@
 // The roots of a schema, by the ways in which they bear a tree: whether one does, and two of one tag, where both bear trees opened alike.
 use crate::rivals::Rival;
 use crate::rivals::Rivals;
-use crate::ways::alike;
-use crate::ways::opens;
+use crate::rivals::alike;
 use schema::Schema;
 use schema::TYPES;
 use schema::Trimming;
+use schema::opens;
 use schema::root_types;
 use sdtd::Tag;
 use sdtd::TypeNo;

@@ -23,14 +23,26 @@ use Rattle.expression.specs.Expression.{Expression, single, repeat}
 use Rattle.expression.specs.Limits.{mostUses, mostBrackets}
 use Rattle.expression.specs.Parsing.{opening, dividing, repeating, ending, levelOf, soFar, scan, Tables, tables, parsed, refusedAt, thenBy, orBy}
 use Rattle.expression.specs.Parsing.{closedBy, againBy, eitherBy, bracketBy, oneUse, UseSays, RepeatSays, repeats-it, stays-so, Linked}
-use Rattle.expression.specs.Parsing.{Outcome, goes-well, is-refused, ItemTaken, FactorTaken, FactorRefused, NoneTaken, FactorSays}
+use Rattle.expression.specs.Parsing.{Outcome, goes-well, is-refused, Item, FactorTaken, FactorRefused, NoneTaken, FactorSays}
 use Rattle.expression.specs.Parsing.{SequenceTaken, SequenceWhole, SequenceRefused, SequenceSays}
-use Rattle.expression.specs.Parsing.{NextSequence, begins-choice, behind-33, ChoiceTaken, ChoiceWhole, ChoiceRefused, ChoiceSoFar, ChoiceSays}
+use Rattle.expression.specs.Parsing.{NextSequence, begins-choice, behind-33, ChoiceTaken, ChoiceWhole, ChoiceRefused, ChoiceSays}
 use Rattle.expression.specs.declared.parts.Opening.the-variants.{NoFactor}
 use Rattle.expression.specs.declared.sets.Parsed.{Parsed}
 use Rattle.expression.proofs.CommandTests.{part-inside, is-or, is-repeat, is-close, ending-is}
 use Rattle.expression.proofs.ReadLaws.{ownName, read-none, read-one, read-then, read-or, read-closed, read-again}
 use Rattle.expression.proofs.ScanLaws.{scan-fails, scan-part}
+
+-- a use or brackets, before a 34 is looked for
+pub record ItemTaken (file : List ℕ) (i depth u : ℕ) (t t′ : Tables) (x : Parsed) : Type 0 where
+  pub item : Expression
+  pub names : List Name
+  pub taken : Item file i depth u item names true t t′ x
+
+-- what is read of the sequences of a choice so far
+pub record ChoiceSoFar (file : List ℕ) (i depth u : ℕ) (t t′ : Tables) (x : Parsed) : Type 0 where
+  pub onward : i ≤ x .at
+  pub rows : length (t′ .next) ≡ mostStates
+  pub says : Outcome x (ChoiceTaken file i depth u t t′ x) (ChoiceRefused file i depth u x)
 
 never : {A : Type 0} → false ≡ true → A
 never e = absurd (true≢false (sym e))

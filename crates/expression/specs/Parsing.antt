@@ -164,11 +164,6 @@ pub record Item (file : List ℕ) (i depth u : ℕ) (e : Expression) (names : Li
   pub scans : (around : List Level) (l : Level) (before : List Name) (b : Bool) → length around ≡ depth → length before ≡ u
       → scan file i (soFar around l before b) ≡ scan file (x .at) (soFar around (withFactor e l) (names ++ before) again)
 
-pub record ItemTaken (file : List ℕ) (i depth u : ℕ) (t t′ : Tables) (x : Parsed) : Type 0 where
-  pub item : Expression
-  pub names : List Name
-  pub taken : Item file i depth u item names true t t′ x
-
 pub record FactorTaken (file : List ℕ) (i depth u : ℕ) (t t′ : Tables) (x : Parsed) : Type 0 where
   pub item : Expression
   pub names : List Name
@@ -243,12 +238,7 @@ pub data NextSequence (file : List ℕ) (i depth u : ℕ) (t t′ : Tables) (x :
   behind-33 : ChoiceTaken file i depth u t t′ x → commandAt file (x .at) ≡ AnExpression Or → from ≡ x .at + 1
       → NextSequence file i depth u t t′ x from
 
--- what is read of the sequences so far, and the whole choice
-pub record ChoiceSoFar (file : List ℕ) (i depth u : ℕ) (t t′ : Tables) (x : Parsed) : Type 0 where
-  pub onward : i ≤ x .at
-  pub rows : length (t′ .next) ≡ mostStates
-  pub says : Outcome x (ChoiceTaken file i depth u t t′ x) (ChoiceRefused file i depth u x)
-
+-- what is read of the whole choice
 pub record ChoiceSays (file : List ℕ) (i depth u : ℕ) (t t′ : Tables) (x : Parsed) : Type 0 where
   pub onward : i ≤ x .at
   pub rows : length (t′ .next) ≡ mostStates

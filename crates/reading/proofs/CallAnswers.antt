@@ -9,7 +9,7 @@ use lib.ListN.{length, drop}
 use Rattle.sdtd.specs.Numbered.{typeNo}
 use Rattle.sdtd.specs.Limits.{mostLevels}
 use Rattle.sdtd.specs.Schema.{Schema, tagOf}
-use Rattle.sdtd.specs.Tree.{Kind, Content}
+use Rattle.sdtd.specs.Tree.{Kind, ValidContent}
 use Rattle.sdtd.specs.Document.{Event, opening, closing, finish, Begins}
 use Rattle.sdtd.specs.Competition.{Competition, Accepted}
 use Rattle.sdtd.specs.Answer.{Question, Answer, refused, ask, Ordered}
@@ -94,7 +94,7 @@ module _ {S : Schema} (free : ¬ Competition S) {e : List Event} {r : Reading} (
       m
 
   closing-taken : {κ : Kind} {a : ℕ} {w : List ℕ} {fs : List Frame} {g : ℕ} → Position S e (frame (own κ a) w ∷ fs)
-      → Levels S (r .types) (r .sets) (r .rooted) (pred (r .depth)) fs → tagOf S a ≡ g → Content S κ a w
+      → Levels S (r .types) (r .sets) (r .rooted) (pred (r .depth)) fs → tagOf S a ≡ g → ValidContent S κ a w
       → x ≡ gives Taken (closed r) → Answered S e (closing g) [] x
   closing-taken {fs = fs} {g} p l t v q =
       let at : Position S (e ++ (closing g ∷ [])) fs = subst (λ (h : ℕ). Position S (e ++ (closing h ∷ [])) fs) t (close-position p v) in

@@ -8,9 +8,9 @@ use native.Mathlib.Omega.{arith}
 use lib.Dec.{T}
 use lib.ListN.{getD}
 use Rattle.sdtd.specs.Schema.{Block, Schema, blockOf, tagOf, Nillable, Leads, stay, go, Word}
-use Rattle.sdtd.specs.Tree.{Kind, plain, nil, labels, Content}
+use Rattle.sdtd.specs.Tree.{Kind, plain, nil, labels, ValidContent}
 use Rattle.sdtd.specs.Document.{Event}
-use Rattle.sdtd.specs.Trim.{Bears, BearsBy, AllBear, Live}
+use Rattle.sdtd.specs.Trim.{Bears, AllBear, Live}
 use Rattle.sdtd.proofs.Basics.{not-false-true}
 use Rattle.sdtd.proofs.Automata.{leads-append, leads-split, accepts-after, accepts-split}
 use Rattle.sdtd.proofs.Bearing.{by-bears, forest-bears}
@@ -101,7 +101,7 @@ nothing-inside v inside = (
 
 -- 17, whole: where the innermost element can be brought to an end, its content is complete exactly if it is all of it
 pub complete-content : {S : Schema} {r : Reading} (κ : Kind) {a : ℕ} {w : List ℕ} {fs : List Frame}
-    → Level S (innerType r) (innerSet r) κ a w → Suspended S (frame (own κ a) w ∷ fs) → Complete S r ↔ Content S κ a w
+    → Level S (innerType r) (innerSet r) κ a w → Suspended S (frame (own κ a) w ∷ fs) → Complete S r ↔ ValidContent S κ a w
 complete-content plain v s = (
   λ c. ⊎-elim (λ e. absurd (some-state v s (e .1))) (λ e. ends-word v .0 e) c,
   λ x. inr (ends-word v .1 x),

@@ -75,13 +75,13 @@ openByRows t r κ g = openStep (t .tags) r κ g (comingAt (t .heads) (innerByRow
 abbrev pub openBySteps : Schema → List ℕ → List ℕ → List ℕ → Reading → Kind → ℕ → Next
 openBySteps v live ways heads r κ g = openStep (v .tags) r κ g (comingAt heads (innerBySteps v live ways r κ g) r κ g)
 
--- the innermost element, with this set, is empty on purpose: its type is nillable and the set has no states
-abbrev pub onPurpose : Inner → ℕ → Bool
-onPurpose own set = own .nillable && eqb set noStates
+-- the innermost element, with this set, is a nil one: its type is nillable and the set has no states
+abbrev pub isNilled : Inner → ℕ → Bool
+isNilled own set = own .nillable && eqb set noStates
 
--- 17: it is complete if it is empty on purpose, or a state of the set is accepting
+-- 17: it is complete if it is a nil one, or a state of the set is accepting
 abbrev pub complete : Inner → ℕ → Bool
-complete own set = onPurpose own set || meet set (own .accepting)
+complete own set = isNilled own set || meet set (own .accepting)
 
 -- one level less
 abbrev pub ascended : Standing → Stepped

@@ -29,7 +29,7 @@ ghost use Rattle.reading.specs.Questions.{firstSet, setsAfter};
 ghost use Rattle.reading.specs.Coming.{kindBy, kindSought, tagSought, IsSought};
 ghost use Rattle.reading.specs.Heads.{opensUnder};
 ghost use Rattle.reading.specs.Steps.{stepTables, readingOf, nextOf, comingFirst, comingAt, innerByRows, openBy, openByRows};
-ghost use Rattle.reading.specs.Steps.{onPurpose, ascended, Closes, closeStepIn, Finishes, Steady, InnerFits};
+ghost use Rattle.reading.specs.Steps.{isNilled, ascended, Closes, closeStepIn, Finishes, Steady, InnerFits};
 
 // A reading without its levels.
 pub(crate) struct Standing {
@@ -203,9 +203,9 @@ pub(crate) const NONE_OPEN: Inner = Inner {
     accepting: StateSet::NONE.0,
 };
 
-// Is the innermost element, whose set is this, empty on purpose?
-fn on_purpose(own: Inner, set: u32) -> bool
-    ensures { λ r. ⌜ r ≡ onPurpose own set ⌝ }
+// Is the innermost element, whose set is this, a nil one: of a nillable type, with the set of no states?
+fn is_nilled(own: Inner, set: u32) -> bool
+    ensures { λ r. ⌜ r ≡ isNilled own set ⌝ }
 {
     own.nillable && set == StateSet::NONE.0
 }
@@ -256,7 +256,7 @@ pub(crate) fn step_close(
     if StateSet(set).meets(StateSet(own.accepting)) {
         return ascend(at);
     }
-    if !on_purpose(own, set) {
+    if !is_nilled(own, set) {
         return stays(17, at);
     }
     ascend(at)

@@ -1,23 +1,20 @@
 -- Laws of the rounds of trimming: what is left of a round, what a round keeps and adds, and that rounds end.
 use mathlib.Core.Path.{_≡_, refl, sym, ap, _∙_}
 use mathlib.Core.Logic.{_≢_}
-use mathlib.Core.Bool.{false}
 use mathlib.Core.List.{List, _∷_, _++_, append-assoc}
 use Prim.Native.Nat.{ℕ, zero, suc, _+_, _-_, _^_, _≤_, _<_}
 use native.Mathlib.Numerals.{add-one}
-use native.Mathlib.Nat.{zero-add}
 use native.Mathlib.Decide.{ℕ-discrete, decLt}
 use native.Mathlib.Omega.{arith}
 use borrow.Author.Tests.{lt-ltb, le-ltb}
-use lib.ListN.{length, getD, set, take, replicate, length-map, List·getD-eq-default}
+use lib.ListN.{length, getD, set, take, replicate}
 use lib.Seq.{take-suc, set-at, length-take-le}
 use Rattle.sdtd.specs.Limits.{mostTypes, mostStates, mostSteps}
 use Rattle.sdtd.specs.Schema.{Step}
-use Rattle.schema.specs.States.{member}
-use Rattle.schema.specs.Value.{upFrom, stepsOf, stepAt, offset}
+use Rattle.schema.specs.Value.{stepsOf, stepAt, offset}
 use Rattle.schema.specs.Spread.{spreadSet, settleSet, iterate, Settled, spanAt, startStates}
 use Rattle.schema.proofs.Bits.{absent, absent-all, absent-falls, absentIn, absent-in-falls}
-use Rattle.schema.proofs.Values.{steps-cons, offset-step, offset-up, up-count, map-up}
+use Rattle.schema.proofs.Values.{steps-cons, offset-step, offset-up}
 use Rattle.schema.proofs.SpreadLaws.{set-grown, Sets, Growth}
 
 -- the steps left are the one at i and those after it

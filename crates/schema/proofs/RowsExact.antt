@@ -15,10 +15,10 @@ use Rattle.sdtd.specs.Limits.{mostTypes, mostStates, mostSteps}
 use Rattle.sdtd.specs.Schema.{Step, noBlock, blockOf, BlockWithin, WithinLimits}
 use Rattle.sdtd.proofs.Basics.{cond-either, and-parts, and-both, getD-member}
 use Rattle.schema.specs.States.{member}
-use Rattle.schema.specs.Ways.{mostWays, bearsIn, WaysFor}
+use Rattle.schema.specs.Ways.{bearsIn}
 use Rattle.schema.specs.Value.{offset, blockAt, meaning}
 use Rattle.schema.specs.Trimming.{LiveExactly, WaysExactly}
-use Rattle.schema.specs.Rows.{Counts, entry, fromIn, entryOf, rowPlace, InRow, EntryFor, RowsMean}
+use Rattle.schema.specs.Rows.{Counts, fromIn, entryOf, rowPlace, InRow, EntryFor, RowsMean}
 use Rattle.schema.specs.Putting.{putAll}
 use Rattle.schema.specs.RowMaking.{countsBy, entryBy, counted, picked, RowTables, rowBy, addRows}
 use Rattle.schema.specs.declared.value.Schema.{Schema}

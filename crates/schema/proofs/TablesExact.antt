@@ -1,12 +1,12 @@
 -- The tables that the rounds of trimming settle at are exactly the definitions.
-use mathlib.Core.Path.{_≡_, refl}
+use mathlib.Core.Path.{refl}
 use mathlib.Core.Logic.{_↔_, inl, inr, ⊎-elim}
 use mathlib.Core.Bool.{Bool, true, false}
 use mathlib.Core.List.{List, [], _∷_, _++_, List·Memᴰ}
 use Prim.Native.Nat.{ℕ, _<_}
 use native.Mathlib.Omega.{arith}
 use lib.Dec.{T}
-use lib.ListN.{length, getD}
+use lib.ListN.{getD}
 use Rattle.sdtd.specs.Limits.{mostTypes}
 use Rattle.sdtd.specs.Schema.{Step, blockOf, WithinLimits, Leads, stay, go}
 use Rattle.sdtd.specs.Tree.{IsRoot}
@@ -20,7 +20,7 @@ use Rattle.schema.specs.Value.{stepsOf, rootsOf, meaning}
 use Rattle.schema.specs.Trimming.{LiveExactly, WaysExactly, MarksExactly, Exact}
 use Rattle.schema.specs.Spread.{spreadAll, Settled, stepsIn, reaches, Reaching, first, next, ReachedFrom, firstSets, startStates, waysBy}
 use Rattle.schema.specs.declared.value.Schema.{Schema}
-use Rattle.schema.proofs.WaysLaws.{bears-in, bears-by, ways-exactly}
+use Rattle.schema.proofs.WaysLaws.{bears-in, bears-by}
 use Rattle.schema.proofs.Rounds.{start-sets}
 use Rattle.schema.proofs.SpreadLaws.{settled-keeps, byBearing, own, Table, round-keeps, settled-takes}
 use Rattle.schema.proofs.FirstTables.{Fits, OwnStep, back, forth, turned, firstLive, types-most}

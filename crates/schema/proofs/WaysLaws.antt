@@ -1,22 +1,20 @@
 -- Laws of the ways in which types bear a tree, and of the table of them.
 use mathlib.Core.Path.{_≡_, refl, sym, ap, ap₂, subst, _∙_}
 use mathlib.Core.Logic.{_↔_, _⊎_, inl, inr, ⊎-elim}
-use mathlib.Core.Bool.{Bool, true, false, _&&_, _||_}
+use mathlib.Core.Bool.{Bool, true, false, _||_}
 use mathlib.Core.List.{List, _++_, map, append-assoc, List·Memᴰ, List·Memᴰ·not-nil}
 use Prim.Native.Nat.{ℕ, zero, suc, _+_, _-_, _≤_, _<_}
 use native.Mathlib.Decide.{decLt, ℕ-discrete}
 use native.Mathlib.Nat.{zero-add}
 use native.Mathlib.Numerals.{add-one}
 use native.Mathlib.Omega.{arith}
-use borrow.Author.Tests.{lt-ltb, le-ltb}
-use lib.Dec.{T, ltb, lit<}
+use lib.Dec.{T, lit<}
 use lib.ListN.{length, getD, set, replicate, length-append, length-map, length-replicate, length-set, List·getD-append}
 use lib.Seq.{getD-set-same, getD-set-other, getD-append-add, ext-getD, set-at}
 use Rattle.sdtd.specs.Limits.{mostTypes}
 use Rattle.sdtd.specs.Schema.{Block, Schema as Meaning, blockOf, Nillable}
 use Rattle.sdtd.specs.Tree.{Kind, plain, nil}
-use Rattle.sdtd.specs.Trim.{Bears, BearsBy, Live}
-use Rattle.sdtd.specs.Competition.{OpenedAlike, both-nillable, both-plain}
+use Rattle.sdtd.specs.Trim.{Bears, BearsBy}
 use Rattle.sdtd.proofs.Tests.{itself, or-means}
 use Rattle.sdtd.proofs.Bearing.{nil-bears, bears-either}
 use Rattle.sdtd.proofs.Fixpoint.{plain-live}

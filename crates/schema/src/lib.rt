@@ -32,5 +32,6 @@ pub use value::Schema;
 pub use value::TAGS;
 pub use value::TYPES;
 pub use ways::WAYS;
+pub use ways::opens;
 pub use ways::opens_as_nil;
 pub use ways::opens_plainly;

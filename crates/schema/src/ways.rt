@@ -2,6 +2,7 @@
 use crate::state_set::StateSet;
 use crate::value::TYPES;
 ghost use mathlib.Core.Path.{_≡_};
+ghost use mathlib.Core.Bool.{_||_};
 ghost use Prim.Native.Nat.{_≤_, _<_};
 ghost use Rattle.sdtd.specs.Limits.{mostTypes};
 ghost use Rattle.sdtd.specs.Tree.{plain, nil};
@@ -26,6 +27,13 @@ pub fn opens_as_nil(w: u8) -> bool
     (1 < w) & (w < WAYS)
 }
 
+// Does it say either?
+pub fn opens(w: u8) -> bool
+    ensures { λ r. ⌜ r ≡ (opensBy plain w || opensBy nil w) ⌝ }
+{
+    opens_plainly(w) | opens_as_nil(w)
+}
+
 // The number of a type, by its live states and whether it is nillable.
 pub(crate) fn ways_of(live: u32, nillable: bool) -> u8
     ensures { λ r. ⌜ r ≡ waysOf (member 0 live) nillable ⌝ }
@@ -41,8 +49,7 @@ pub(crate) fn bears_in(ways: &[u8; TYPES], a: usize) -> bool
     requires { ⌜ a < mostTypes ⌝ }
     ensures { λ r. ⌜ r ≡ bearsIn (now (ways .entry)) a ⌝ }
 {
-    let w = ways[a];
-    opens_plainly(w) | opens_as_nil(w)
+    opens(ways[a])
 }
 
 // The numbers of the types, by their live states; 0 for the others.

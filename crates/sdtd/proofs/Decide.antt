@@ -7,7 +7,7 @@ use mathlib.Core.List.{Memᴰ·cast}
 use Prim.Native.Nat.{ℕ, zero, suc}
 use lib.ListN.{getD}
 use lib.Dec.{T, eqb}
-use Rattle.sdtd.specs.Schema.{Step, step, Block, Schema, noBlock, blockOf, tagOf, Nillable, Leads, stay, go, Word}
+use Rattle.sdtd.specs.Schema.{Step, step, Block, Schema, noBlock, blockOf, tagOf, Leads, stay, go, Word}
 use Rattle.sdtd.specs.Tree.{Kind, plain, nil}
 use Rattle.sdtd.specs.Trim.{Bears, BearsBy, Live}
 use Rattle.sdtd.specs.Competition.{OpenedAlike, both-nillable, both-plain, CompeteIn}

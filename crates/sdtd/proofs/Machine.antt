@@ -4,7 +4,7 @@ use mathlib.Core.Path.{_≡_, refl, sym, ap, subst}
 use mathlib.Core.List.{List, [], _∷_, _++_, append-assoc, append-nil, nil≢cons, cons≢nil, head-eq-of-cons-eq, tail-eq-of-cons-eq}
 use Prim.Native.Nat.{ℕ}
 use Rattle.sdtd.specs.Schema.{Schema}
-use Rattle.sdtd.specs.Tree.{Kind, Tree, Forest, node, empty, more, label, labels, IsRoot, Content, Derived, DerivedAll}
+use Rattle.sdtd.specs.Tree.{Kind, Tree, Forest, node, empty, more, label, labels, IsRoot, ValidContent, Derived, DerivedAll}
 use Rattle.sdtd.specs.Document.{Event, opening, closing, finish, stream, streams, document}
 
 -- Who has children: the outside of the document, or an element of a type, opened so.
@@ -21,7 +21,7 @@ pub record OneRoot (S : Schema) (w : List ℕ) : Type 0 where
 -- the types of all the owner's children may be these
 abbrev pub Fills : Schema → Owner → List ℕ → Type 0
 Fills S top w = OneRoot S w
-Fills S (own κ a) w = Content S κ a w
+Fills S (own κ a) w = ValidContent S κ a w
 
 -- an open owner and the types of its children so far
 pub data Frame : Type 0 where
@@ -31,7 +31,7 @@ pub data Frame : Type 0 where
 pub data Moves (S : Schema) : List Frame → Event → List Frame → Type 0 where
   opens : {o : Owner} {w : List ℕ} {fs : List Frame} {κ : Kind} {a : ℕ}
       → Moves S (frame o w ∷ fs) (opening κ a) (frame (own κ a) [] ∷ frame o (w ++ (a ∷ [])) ∷ fs)
-  closes : {κ : Kind} {a : ℕ} {w : List ℕ} {fs : List Frame} → Content S κ a w → Moves S (frame (own κ a) w ∷ fs) (closing a) fs
+  closes : {κ : Kind} {a : ℕ} {w : List ℕ} {fs : List Frame} → ValidContent S κ a w → Moves S (frame (own κ a) w ∷ fs) (closing a) fs
   ends : {w : List ℕ} → OneRoot S w → Moves S (frame top w ∷ []) finish []
 
 pub data Run (S : Schema) : List Frame → List Event → List Frame → Type 0 where

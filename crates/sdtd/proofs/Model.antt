@@ -10,7 +10,7 @@ use lib.ListN.{length}
 use lib.Dec.{T, eqb, ltb}
 use Rattle.sdtd.specs.Limits.{mostLevels}
 use Rattle.sdtd.specs.Schema.{Schema, blockOf, tagOf}
-use Rattle.sdtd.specs.Tree.{Kind, plain, nil, empty, more, Content}
+use Rattle.sdtd.specs.Tree.{Kind, plain, nil, empty, more, ValidContent}
 use Rattle.sdtd.specs.Document.{Event, opening, closing, finish, Begins}
 use Rattle.sdtd.specs.Trim.{SomeRootBears}
 use Rattle.sdtd.specs.Competition.{Competition, Accepted}
@@ -118,7 +118,7 @@ module _ {S : Schema} (free : ¬ Competition S) {e : List Event} {w : List ℕ} 
       let i = innermost-of (own-elements p (position-unfinished p)) in
       means-iff (eq-means (tagOf S a) g) (λ q. sym (i .tag) ∙ q, λ q. i .tag ∙ q)
 
-  closed-answered : {κ : Kind} {a : ℕ} (p : Position S e (frame (own κ a) w ∷ fs)) (g : ℕ) → innermost e .tag ≡ g → Content S κ a w
+  closed-answered : {κ : Kind} {a : ℕ} (p : Position S e (frame (own κ a) w ∷ fs)) (g : ℕ) → innermost e .tag ≡ g → ValidContent S κ a w
       → Answered S e (frame (own κ a) w ∷ fs) (closing g) [] taken
   closed-answered p g t c =
       let i = innermost-of (own-elements p (position-unfinished p)) in

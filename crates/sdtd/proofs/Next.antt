@@ -6,7 +6,7 @@ use Prim.Native.Nat.{ℕ}
 use native.Mathlib.Omega.{arith}
 use lib.Seq.{getD-at}
 use Rattle.sdtd.specs.Schema.{Schema, tagOf}
-use Rattle.sdtd.specs.Tree.{Kind, plain, IsRoot, Content}
+use Rattle.sdtd.specs.Tree.{Kind, plain, IsRoot, ValidContent}
 use Rattle.sdtd.specs.Document.{Event, opening, closing, finish, openings, Valid, typesOf, BeginningOf, Begins, EveryTypingGives}
 use Rattle.sdtd.specs.Trim.{BearsBy, none, AllBear}
 use Rattle.sdtd.specs.Competition.{Competition}
@@ -103,7 +103,7 @@ candidate-outside = (
 )
 
 closing-move : {S : Schema} {κ : Kind} {a : ℕ} {w : List ℕ} {fs gs : List Frame} {y : Event} {g : ℕ} → Moves S (frame (own κ a) w ∷ fs) y gs
-    → relabelEvent (tagOf S) y ≡ closing g → (tagOf S a ≡ g) × Content S κ a w
+    → relabelEvent (tagOf S) y ≡ closing g → (tagOf S a ≡ g) × ValidContent S κ a w
 closing-move opens e = let z : _≡_ {A = ℕ} 0 1 = cc in absurd (omega arith)
 closing-move (closes x) e = (cc, x)
 
@@ -111,7 +111,7 @@ closing-move (closes x) e = (cc, x)
 -- are all of its content.
 pub closing-exactly : {S : Schema} → ¬ Competition S → {e : List Event} {κ : Kind} {a : ℕ} {w : List ℕ} {fs : List Frame}
     → Position S e (frame (own κ a) w ∷ fs)
-    → (g : ℕ) → Begins S (e ++ (closing g ∷ [])) ↔ ((tagOf S a ≡ g) × Content S κ a w)
+    → (g : ℕ) → Begins S (e ++ (closing g ∷ [])) ↔ ((tagOf S a ≡ g) × ValidContent S κ a w)
 closing-exactly {S} free {e} p g = (
   λ b. let n = next-move free p (b .valid) (closing g) (b .beginning) in closing-move (n .moves) (n .tag),
   λ x. subst (λ (h : ℕ). Begins S (e ++ (closing h ∷ []))) (x .0) (position-begins (close-position p (x .1))),

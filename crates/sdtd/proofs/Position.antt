@@ -5,7 +5,7 @@ use mathlib.Core.List.{List, [], _∷_, _++_, map-append, append-cancel-left}
 use Prim.Native.Nat.{ℕ}
 use lib.ListN.{length}
 use Rattle.sdtd.specs.Schema.{Schema, tagOf}
-use Rattle.sdtd.specs.Tree.{Kind, Content}
+use Rattle.sdtd.specs.Tree.{Kind, ValidContent}
 use Rattle.sdtd.specs.Document.{Event, opening, closing, finish, openings, Valid, typesOf, Begins}
 use Rattle.sdtd.specs.Trim.{none}
 use Rattle.sdtd.specs.Competition.{Competition}
@@ -70,7 +70,7 @@ inner-rest : {S : Schema} {κ : Kind} {a : ℕ} {w : List ℕ} {fs : List Frame}
 inner-rest (inner f s) = s
 
 pub close-position : {S : Schema} {e : List Event} {κ : Kind} {a : ℕ} {w : List ℕ} {fs : List Frame}
-    → Position S e (frame (own κ a) w ∷ fs) → Content S κ a w
+    → Position S e (frame (own κ a) w ∷ fs) → ValidContent S κ a w
     → Position S (e ++ (closing (tagOf S a) ∷ [])) fs
 close-position p x = moved p (closes x) (inner-rest (p .suspended))
 

@@ -9,7 +9,7 @@ use native.Mathlib.Omega.{arith}
 use lib.ListN.{length, getD}
 use lib.Dec.{T}
 use Rattle.sdtd.specs.Schema.{Block, Schema, noBlock, blockOf, tagOf, Word}
-use Rattle.sdtd.specs.Tree.{Kind, plain, nil, labels, Content}
+use Rattle.sdtd.specs.Tree.{Kind, plain, nil, labels, ValidContent}
 use Rattle.sdtd.specs.Document.{Event, opening, closing, finish, openings, Valid, typeAt, BeginningOf, Begins}
 use Rattle.sdtd.specs.Competition.{Competition}
 use Rattle.sdtd.specs.Reading.{OpenElement, openElements, noElement, NotFinished, depth, innermost, ChildrenFormWord, RootClosed}
@@ -88,12 +88,12 @@ block-in P none (b ∷ bs) zero h = (omega arith, List·Memᴰ·head refl)
 block-in P none (b ∷ bs) (suc n) h = let r = block-in P none bs n h in (omega arith, List·Memᴰ·tail (r .1))
 
 -- so is one with content
-pub content-in : (S : Schema) (κ : Kind) (a : ℕ) (w : List ℕ) → Content S κ a w → (a < length (S .blocks)) × List·Memᴰ (blockOf S a) (S .blocks)
+pub content-in : (S : Schema) (κ : Kind) (a : ℕ) (w : List ℕ) → ValidContent S κ a w → (a < length (S .blocks)) × List·Memᴰ (blockOf S a) (S .blocks)
 content-in S plain a w x = block-in (λ (b : Block). Word b w) (λ y. List·Memᴰ·not-nil (y .accepting)) (S .blocks) a x
 content-in S nil a w x = block-in (λ (b : Block). T (b .nillable)) (λ t. t) (S .blocks) a (x .0)
 
 -- its tag is below the count
-content-tag : (S : Schema) → TagsBelow S → (κ : Kind) (a : ℕ) (w : List ℕ) → Content S κ a w → tagOf S a < S .tags
+content-tag : (S : Schema) → TagsBelow S → (κ : Kind) (a : ℕ) (w : List ℕ) → ValidContent S κ a w → tagOf S a < S .tags
 content-tag S below κ a w x = below (blockOf S a) (content-in S κ a w x .1)
 
 -- Question 13 answered yes: question 12 is answered yes too.
@@ -139,7 +139,7 @@ append-nil-left [] w e = refl
 append-nil-left (x ∷ v) w e = absurd (cons≢nil e)
 
 -- an open nil element that can be brought to an end has a nillable type and no children
-pub nil-content : {S : Schema} {a : ℕ} {w : List ℕ} {fs : List Frame} → Suspended S (frame (own nil a) w ∷ fs) → Content S nil a w
+pub nil-content : {S : Schema} {a : ℕ} {w : List ℕ} {fs : List Frame} → Suspended S (frame (own nil a) w ∷ fs) → ValidContent S nil a w
 nil-content {w = w} (inner f s) = (f .fills .0, append-nil-left w (labels (f .forest)) (f .fills .1))
 
 pub plain-not-nil : plain ≢ nil
@@ -148,7 +148,7 @@ plain-not-nil e = let z : _≡_ {A = ℕ} 0 1 = cc in omega arith
 -- Question 17, by the types of the innermost frame.
 pub children-word : {S : Schema} → ¬ Competition S → {e : List Event} (κ : Kind) {a : ℕ} {w : List ℕ} {fs : List Frame}
     → Position S e (frame (own κ a) w ∷ fs)
-    → ChildrenFormWord S e ↔ Content S κ a w
+    → ChildrenFormWord S e ↔ ValidContent S κ a w
 children-word free nil p =
     let i = innermost-of (own-elements p (position-unfinished p)) in
     (λ c. nil-content (p .suspended), λ x k. absurd (plain-not-nil (sym k ∙ i .kind)))

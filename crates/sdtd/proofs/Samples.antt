@@ -4,7 +4,7 @@ use lib.Dec.{T}
 use Rattle.sdtd.specs.Schema.{Schema}
 use Rattle.sdtd.specs.Competition.{Accepted}
 use Rattle.sdtd.specs.Calls.{Exchange}
-use Rattle.sdtd.specs.Samples.{answers, Holds, HoldAll, starred, nested, wholesaler, emptyOnPurpose}
+use Rattle.sdtd.specs.Samples.{answers, Holds, HoldAll, starred, nested, wholesaler, nilElements}
 use Rattle.sdtd.proofs.Basics.{_&_}
 use Rattle.sdtd.proofs.Machine.{start}
 use Rattle.sdtd.proofs.Decide.{LiveTable, LiveExact}
@@ -47,8 +47,8 @@ wholesaler-holds =
     & tt
 
 -- Racks that are empty on purpose, and types told apart by the kind of their opening.
-pub empty-on-purpose-holds : HoldAll emptyOnPurpose
-empty-on-purpose-holds =
+pub nil-elements-hold : HoldAll nilElements
+nil-elements-hold =
     answers-hold acceptedRacks exactRacks _ tt
     & answers-hold acceptedByKind exactByKind _ tt
     & refusedBothNil

@@ -4,7 +4,7 @@ use mathlib.Core.List.{List, [], _∷_, _++_, map, map-append, append-nil, appen
 use Prim.Native.Nat.{ℕ, suc, _+_}
 use native.Mathlib.Omega.{arith}
 use lib.ListN.{length}
-use Rattle.sdtd.specs.Tree.{Kind, Tree, Forest, node, empty, more, relabel, relabelAll, preorder, preorders}
+use Rattle.sdtd.specs.Tree.{Tree, Forest, node, empty, more, relabel, relabelAll, preorder, preorders}
 use Rattle.sdtd.specs.Document.{Event, opening, closing, finish, stream, streams, document, openings}
 
 -- the event with its number replaced by its image

@@ -6,7 +6,7 @@ use mathlib.Core.List.{List, [], _∷_, List·Memᴰ, List·Memᴰ·head, List·
 use Prim.Native.Nat.{ℕ}
 use Rattle.sdtd.specs.Schema.{step, Schema, blockOf, tagOf, Leads, stay, go, Word}
 use Rattle.sdtd.specs.Tree.{Kind, plain, nil, Tree, Forest, node, empty, more, label, labels, relabel, preorder, preorders}
-use Rattle.sdtd.specs.Tree.{Content, Derived, DerivedAll, IsRoot, IsTyping}
+use Rattle.sdtd.specs.Tree.{ValidContent, Derived, DerivedAll, IsRoot, IsTyping}
 use Rattle.sdtd.specs.Document.{Event, document, Valid, SomeValid}
 use Rattle.sdtd.specs.Trim.{SomeRootBears, All, none, both, AllBear, Reached, root, child, Used, Useful, KeptStep, Trimmed}
 use Rattle.sdtd.proofs.Automata.{all-append, all-mem, all-head, all-tail}
@@ -102,7 +102,7 @@ module _ {S S′ : Schema} (trimmed : Trimmed S S′) where
         accepting = trimmed .accepting a _ .1 (word .accepting, u);
       }
 
-  keep-content : (κ : Kind) {a : ℕ} {w : List ℕ} → Useful S a → Content S κ a w → AllBear S w → Content S′ κ a w
+  keep-content : (κ : Kind) {a : ℕ} {w : List ℕ} → Useful S a → ValidContent S κ a w → AllBear S w → ValidContent S′ κ a w
   keep-content plain u word bear = keep-word u word bear
   keep-content nil {a} u c bear = (trimmed .nillable a .1 (c .0, u), c .1)
 
@@ -124,7 +124,7 @@ module _ {S S′ : Schema} (trimmed : Trimmed S S′) where
   given-word a word =
       record { last = word .last; leads = given-leads a (word .leads); accepting = trimmed .accepting a _ .0 (word .accepting) .0 }
 
-  given-content : (κ : Kind) (a : ℕ) (w : List ℕ) → Content S′ κ a w → Content S κ a w
+  given-content : (κ : Kind) (a : ℕ) (w : List ℕ) → ValidContent S′ κ a w → ValidContent S κ a w
   given-content plain a w word = given-word a word
   given-content nil a w c = (trimmed .nillable a .0 (c .0) .0, c .1)
 

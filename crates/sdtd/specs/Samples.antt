@@ -191,10 +191,10 @@ schemaRootsByKind = twoRoots (onlyNil 0) (leaf 0)
 abbrev pub schemaRootsBothNil : Schema
 schemaRootsBothNil = twoRoots (onlyNil 0) (withNil (leaf 0))
 
--- A nil element has no children and closes at once; an element of its type that is opened plainly is asked for its word. Types of one tag that no
+-- Inside a nil element only its closing is taken; an element of its type that is opened plainly is asked for its word. Types of one tag that no
 -- event opens alike are told apart by the event; two that are both nillable compete; so do roots.
-abbrev pub emptyOnPurpose : List Sample
-emptyOnPurpose =
+abbrev pub nilElements : List Sample
+nilElements =
     answers schemaRacks
     (says (opening plain 0) (typed 0)
     ∷ says (opening nil 1) (typed 1) ∷ says (opening plain 2) (refused 13) ∷ says (opening nil 2) (refused 13)

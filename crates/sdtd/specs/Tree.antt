@@ -58,14 +58,14 @@ abbrev mutual
 -- What a typing asks of an element of the type a with children of the types w. Opened plainly: "the children's types form a word of the
 -- element's automaton"; "An element without children needs an accepting start state": its word is the empty one. Opened as nil: "such an
 -- element has a nillable type and no children", and "A typing asks no word of a nil element".
-abbrev pub Content : Schema → Kind → ℕ → List ℕ → Type 0
-Content S plain a w = Word (blockOf S a) w
-Content S nil a w = Nillable S a × (w ≡ [])
+abbrev pub ValidContent : Schema → Kind → ℕ → List ℕ → Type 0
+ValidContent S plain a w = Word (blockOf S a) w
+ValidContent S nil a w = Nillable S a × (w ≡ [])
 
 -- that, at each element of a tree over types
 abbrev mutual
   pub Derived : Schema → Tree → Type 0
-  Derived S (node κ a f) = Content S κ a (labels f) × DerivedAll S f
+  Derived S (node κ a f) = ValidContent S κ a (labels f) × DerivedAll S f
 
   pub DerivedAll : Schema → Forest → Type 0
   DerivedAll S empty = Unit

@@ -8,7 +8,7 @@ use Rattle.sdtd.specs.declared.Verdict.the-variants.{Fine, RefusedAt}
 use Rattle.sdtd.proofs.Verdicts.{other-number, refused-not-fine}
 use Rattle.schema_file.proofs.FileSamples.{files-state, starred-files-hold, racks-state, nil-files-hold}
 use Rattle.typing.specs.Samples.{SchemaGets, HoldAll, starred, first, second, third, eighth, ninth}
-use Rattle.typing.specs.Samples.{emptyOnPurpose, racksTaken, insideNil, plainlyEmpty}
+use Rattle.typing.specs.Samples.{nilElements, racksTaken, insideNil, plainlyEmpty}
 use Rattle.typing.proofs.SampleFiles.{plain-gets, events-get}
 use Rattle.typing.proofs.SampleWitnesses.{choice-witness, ways-witness, nine-gets}
 
@@ -50,8 +50,8 @@ gets-racks = plain-gets fileRacks accepted-not-9 (nil-files-hold .0)
 gets-racks-written : SchemaGets fileRacksWritten
 gets-racks-written = plain-gets fileRacksWritten accepted-not-9 (nil-files-hold .1 .0)
 
-pub empty-on-purpose-gets : HoldAll emptyOnPurpose
-empty-on-purpose-gets =
+pub nil-elements-get : HoldAll nilElements
+nil-elements-get =
     (gets-racks, events-get fileRacks refl (racks-state .by-states) acceptedRacks exactRacks gets-racks racksTaken refl)
     & (
       gets-racks-written,

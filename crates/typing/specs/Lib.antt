@@ -1,4 +1,4 @@
--- The demands on the engine, the starred samples, and the whole job.
+-- The demands on the engine, the starred samples with those of nil elements, and the whole job.
 pub mod Demands
 pub mod Samples
 pub mod Job

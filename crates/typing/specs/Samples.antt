@@ -120,5 +120,5 @@ abbrev pub plainlyEmpty : EventSample
 plainlyEmpty = eventsGet (0x21 ∷ 0x00 ∷ 0x21 ∷ 0x01 ∷ 0x22 ∷ 0x01 ∷ []) 17 4 (0 ∷ 1 ∷ [])
 
 -- The rack's block is by states or by an expression.
-abbrev pub emptyOnPurpose : List Sample
-emptyOnPurpose = eventFile fileRacks racksTaken ∷ eventFile fileRacksWritten insideNil ∷ eventFile fileRacks plainlyEmpty ∷ []
+abbrev pub nilElements : List Sample
+nilElements = eventFile fileRacks racksTaken ∷ eventFile fileRacksWritten insideNil ∷ eventFile fileRacks plainlyEmpty ∷ []

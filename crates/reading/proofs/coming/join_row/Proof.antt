@@ -6,7 +6,7 @@ use native.Mathlib.Numerals.{add-one}
 use borrow.Author.Needs.{needs}
 use lib.ListN.{getD}
 use Rattle.sdtd.specs.Tree.{Kind}
-use Rattle.reading.specs.Coming.{kindSought, tagSought, Least, least, joins, movesUpTo, rowMoves}
+use Rattle.reading.specs.Coming.{kindSought, Least, least, joins, movesUpTo, rowMoves}
 use Rattle.reading.proofs.coming.join_row.Statement.{statement}
 use Rattle.reading.proofs.coming.join_row.Tie as tie
 

@@ -7,7 +7,7 @@ use borrow.Author.Tests.{not-true, not-false}
 use lib.ListN.{getD}
 use Rattle.schema.specs.States.{meet}
 use Rattle.reading.specs.declared.steps.Inner.{Inner}
-use Rattle.reading.specs.Steps.{onPurpose, complete}
+use Rattle.reading.specs.Steps.{isNilled, complete}
 use Rattle.reading.proofs.LevelLaws.{sub-one}
 use Rattle.reading.proofs.StepWays.{stayed, close-finished, close-tag, close-outside, close-other, close-word, close-taken}
 use Rattle.reading.proofs.steps.step_close.Statement.{statement}
@@ -20,12 +20,12 @@ second-true false e = e
 
 module _ (own : Inner) (set : ℕ) where
   accepts : meet set (own .accepting) ≡ true → complete own set ≡ true
-  accepts e = second-true (onPurpose own set) e
+  accepts e = second-true (isNilled own set) e
 
-  purposely : onPurpose own set ≡ true → complete own set ≡ true
-  purposely e = rw e
+  as-nil : isNilled own set ≡ true → complete own set ≡ true
+  as-nil e = rw e
 
-  neither : onPurpose own set ≡ false → meet set (own .accepting) ≡ false → complete own set ≡ false
+  neither : isNilled own set ≡ false → meet set (own .accepting) ≡ false → complete own set ≡ false
   neither e f = rw (e, f)
 
 stays-requires : tie.Need-stays-requires
@@ -97,8 +97,8 @@ returns-5 c =
     (close-taken _ _ _ _ (e .before .before .if1 .left) (e .if2 .left) (o .if3 .left) (sym (p .same .ensures) ∙ not-false _ (f .if4 .left))
     (accepts (a .own) (getD (a .sets .now) (a .at .depth - 1) 0) (sym (m .meets .ensures) ∙ c .before .if5 .taken)))
 
-on-purpose-requires : tie.Need-on-purpose-requires
-on-purpose-requires c κs = search needs
+is-nilled-requires : tie.Need-is-nilled-requires
+is-nilled-requires c κs = search needs
 
 stays-requires-5 : tie.Need-stays-requires-5
 stays-requires-5 c κs = search needs
@@ -115,7 +115,7 @@ returns-6 c =
     λ types.
     stayed _ _ _ _ _ (c .stays5 .ensures)
     ∙ close-word _ _ _ _ (e .before .before .if1 .left) (e .if2 .left) (o .if3 .left) (sym (p .same .ensures) ∙ not-false _ (f .if4 .left))
-    (neither (a .own) (getD (a .sets .now) (a .at .depth - 1) 0) (sym (q .on-purpose .ensures) ∙ not-true _ (c .before .if6 .taken)) (sym (m .meets .ensures) ∙ q .before .if5 .left))
+    (neither (a .own) (getD (a .sets .now) (a .at .depth - 1) 0) (sym (q .is-nilled .ensures) ∙ not-true _ (c .before .if6 .taken)) (sym (m .meets .ensures) ∙ q .before .if5 .left))
 
 ascend-requires-2 : tie.Need-ascend-requires-2
 ascend-requires-2 c κs = search needs
@@ -132,7 +132,7 @@ returns-7 c =
     λ types.
     rw (c .ascend2 .ensures, sub-one (a .at .depth))
     (close-taken _ _ _ _ (e .before .before .if1 .left) (e .if2 .left) (o .if3 .left) (sym (p .same .ensures) ∙ not-false _ (f .if4 .left))
-    (purposely (a .own) (getD (a .sets .now) (a .at .depth - 1) 0) (sym (q .on-purpose .ensures) ∙ not-false _ (c .before .if6 .left))))
+    (as-nil (a .own) (getD (a .sets .now) (a .at .depth - 1) 0) (sym (q .is-nilled .ensures) ∙ not-false _ (c .before .if6 .left))))
 
 pub step-close-spec : {M : Type 1} → statement M
 step-close-spec =
@@ -154,7 +154,7 @@ step-close-spec =
     meets-requires
     ascend-requires
     returns-5
-    on-purpose-requires
+    is-nilled-requires
     stays-requires-5
     returns-6
     ascend-requires-2

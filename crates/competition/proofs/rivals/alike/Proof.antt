@@ -1,9 +1,9 @@
--- `competition::ways::alike` meets its contract, kind by kind.
+-- `competition::rivals::alike` meets its contract, kind by kind.
 use mathlib.Core.Path.{ap₂}
 use mathlib.Core.Bool.{_&&_, _||_}
 use borrow.Author.Needs.{needs}
-use Rattle.competition.proofs.ways.alike.Statement.{statement}
-use Rattle.competition.proofs.ways.alike.Tie as tie
+use Rattle.competition.proofs.rivals.alike.Statement.{statement}
+use Rattle.competition.proofs.rivals.alike.Tie as tie
 
 opens-as-nil-requires : tie.Need-opens-as-nil-requires
 opens-as-nil-requires c κs = search needs

@@ -1,9 +1,9 @@
--- `competition::ways::opens` meets its contract, kind by kind.
+-- `schema::ways::opens` meets its contract, kind by kind.
 use mathlib.Core.Path.{ap₂}
 use mathlib.Core.Bool.{_||_}
 use borrow.Author.Needs.{needs}
-use Rattle.competition.proofs.ways.opens.Statement.{statement}
-use Rattle.competition.proofs.ways.opens.Tie as tie
+use Rattle.schema.proofs.ways.opens.Statement.{statement}
+use Rattle.schema.proofs.ways.opens.Tie as tie
 
 opens-plainly-requires : tie.Need-opens-plainly-requires
 opens-plainly-requires c κs = search needs
