@@ -89,15 +89,15 @@ def write_cases(folder, committed):
 
 
 def report(cases):
-    """Say how often each kind had each answer; fail if one came up too rarely."""
+    """Say how often the cases of each name had each answer; fail if one came up too rarely."""
     totals, counts = Counter(case.letter for case in cases), {}
     for case in cases:
-        of_kind = counts.setdefault(case.kind, Counter())
-        of_kind["cases"] += 1
-        of_kind.update(map(str, case.answers))
+        of_name = counts.setdefault(case.name, Counter())
+        of_name["cases"] += 1
+        of_name.update(map(str, case.answers))
     print(f"{len(cases)} cases: {counts_text(totals)}", file=sys.stderr)
-    for kind, of_kind in counts.items():
-        print(f"  {kind}: {counts_text(of_kind)}", file=sys.stderr)
+    for name, of_name in counts.items():
+        print(f"  {name}: {counts_text(of_name)}", file=sys.stderr)
     rare = least.too_rare(totals, counts)
     if rare:
         raise Wrong(f"too few cases: {'; '.join(rare)}")

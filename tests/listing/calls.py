@@ -35,7 +35,7 @@ class Calls:
     def __init__(self, file):
         self.file, self.reading = file, Reading(judge(file))
         self.items, self.texts, self.answers = bytearray(), [judge(file).text()], []
-        self.lent_answers, self.nil_answers = [], []
+        self.lent_answers, self.nil_answers, self.nil_lent_answers = [], [], []
 
     def call(self, event, tag=0, lent=False):
         """Calls; a lent call is answered like one by value."""
@@ -49,7 +49,7 @@ class Calls:
         if lent:
             self.lent_answers.append(text)
         if event == OPEN_NIL:
-            self.nil_answers.append(text)
+            (self.nil_lent_answers if lent else self.nil_answers).append(text)
         self.texts.append(text + changed)
 
     def put(self, field, number, index=0):

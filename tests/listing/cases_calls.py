@@ -12,15 +12,15 @@ from .listed import Listed
 from .meaning import Wrong
 from .schema_file import Block, Schema, leaf, write
 from .tables import (BYTE, CLOSE, MOST_LEVELS, MOST_STATES, MOST_STEPS, MOST_TAGS,
-                     MOST_TYPES, NO_DOCUMENT, NO_EVENT, OPEN, SET, WORD)
+                     MOST_TYPES, NO_DOCUMENT, NO_EVENT, OPEN, OPEN_NIL, SET, WORD)
 
 
 class Script(Calls):
     """A list of calls; runs of them are lent, runs are by value, as `rng` has it."""
 
-    def __init__(self, kind, file, rng):
+    def __init__(self, name, file, rng):
         super().__init__(file)
-        self.kind, self.rng, self.lent, self.taken = kind, rng, rng.random() < 0.5, b""
+        self.name, self.rng, self.lent, self.taken = name, rng, rng.random() < 0.5, b""
 
     def give(self, event, tag=0):
         if self.rng.random() < 0.4:
@@ -49,6 +49,15 @@ class Script(Calls):
                     self.give(*event)
         return self
 
+    def nil_refused(self):
+        """Every nil opening that is refused here, of each tag and of one past the count, by value
+        and lent, whether or not some type is nillable."""
+        for tag in range(self.reading.schema_value().held["tags"] + 1):
+            if self.reading.refusal(OPEN_NIL, tag) is not None:
+                for lent in (False, True):
+                    self.call(OPEN_NIL, tag, lent)
+        return self
+
     def some(self, tags=(0, 1)):
         """An opening and a closing of each of these tags, and a finish."""
         return self.events(leaves(*tags)).route("f")
@@ -64,13 +73,13 @@ class Script(Calls):
         """The case; the events taken so far, if nothing was put, begin a valid document."""
         if self.reading.document:
             self.reading.document.check()
-        return calls_case(self.kind, self)
+        return calls_case(self.name, self)
 
 
-def starter(kind, part=""):
-    """A function that starts a list of this kind under a schema file."""
-    rng = random.Random(kind + part)
-    return lambda file: Script(kind, file, rng)
+def starter(name, part=""):
+    """A function that starts a list of this name under a schema file."""
+    rng = random.Random(name + part)
+    return lambda file: Script(name, file, rng)
 
 
 # On fresh readings.

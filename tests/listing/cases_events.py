@@ -50,7 +50,7 @@ def after_finish_cases():
     """Bytes after the finish: an event gets 11 whatever its tag, any other byte 19."""
     tails = [END, *map(opened, (0, 1, BYTE)), *map(closed, (0, BYTE)), END * 2, END + b"\0",
              b"\0" + END, opened(0) + END, bytes([OPEN, FINISH]), bytes([CLOSE, OPEN]), b"\n\n",
-             leaves(0) + END, *(bytes([byte]) for byte in (OPEN, CLOSE, DONE, *damage.NO_EVENTS))]
+             leaves(0) + END, *(bytes([byte]) for byte in (OPEN, CLOSE, DONE, *damage.NOT_PLAIN))]
     for file, data in ROUTES[:7]:
         openings = count_openings(data)
         for number, tail in enumerate(tails):
@@ -90,27 +90,27 @@ def every_event_cases():
 
 def level_cases():
     """Levels 63 to 66; at the 65th opening 11, 12 and 13 come before 14, and 14 before 20."""
-    kind, most = "levels", MOST_LEVELS
+    name, most = "levels", MOST_LEVELS
     for levels in (*damage.around(most), most + 2):
         for room in (0, 1, most - 2, *damage.around(most), most + 2, PLENTY):
             for file, tags in ((samples.NESTED, [0]), (schemas.IN_TURN, [0, 1])):
-                yield event_case(kind, file, b"".join(nested(tags, levels)) + END, room)
-            yield event_case(kind, samples.NESTED, nested([0], levels)[0], room)
+                yield event_case(name, file, b"".join(nested(tags, levels)) + END, room)
+            yield event_case(name, samples.NESTED, nested([0], levels)[0], room)
     events = [*(opened(tag) for tag in (0, 1, 2, 3, BYTE)), *map(closed, (0, 1, 3)), END, b"\0",
               bytes([OPEN])]
     for room in damage.around(most):
         for event in events:
             for file, tags in ((schemas.IN_TURN, [0, 1]), (schemas.THREE_TYPES, [0])):
-                yield event_case(kind, file, nested(tags, most)[0] + event + END, room)
-        yield event_case(kind, schemas.THREE_TYPES,
+                yield event_case(name, file, nested(tags, most)[0] + event + END, room)
+        yield event_case(name, schemas.THREE_TYPES,
                          nested([0], most - 1)[0] + leaves(1) + opened(0) + END, room)
     # Up from level 64 and down again.
     down, up = nested([0], most)
     for levels in (1, 2, most - 1):
         data = down + b"".join(reversed(nested([0], levels)))
-        yield event_case(kind, samples.NESTED, data + up + END, most + levels)
-        yield event_case(kind, samples.NESTED, data + opened(0), most + levels)
-        yield event_case(kind, samples.NESTED, data + up + END, most + levels - 1)
+        yield event_case(name, samples.NESTED, data + up + END, most + levels)
+        yield event_case(name, samples.NESTED, data + opened(0), most + levels)
+        yield event_case(name, samples.NESTED, data + up + END, most + levels - 1)
 
 
 def no_schema_cases():
@@ -176,7 +176,7 @@ def most_openings():
 
 def large_schema_cases():
     """32 tags, 64 types, 32 states, 1,024 steps."""
-    kind, last = "large schemas", MOST_TAGS - 1
+    name, last = "large schemas", MOST_TAGS - 1
     for file in (write(schemas.full_steps()), schemas.dense_longest(last=False)):
         schema = judge(file).meaning.schema
         root = schema.blocks[schema.roots[0]].tag
@@ -184,24 +184,24 @@ def large_schema_cases():
         for data in (opened(root) + leaves(0, 0, 0) + end, opened(root) + leaves(last),
                      opened(root, last + 1), opened(root) + leaves(5, 7) + end, opened(last),
                      opened(0)):
-            yield event_case(kind, file, data, 4)
+            yield event_case(name, file, data, 4)
     for m, n, early in ((2, 3, 0), (3, 3, 1), (14, 16, 1)):
         file = schemas.cycles(m, n, early)
         for some in range(20 if judge(file).accepted else 0):
             data = opened(0) + leaves(*[1] * some, 2) + closed(0) + END
-            yield event_case(kind, file, data, some + 2)
+            yield event_case(name, file, data, some + 2)
     for some in (0, 1, 2, *damage.around(last), 40):
-        yield event_case(kind, schemas.LAST_STATE,
+        yield event_case(name, schemas.LAST_STATE,
                          opened(0) + leaves(*[1] * some) + closed(0) + END, PLENTY)
 
 
 # At random.
 
-def checked_case(kind, file, data, room, listed):
+def checked_case(name, file, data, room, listed):
     """The case, its answer held to the listed documents."""
     walk = walked(judge(file), data, room, None)
     listed.check(data, walk)
-    return event_case(kind, file, data, room)
+    return event_case(name, file, data, room)
 
 
 def random_cases():

@@ -1,17 +1,14 @@
 """Cases of nillable types: schema files (S), and by hand and at random the same as values (V) and
 jobs (J)."""
 
-import random
-
 from . import cases_roots, damage, expressions, nil, roots, samples, schemas
-from .case import due_case, schema_case, value_case
+from .case import due_case, value_case
 from .cases_expressions import BEFORE, placed
-from .cases_roots import accepted_cases, known_cases, three_cases
+from .cases_roots import (cases_at_random, cases_by_hand, cases_of_buffers, damaged_at_random,
+                          three_cases)
 from .cases_schema import ROOM, listed_case
-from .cases_values import made_up
 from .expressions import text
 from .judged import judge
-from .listed import check_both_ways
 from .meaning import Wrong
 from .schema_file import Schema, end_of_file, leaf, without_end, write
 from .tables import (COMPETITION, DONE, END_EXPRESSION, FINAL, KINDS, LEAST_WITNESS_ROOM,
@@ -146,7 +143,7 @@ def limit_cases():
     full = schemas.full_steps()
     full.blocks[-1].nillable = True
     for file in (nil.longest_file(), nil.all_nillable(schemas.leaves_only(MOST_TYPES)),
-                 write(full), nil.EIGHT):
+                 write(full), nil.NILLABLE_EIGHT):
         yield due("limits", file)
         end = len(end_of_file(*judge(file).meaning.schema.roots))
         yield due("limits", with_nil_at(file, len(file) - end), REPEATED, len(file) - end)
@@ -157,12 +154,7 @@ def limit_cases():
 # By hand.
 
 def hand_cases():
-    """Schemas of which every witness is known; each is a right choice and no other is."""
-    by_states = [(write(schema), known) for schema, known in nil.BY_HAND]
-    for file, known in by_states + nil.BY_HAND_EXPRESSIONS:
-        yield from known_cases("nil", file, known)
-    for file in nil.FILES:
-        yield from accepted_cases("nil", file)
+    return cases_by_hand("nil", nil)
 
 
 def long_cases():
@@ -190,28 +182,38 @@ def no_tree_cases():
 
 
 def buffer_cases():
-    """1 comes before all else."""
-    for schema in (nil.BY_HAND[0][0], nil.TREELESS[0]):
-        for room in (5, LEAST_WITNESS_ROOM - 1, LEAST_WITNESS_ROOM):
-            yield schema_case("nil, buffers", write(schema), room)
-            yield value_case("nil", *made_up(write(schema)), room)
+    return cases_of_buffers("nil", nil)
 
 
 # Damage.
 
+SMALL_FILES = (nil.NIL_ROOT, nil.NEEDS_A_CHILD, nil.RACKS_BY_TEXT)
+
+
+def cut_cases():
+    """Every cut of small files, by states and by expressions: 2 at the command that is cut or, if
+    none is, at the end."""
+    for file in SMALL_FILES:
+        starts = [at for at, _ in placed(file)]
+        for some in damage.every_cut(file):
+            yield due("cut", some, NO_COMMAND, max(at for at in starts if at <= len(some)))
+
+
+def stray_cases():
+    """The small files with a NIL put in at every place or in the place of a byte, and with a byte
+    left out or given twice."""
+    for file in SMALL_FILES:
+        for _, some in damage.every_byte_strayed(file, [NIL]):
+            yield from listed_case("nil, stray bytes", some, ROOM)
+
+
 def damaged_cases():
-    """A small file with NILs at every place or bytes left out; random files with something
-    wrong."""
-    for _, some in damage.every_byte_strayed(nil.NIL_ROOT, [NIL]):
-        yield from listed_case("nil, damaged", some, ROOM)
-    rng = random.Random("damaged files with nillable types")
-    for number in range(50):
-        made = nil.random_schema(rng, number)
-        if made:
-            yield from listed_case("nil, damaged", damaged(rng, made[0]), ROOM)
+    """Random files with something wrong."""
+    return damaged_at_random("nil", "damaged files with nillable types", 250, nil.random_schema,
+                             damaged)
 
 
-def damaged(rng, file):
+def damaged(rng, file, _):
     """The file with one thing wrong or a few; in half of the cases a NIL more, anywhere or between
     commands, or one left out."""
     if rng.random() < 0.5:
@@ -226,25 +228,12 @@ def damaged(rng, file):
 # At random.
 
 def random_cases():
-    """Random schemas, so many of each answer: competition by the kinds that the two share, accepted
-    ones by whether the kind alone tells two types apart. Where all documents can be listed, they
-    show it or show that there is none."""
-    rng, number = random.Random("random files with nillable types"), 0
-    left = {(COMPETITION, (OPEN_NIL,)): 12, (COMPETITION, (OPEN,)): 6, (COMPETITION, KINDS): 6,
-            (TAKEN, True): 16, (TAKEN, False): 8, (NO_TREE, False): 3}
-    while any(left.values()):
-        number += 1
-        made = nil.random_schema(rng, number)
-        if made is None or not nil.is_wanted(made[1]):
-            continue
-        file, judged = made
-        answer = judged.number, sort_of(judged)
-        if left[answer]:
-            left[answer] -= 1
-            check_both_ways(judged)
-            yield schema_case("nil, random", file, rng.choice((LEAST_WITNESS_ROOM, ROOM)))
-            if rng.random() < 0.4:
-                yield value_case("nil", *made_up(file), ROOM)
+    """Random schemas: competition by the kinds that the two share, accepted ones by whether the
+    kind alone tells two types apart."""
+    left = {(COMPETITION, (OPEN_NIL,)): 60, (COMPETITION, (OPEN,)): 30, (COMPETITION, KINDS): 30,
+            (TAKEN, True): 80, (TAKEN, False): 40, (NO_TREE, False): 15}
+    return cases_at_random("nil", "random files with nillable types", left, nil.random_schema,
+                           nil.is_wanted, sort_of)
 
 
 def sort_of(judged):
@@ -258,4 +247,6 @@ def sort_of(judged):
 
 
 CASES = (place_cases, twice_cases, after_cases, inside_cases, first_number_cases, limit_cases,
-         hand_cases, long_cases, no_tree_cases, buffer_cases, damaged_cases, random_cases)
+         hand_cases, long_cases, no_tree_cases, buffer_cases, cut_cases, stray_cases,
+         damaged_cases)
+RANDOM_CASES = (random_cases,)

@@ -117,12 +117,17 @@ def order_cases():
 # By hand.
 
 def hand_cases():
-    """Schemas of which every witness is known; each is a right choice and no other is."""
-    by_states = [(write(schema), known) for schema, known in roots.BY_HAND]
-    for file, known in by_states + roots.BY_HAND_EXPRESSIONS:
-        yield from known_cases("roots", file, known)
-    for file in roots.FILES:
-        yield from accepted_cases("roots", file)
+    return cases_by_hand("roots", roots)
+
+
+def cases_by_hand(name, made):
+    """Of the schemas of this module those of which every witness is known, where each is a right
+    choice and no other is; and those with documents."""
+    by_states = [(write(schema), known) for schema, known in made.BY_HAND]
+    for file, known in by_states + made.BY_HAND_EXPRESSIONS:
+        yield from known_cases(name, file, known)
+    for file in made.FILES:
+        yield from accepted_cases(name, file)
 
 
 def known_cases(name, file, known):
@@ -166,11 +171,16 @@ def no_tree_cases():
 
 
 def buffer_cases():
-    """1 comes before all else, though five bytes would hold a witness of roots."""
-    for schema in (roots.BY_HAND[0][0], roots.TREELESS[0]):
+    return cases_of_buffers("roots", roots)
+
+
+def cases_of_buffers(name, made):
+    """1 comes before all else, though five bytes would hold the witness of the first schema of this
+    module."""
+    for schema in (made.BY_HAND[0][0], made.TREELESS[0]):
         for room in (5, LEAST_WITNESS_ROOM - 1, LEAST_WITNESS_ROOM):
-            yield schema_case("roots, buffers", write(schema), room)
-            yield value_case("roots", *made_up(write(schema)), room)
+            yield schema_case(f"{name}, buffers", write(schema), room)
+            yield value_case(name, *made_up(write(schema)), room)
 
 
 def witnesses(meaning):
@@ -208,11 +218,17 @@ def damaged_cases():
     start = len(file) - len(end_of_file(*judge(file).meaning.schema.roots))
     for _, tail in damage.every_byte_strayed(file[start:], [ROOT]):
         yield from listed_case("roots, damaged", file[:start] + tail, ROOM)
-    rng = random.Random("damaged files of several roots")
-    for number in range(50):
-        made = roots.random_schema(rng, number)
+    yield from damaged_at_random("roots", "damaged files of several roots", 50,
+                                 roots.random_schema, damaged)
+
+
+def damaged_at_random(name, seed, count, random_schema, damaged_file):
+    """About so many random files with something wrong."""
+    rng = random.Random(seed)
+    for number in range(count):
+        made = random_schema(rng, number)
         if made:
-            yield from listed_case("roots, damaged", damaged(rng, *made), ROOM)
+            yield from listed_case(f"{name}, damaged", damaged_file(rng, *made), ROOM)
 
 
 def damaged(rng, file, judged):
@@ -231,24 +247,30 @@ def damaged(rng, file, judged):
 # At random.
 
 def random_cases():
-    """Random schemas, so many of each answer; competition of roots and of types. Where all
-    documents can be listed, they show it or show that there is none."""
-    rng, number = random.Random("random files of several roots"), 0
+    """Random schemas, competition of roots and of types among them."""
     left = {(COMPETITION, True): 14, (COMPETITION, False): 8, (TAKEN, False): 14,
             (NO_TREE, False): 3}
+    return cases_at_random("roots", "random files of several roots", left, roots.random_of_all,
+                           roots.is_wanted, lambda judged: bool(judged.meaning.competing_roots()))
+
+
+def cases_at_random(name, seed, left, random_schema, is_wanted, sort_of):
+    """Random schemas that are wanted, so many of each answer and sort. Where all documents can be
+    listed, they show a competition or show that there is none."""
+    rng, number = random.Random(seed), 0
     while any(left.values()):
         number += 1
-        made = roots.random_schema(rng, number, roots.SMALL + roots.DENSE + roots.LEVELS)
-        if made is None or not roots.is_wanted(made[1]):
+        made = random_schema(rng, number)
+        if made is None or not is_wanted(made[1]):
             continue
         file, judged = made
-        answer = judged.number, bool(judged.meaning.competing_roots())
+        answer = judged.number, sort_of(judged)
         if left[answer]:
             left[answer] -= 1
             check_both_ways(judged)
-            yield schema_case("roots, random", file, rng.choice((LEAST_WITNESS_ROOM, ROOM)))
+            yield schema_case(f"{name}, random", file, rng.choice((LEAST_WITNESS_ROOM, ROOM)))
             if rng.random() < 0.4:
-                yield value_case("roots", *made_up(file), ROOM)
+                yield value_case(name, *made_up(file), ROOM)
 
 
 CASES = (count_cases, repeat_cases, range_cases, order_cases, hand_cases, no_tree_cases,

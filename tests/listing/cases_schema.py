@@ -149,25 +149,25 @@ def repeats():
 
 def systematic_cases():
     """Cuts, every byte changed, bytes after DONE, repeats."""
-    for kind, files in (
+    for name, files in (
             ("cut", (c for f in (samples.R, samples.EXAMPLE_8_20) for c in damage.every_cut(f))),
             ("every byte", (c for f in (samples.R, samples.TWO_B)
                             for c in damage.every_byte_changed(f))),
             ("after DONE", after_done()), ("repeats", repeats())):
         for file in files:
-            yield from listed_case(kind, file, ROOM)
+            yield from listed_case(name, file, ROOM)
 
 
-def listed_case(kind, file, room):
+def listed_case(name, file, room):
     """The case, or none where the listing is too long."""
     try:
-        return [schema_case(kind, file, room)]
+        return [schema_case(name, file, room)]
     except TooMany:
         return []
 
 
 def random_byte_cases():
-    for file in damage.random_files(random.Random("random bytes"), 240):
+    for file in damage.random_schema_files(random.Random("random bytes"), 240):
         yield from listed_case("random bytes", file, ROOM)
 
 

@@ -56,7 +56,7 @@ def random_job_cases():
         made = expressions.random_schema(rng)
         if made and left[made[1].number]:
             for case in schema_cases(rng, *made, 8):
-                yield case._replace(kind="J expressions")
+                yield case._replace(name="J expressions")
             left[made[1].number] -= 1
 
 

@@ -4,17 +4,18 @@
 import random
 from itertools import chain, combinations
 
-from . import damage, nil, samples, schemas
+from . import damage, nil, nil_answers, samples, schemas
 from .case import event_case, job_case, value_case
 from .cases_calls import inner_puts, starter, walked
 from .cases_events import PLENTY
-from .cases_under_roots import (cases_of_documents, random_files, random_jobs, random_puts,
-                                random_walk)
+from .cases_under_roots import (cases_of_documents, random_event_files, random_jobs, random_walk,
+                                values_at_random)
 from .cases_values import ROOM, made_up
-from .event_file import END, closed, count_openings, document, leaves, nested, opened, route
-from .event_lists import random_event
+from .event_file import (END, calls_of, closed, count_openings, document, leaves, nested, opened,
+                         route)
 from .judged import judge
-from .meaning import TooMany, Tree, Wrong
+from .listed import Listed
+from .meaning import Tree, Wrong
 from .roots import any_of
 from .schema_file import Schema, read, write
 from .tables import (BYTE, CLOSE, COMPETITION, EVENT_BYTES, FINISH, MOST_LEVELS, MOST_TYPES,
@@ -29,6 +30,20 @@ def document_cases():
     return cases_of_documents("nil", nil.FILES, nil.ROUTES)
 
 
+def answer_cases():
+    """Lists of calls with known answers, which the listed documents give too, and event files and
+    jobs of each list as far as its first refusal."""
+    start, lists = starter("nil", "answers"), list(nil_answers.LONG_ANSWERS)
+    for shown, some in nil_answers.ANSWERS.items():
+        if not any([held_to_documents(*one) for one in some]):
+            raise Wrong(f"no list is held to all documents: {shown}")
+        lists += some
+    for file, words, answers in lists:
+        yield held_to(start(file).route(words), answers).case()
+        yield event_case("nil", file, route(words), PLENTY)
+        yield job_case("nil", file, route(words))
+
+
 def held_to(made, answers):
     """The list of calls, if it has these answers."""
     if " ".join(made.answers) != answers:
@@ -36,24 +51,15 @@ def held_to(made, answers):
     return made
 
 
-def answer_cases():
-    """Lists of calls with known answers, and event files and jobs of each list as far as its first
-    refusal; lists with entries put between the calls."""
-    start = starter("nil", "answers")
-    for file, words, answers in nil.ANSWERS:
-        yield held_to(start(file).route(words), answers).case()
-        data = route(words)
-        yield event_case("nil", file, data, PLENTY)
-        yield job_case("nil", file, data)
-    start = starter("nil made up", "answers")
-    for file, items, answers in nil.MADE_UP_ANSWERS:
-        made = start(file)
-        for item in items:
-            if isinstance(item, str):
-                made.route(item)
-            else:
-                made.puts(item)
-        yield held_to(made, answers).case()
+def held_to_documents(file, words, answers):
+    """Compares the answers with the listed documents: what is taken begins one of them, with the
+    types that it has, and what is refused none. Gives whether these are all documents."""
+    listed, taken = Listed(judge(file).meaning), b""
+    for event, answer in zip(calls_of(route(words)), answers.split(), strict=True):
+        taken = listed.check_call(taken, event, answer)
+        if taken not in listed.beginnings:
+            raise Wrong(f"events taken that begin no listed document: {words}")
+    return listed.complete
 
 
 def event_file_cases():
@@ -79,23 +85,46 @@ def event_file_cases():
         yield start(file).route("n0 n255 /0 f").case()
 
 
-# Types 0 and 1 stand in type 0; type 1 is nil alone.
-NESTS = write(Schema(2, [any_of(0, 0, 1), nil.only_nil(1)]))
+def stray_cases():
+    """At every place of some files 23 or the byte after it put in, or in the place of a byte; a
+    byte left out or given twice."""
+    for file, words in ((nil.NEEDS_A_CHILD, "0 n1 /1 /0 f"), (nil.BY_KIND, "0 1 /1 n1 /1 /0 f"),
+                        (nil.RACKS_BY_TEXT, "0 n1 /1 1 3 /3 /1 n2 /2 n1 /1 /0 f")):
+        for more, some in damage.every_byte_strayed(route(words), [OPEN_NIL, OPEN_NIL + 1]):
+            yield event_case("nil, stray bytes", file, some, count_openings(route(words)) + more)
+
+
+# Schemas whose plain elements of tag 0 nest without end, with the tag of their nil elements; in the
+# last types 0 and 1 stand in type 0, and type 1 is nil alone.
+NESTING = ((nil.NILLABLE_NESTED, 0), (nil.NEEDS_ITSELF, 0),
+           (write(Schema(2, [any_of(0, 0, 1), nil.only_nil(1)])), 1))
 
 
 def level_cases():
-    """63 and 64 levels, the last one nil, and a 65th opening of either kind; inside a nil element
-    13 comes before 14."""
+    """63 and 64 levels, the last one nil, and a 65th opening of either kind, the nil ones by value
+    and lent; inside a nil element 13 comes before 14."""
     start, most = starter("nil", "levels"), MOST_LEVELS
-    for file, last in ((nil.NESTED, 0), (nil.IN_ITSELF, 0), (NESTS, 1)):
+    for file, last in NESTING:
         for levels in damage.around(most):
             down, up = nested([0], levels - 1)
             data = down + leaves(last, kind=OPEN_NIL) + up + END
             for room in (levels - 1, levels):
                 yield event_case("nil", file, data, room)
             yield job_case("nil", file, data)
-        made = start(file).events(nested([0], most)[0]).refused(2)
-        yield made.route(f"/0 n{last}").refused().route(f"/{last} /0 /0 0 n0 n1").case()
+        made = start(file).events(nested([0], most)[0]).refused(2).nil_refused()
+        made.route(f"/0 n{last}").refused().nil_refused()
+        yield made.route(f"/{last} /0 /0 0 n0 n1").case()
+
+
+def made_up_level_cases():
+    """A made-up depth of 64: 14, with no states in the innermost element 13, after a finish 11, at
+    a depth of 65 10."""
+    start, most = starter("nil made up", "levels"), MOST_LEVELS
+    for file, _ in NESTING:
+        made = start(file).puts(("depth", most), ("level set", START, most - 1))
+        for put in (("level set", NONE, most - 1), ("finished", 1), ("depth", most + 1)):
+            made.refused().nil_refused().puts(put)
+        yield made.refused().nil_refused().case()
 
 
 def large_cases():
@@ -117,24 +146,56 @@ def large_cases():
 def random_event_cases():
     """Event files, valid and damaged, each answer held to the listed documents."""
     rng = random.Random("event files under nillable types")
-    for number in range(15):
-        yield from random_files("nil", rng, *nil.random_accepted(rng, number), damage.NIL_DAMAGES)
+    for number in range(75):
+        yield from random_event_files("nil", rng, *nil.random_accepted(rng, number),
+                                      damage.NIL_DAMAGES)
 
 
 def random_call_cases():
     """Walks, each answer held to the listed documents."""
     start, rng = starter("nil", "at random"), random.Random("walks under nillable types")
-    for number in range(30):
+    for number in range(150):
         yield random_walk(start, rng, *nil.random_accepted(rng, number))
 
 
 def random_job_cases():
     """Jobs under random schemas by states and by expressions."""
-    return random_jobs("nil", "nillable types", {TAKEN: 20, COMPETITION: 8, NO_TREE: 2},
+    return random_jobs("nil", "nillable types", {TAKEN: 100, COMPETITION: 40, NO_TREE: 10},
                        nil.random_schema, nil.is_wanted, damage.NIL_WAYS)
 
 
 # Values made up.
+
+def made_up_answer_cases():
+    """Lists of calls with entries put between them and known answers; and with the sets that the
+    root element keeps after each opening of a child."""
+    start = starter("nil made up", "answers")
+    for file, items, answers in nil_answers.MADE_UP_ANSWERS:
+        made = start(file)
+        for part in single(items):
+            put_or_called(made, part)
+        yield held_to(made, answers).case()
+    start = starter("nil, kept sets")
+    for file, items, sets in nil_answers.KEPT:
+        made, kept = start(file), []
+        for part in single(items):
+            put_or_called(made, part)
+            if made.reading.depth() == 2:
+                kept.append(made.reading.value.held["level set"][0])
+        if kept != sets or any(text[0] == "r" for text in made.answers):
+            raise Wrong(f"{sets} are to be kept, not {kept}: {made.line()}")
+        yield made.case()
+
+
+def single(items):
+    """The puts among the items, and the words of routes one by one."""
+    for item in items:
+        yield from item.split() if isinstance(item, str) else [item]
+
+
+def put_or_called(made, part):
+    return made.route(part) if isinstance(part, str) else made.puts(part)
+
 
 def flag_cases():
     """Document 01's samples with every set of their types nillable."""
@@ -168,27 +229,20 @@ def value_cases():
 def inner_cases():
     """Every innermost type with every kind of set, under calls of both kinds."""
     start = starter("nil made up", "innermost")
-    for made in inner_puts(start, (nil.NEEDS_A_CHILD, nil.NIL_FIRST, nil.IN_ITSELF)):
+    for made in inner_puts(start, (nil.NEEDS_A_CHILD, nil.NIL_FIRST, nil.NEEDS_ITSELF)):
         yield made.case()
 
 
 def random_value_cases():
     """Accepted random schemas, flags and other entries changed at random; readings in which sets
     are emptied and put."""
-    start, rng = starter("nil made up", "at random"), random.Random("values of nillable types")
-    for number in range(30):
-        file, judged = nil.random_accepted(rng, number)
-        puts = random_puts(rng, judged, damage.NIL_PUTS, number % 2)
-        try:
-            yield value_case("nil made up", file, puts, ROOM)
-        except TooMany:
-            continue
-        made = walked(start(file), rng, rng.choice((0, 4, 8)), 0.1).puts(*puts)
-        for _ in range(4):
-            change_reading(rng, made)
-            for _ in range(rng.randint(1, 4)):
-                made.give(*random_event(rng, judged.value))
-        yield made.case()
+    rng = random.Random("values of nillable types")
+    some = (nil.random_accepted(rng, number) for number in range(150))
+    return values_at_random("nil", rng, some, damage.NIL_PUTS, change_reading, short_walk)
+
+
+def short_walk(rng, made):
+    return walked(made, rng, rng.choice((0, 4, 8)), 0.1)
 
 
 def change_reading(rng, made):
@@ -206,6 +260,6 @@ def change_reading(rng, made):
         made.give(CLOSE, held["tag"][a])
 
 
-CASES = (document_cases, answer_cases, event_file_cases, level_cases, large_cases,
-         random_event_cases, random_call_cases, random_job_cases, flag_cases, value_cases,
-         inner_cases, random_value_cases)
+CASES = (document_cases, answer_cases, event_file_cases, stray_cases, level_cases, large_cases,
+         random_event_cases, random_call_cases, random_job_cases, made_up_answer_cases, flag_cases,
+         value_cases, inner_cases, made_up_level_cases, random_value_cases)

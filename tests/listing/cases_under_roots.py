@@ -22,14 +22,14 @@ from .tables import (BYTE, COMPETITION, MOST_LEVELS, MOST_ROOTS, MOST_TYPES, NO_
 # By hand.
 
 def document_cases():
-    """Documents of each root; calls refused on the way open each root once one was opened."""
+    """Documents of each root; a second root of every tag is among the calls refused on the way."""
     return cases_of_documents("roots", roots.FILES, roots.ROUTES)
 
 
-def cases_of_documents(kind, files, routes):
+def cases_of_documents(name, files, routes):
     """Walks under these files; along documents with known types every call that is refused; event
     files of two documents; jobs."""
-    start, rng = starter(kind), random.Random(f"{kind}, walks")
+    start, rng = starter(name), random.Random(f"{name}, walks")
     for file in files:
         yield walked(start(file), rng, 40).case()
     for file, data, types in routes:
@@ -40,8 +40,8 @@ def cases_of_documents(kind, files, routes):
         if given != types or made.answers[-1] != "ok":
             raise Wrong(f"a document that is to get {types}: {made.line()}")
         yield made.refused().case()
-        yield event_case(kind, file, data[:-1] + data, PLENTY)
-        yield job_case(kind, file, data)
+        yield event_case(name, file, data[:-1] + data, PLENTY)
+        yield job_case(name, file, data)
 
 
 def every_event_cases():
@@ -74,20 +74,20 @@ def random_event_cases():
     """Event files, valid and damaged, each answer held to the listed documents."""
     rng = random.Random("event files under several roots")
     for number in range(10):
-        yield from random_files("roots", rng, *roots.random_accepted(rng, number),
-                                damage.ROOT_DAMAGES)
+        yield from random_event_files("roots", rng, *roots.random_accepted(rng, number),
+                                      damage.ROOT_DAMAGES)
 
 
-def random_files(kind, rng, file, judged, damages):
+def random_event_files(name, rng, file, judged, damages):
     """Two documents, each with two event files made of it by these damages."""
     listed = Listed(judged.meaning)
     for _ in range(2):
         data = random_document(rng, judged.meaning, (), (2, 6, 12, 20), 200)
         most = count_openings(data)
-        yield checked_case(kind, file, data, most, listed)
+        yield checked_case(name, file, data, most, listed)
         for _ in range(2):
             some = rng.choice(damages)(rng, judged, data)
-            yield checked_case(kind, file, some, rng.choice((most, most + 1)), listed)
+            yield checked_case(name, file, some, rng.choice((most, most + 1)), listed)
 
 
 def random_call_cases():
@@ -108,19 +108,19 @@ def random_job_cases():
                        roots.random_schema, roots.is_wanted, damage.ROOT_WAYS)
 
 
-def random_jobs(kind, name, left, random_schema, is_wanted, ways):
+def random_jobs(name, seed, left, random_schema, is_wanted, ways):
     """Jobs under random schemas that are wanted, so many of each answer; three under an accepted
     one, made by these ways."""
     number = 0
     while any(left.values()):
         number += 1
-        rng = random.Random(f"{name}, jobs {number}")
+        rng = random.Random(f"{seed}, jobs {number}")
         made = random_schema(rng, number)
         if made and is_wanted(made[1]) and left[made[1].number]:
             cases = schema_cases(rng, *made, 3, ways)
             left[made[1].number] -= bool(cases)
             for case in cases:
-                yield case._replace(kind=f"J {kind}")
+                yield case._replace(name=f"J {name}")
 
 
 # Values made up.
@@ -186,19 +186,31 @@ def smallest_cases():
 
 
 def random_value_cases():
-    """Accepted random schemas, roots and other entries changed at random."""
-    start, rng = starter("roots made up", "at random"), random.Random("values of several roots")
-    for number in range(16):
-        file, judged = roots.random_accepted(rng, number)
-        puts = random_puts(rng, judged, damage.ROOT_PUTS, number % 2)
+    """Accepted random schemas, roots and other entries changed at random; fresh readings."""
+    rng = random.Random("values of several roots")
+    some = (roots.random_accepted(rng, number) for number in range(16))
+    return values_at_random("roots", rng, some, damage.ROOT_PUTS, fresh_and_opened)
+
+
+def fresh_and_opened(rng, made):
+    """Puts a fresh reading and opens a root."""
+    made.puts(("depth", 0), ("rooted", 0), ("finished", 0))
+    made.give(OPEN, rng.randrange(made.schema().tags))
+
+
+def values_at_random(name, rng, some, ways, change, begun=lambda rng, made: made):
+    """Each of these accepted schemas with entries changed by these ways, as a value; and a list of
+    calls, begun and then changed so, between changes of the reading."""
+    start = starter(f"{name} made up", "at random")
+    for number, (file, judged) in enumerate(some):
+        puts = random_puts(rng, judged, ways, number % 2)
         try:
-            yield value_case("roots made up", file, puts, ROOM)
+            yield value_case(f"{name} made up", file, puts, ROOM)
         except TooMany:
             continue
-        made = start(file).puts(*puts)
+        made = begun(rng, start(file)).puts(*puts)
         for _ in range(4):
-            made.puts(("depth", 0), ("rooted", 0), ("finished", 0))
-            made.give(OPEN, rng.randrange(judged.meaning.schema.tags))
+            change(rng, made)
             for _ in range(rng.randint(1, 4)):
                 made.give(*random_event(rng, judged.value))
         yield made.case()

@@ -26,16 +26,16 @@ def made_up(file):
     return (b"", puts_of(judged.meaning.schema)) if refused else (file, [])
 
 
-def made_up_cases(kind, file, room):
+def made_up_cases(name, file, room):
     """The value of the schema that a file states."""
     file, puts = made_up(file)
-    return by_puts(kind, puts, room) if puts else [value_case(kind, file, [], room)]
+    return by_puts(name, puts, room) if puts else [value_case(name, file, [], room)]
 
 
-def by_puts(kind, puts, room):
+def by_puts(name, puts, room):
     """A schema of one root stated by puts alone. The last, the count of its roots, is left out: a
     root put into a value of no root is its one root."""
-    return [value_case(kind, b"", puts[:-1], room)]
+    return [value_case(name, b"", puts[:-1], room)]
 
 
 def sample_cases():

@@ -23,7 +23,7 @@ def taken_over(case, text):
         confirm_text(case.first, text.removesuffix("--\n"))
         return text
     if case.letter not in MEANINGS or without_choice(text) != without_choice(case.text):
-        raise Wrong(f"committed for a case of {case.kind}: {text!r}, not {case.text!r}")
+        raise Wrong(f"committed for a case of {case.name}: {text!r}, not {case.text!r}")
     for witness in WITNESS.finditer(text):
         numbers = [int(word) for word in witness[0].split()]
         confirm_witness(MEANINGS[case.letter](case), numbers)

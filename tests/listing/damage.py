@@ -12,8 +12,8 @@ from .tables import (BYTE, CLOSE, DONE, FIELDS, FINISH, IN_BLOCK, KINDS, MOST_LE
 EDGES = sorted({0, 1, 2, 3, 4, 5, MOST_STATES - 1, MOST_STATES, MOST_STATES + 1, MOST_TAGS,
                 MOST_TYPES - 1, MOST_TYPES, BYTE})
 COMMAND_BYTES = sorted(STATE_COMMANDS)
-# Bytes that are no event of a document without nil elements.
-NO_EVENTS = (0, 1, ord("\n"), OPEN - 1, CLOSE + 1, FINISH - 1, FINISH + 1, BYTE)
+# Bytes that are no plain event; one of them, beside CLOSE, is that of a nil opening.
+NOT_PLAIN = (0, 1, ord("\n"), OPEN - 1, CLOSE + 1, FINISH - 1, FINISH + 1, BYTE)
 
 
 # Bytes of any file.
@@ -155,7 +155,7 @@ def damaged_file(rng, data):
     return data
 
 
-def random_files(rng, count):
+def random_schema_files(rng, count):
     """Random bytes; after a TAGS; after a TAGS and a TYPE; and whole commands."""
     any_byte, low = range(BYTE + 1), (0, 0, 0, 1, 1, 2)
     for _ in range(count):
@@ -257,13 +257,14 @@ def after_finish(rng, judged, doc):
     return doc + rng.choice(tail)
 
 
-def no_event(rng, judged, doc):
-    """An operand missing at the end, or a byte that is no command."""
+def stray_byte(rng, judged, doc):
+    """A plain event without its operand at the end; or between two events a byte that is none, or
+    that of a nil opening, which takes the next event's first byte for its tag."""
     events = events_of(doc)
     keep = rng.randrange(len(events) + 1)
     if rng.random() < 0.5:
         return b"".join(events[:keep]) + bytes([rng.choice([OPEN, CLOSE])])
-    return event_put_in(doc, keep, bytes([rng.choice(NO_EVENTS)]))
+    return event_put_in(doc, keep, bytes([rng.choice(NOT_PLAIN)]))
 
 
 def closed_too_early(rng, judged, doc):
@@ -319,7 +320,7 @@ def stray_walk(rng, judged, doc):
 
 
 EVENT_DAMAGES = [prefix, one_byte_changed, one_event_changed, one_event_added, one_event_damaged,
-                 one_tag_changed, element_left_out_or_doubled, after_finish, no_event,
+                 one_tag_changed, element_left_out_or_doubled, after_finish, stray_byte,
                  closed_too_early, closed_too_early, finished_too_early, second_root,
                  wrong_closing, any_bytes, straight_walk, stray_walk, stray_walk]
 WAYS = [whole, whole, whole, *EVENT_DAMAGES]

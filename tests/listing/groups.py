@@ -1,8 +1,8 @@
-"""The cases of every kind, in the groups in which they are made."""
+"""All cases, in the groups in which they are made."""
 
-from . import (cases_calls, cases_events, cases_expressions, cases_jobs, cases_nil, cases_roots,
-               cases_schema, cases_under_expressions, cases_under_nil, cases_under_roots,
-               cases_values, cases_words)
+from . import (cases_calls, cases_events, cases_expressions, cases_jobs, cases_nil,
+               cases_none_nillable, cases_roots, cases_schema, cases_under_expressions,
+               cases_under_nil, cases_under_roots, cases_values, cases_words)
 
 GROUPS = (
     cases_schema.CASES,
@@ -18,7 +18,9 @@ GROUPS = (
     cases_roots.CASES,
     cases_under_roots.CASES,
     cases_nil.CASES,
+    cases_nil.RANDOM_CASES,
     cases_under_nil.CASES,
+    cases_none_nillable.CASES,
 )
 
 

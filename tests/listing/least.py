@@ -1,7 +1,8 @@
-"""How often each kind of case must have each answer at the least, written as documents.py counts;
-`lent` is a lent call that was taken, `nil` a nil opening."""
+"""How often the cases of each name must have each answer at the least, written as documents.py
+counts; `lent` is a lent call that was taken, `nil` a nil opening by value that was taken and `nil
+lent` a lent one, each with the number after it where it was refused."""
 
-TOTALS = {"S": 9370, "C": 1620, "E": 13420, "J": 28530, "V": 1280, "P": 1024, "Q": 300}
+TOTALS = {"S": 11300, "C": 1980, "E": 14700, "J": 29300, "V": 2000, "P": 1024, "Q": 300}
 
 LEAST = {
     "S samples": "3 0, 1 2, 1 4, 1 8, 1 9, 6 cases",
@@ -49,12 +50,14 @@ LEAST = {
     "S nil, inside": "2 0, 2 2, 15 3, 3 6, 22 cases",
     "S nil, first number": "4 2, 5 3, 5 6, 1 7, 15 cases",
     "S nil, limits": "4 0, 1 5, 4 6, 9 cases",
-    "S nil, by hand": "40 0, 36 9, 76 cases",
+    "S nil, by hand": "44 0, 38 9, 82 cases",
     "S nil, long": "1 0, 1 9, 2 cases",
     "S nil, no tree": "5 0, 5 8, 10 cases",
     "S nil, buffers": "4 1, 1 8, 1 9, 6 cases",
-    "S nil, damaged": "5 0, 11 2, 9 3, 10 4, 9 6, 1 7, 1 8, 1 9, 1 21, 51 cases",
-    "S nil, random": "24 0, 3 8, 24 9, 51 cases",
+    "S nil, cut": "97 2, 97 cases",
+    "S nil, stray bytes": "21 0, 136 2, 87 3, 90 4, 28 6, 15 7, 4 8, 4 21, 385 cases",
+    "S nil, damaged": "30 0, 17 2, 34 3, 21 4, 25 6, 7 7, 4 8, 7 9, 2 21, 150 cases",
+    "S nil, random": "72 0, 9 8, 72 9, 153 cases",
     "C samples": "2 13, 1 14, 1 17, 68 lent, 3 lent refused, 14 ok, 46 type, 5 cases",
     "C no schema": "9 10, 2 18, 1 lent, 4 lent refused, 3 ok, 2 type, 2 cases",
     "C every refusal":
@@ -94,11 +97,19 @@ LEAST = {
         "69 10, 8 12, 193 13, 81 15, 12 16, 2 17, 22 18, 94 lent, 214 lent refused, 102 ok, 99 "
         "type, 36 cases",
     "C nil":
-        "9 10, 381 11, 708 12, 853 13, 10 14, 157 15, 267 16, 26 17, 111 18, 250 lent, 1275 lent "
-        "refused, 63 nil, 791 nil refused, 201 ok, 279 type, 57 cases",
+        "9 10, 684 11, 1039 12, 1597 13, 15 14, 262 15, 547 16, 52 17, 201 18, 568 lent, 2173 lent "
+        "refused, 111 nil, 2 nil 10, 112 nil 11, 171 nil 12, 409 nil 13, 3 nil 14, 110 nil lent, 3 "
+        "nil lent 10, 81 nil lent 11, 181 nil lent 12, 399 nil lent 13, 3 nil lent 14, 538 ok, 591 "
+        "type, 140 cases",
     "C nil made up":
-        "349 10, 13 11, 19 12, 131 13, 40 15, 40 16, 26 17, 32 18, 80 lent, 314 lent refused, 32 "
-        "nil, 180 nil refused, 76 ok, 77 type, 36 cases",
+        "396 10, 123 11, 101 12, 379 13, 9 14, 120 15, 162 16, 102 17, 144 18, 240 lent, 738 lent "
+        "refused, 49 nil, 68 nil 10, 16 nil 11, 16 nil 12, 96 nil 13, 3 nil 14, 45 nil lent, 54 "
+        "nil lent 10, 17 nil lent 11, 15 nil lent 12, 84 nil lent 13, 3 nil lent 14, 256 ok, 221 "
+        "type, 111 cases",
+    "C nil, kept sets": "22 lent, 8 nil, 6 nil lent, 28 ok, 22 type, 6 cases",
+    "C nil, none nillable":
+        "98 11, 262 12, 740 13, 136 lent, 550 lent refused, 49 nil 11, 131 nil 12, 370 nil 13, 49 "
+        "nil lent 11, 131 nil lent 12, 370 nil lent 13, 71 ok, 186 type, 15 cases",
     "E samples": "3 0, 1 11, 1 13, 1 14, 1 17, 2 19, 1 20, 8 cases",
     "E cut": "7 0, 123 19, 129 cases",
     "E buffers": "46 0, 46 11, 46 12, 46 19, 116 20, 298 cases",
@@ -119,7 +130,11 @@ LEAST = {
         "83 0, 4 10, 38 11, 166 12, 158 13, 2 14, 28 15, 118 16, 22 17, 47 18, 139 19, 66 20, 873 "
         "cases",
     "E roots": "15 0, 7 11, 11 12, 22 13, 1 14, 7 15, 3 16, 2 17, 2 18, 10 19, 1 20, 85 cases",
-    "E nil": "33 0, 2 10, 9 11, 20 12, 39 13, 3 14, 5 15, 1 16, 2 17, 4 18, 21 19, 7 20, 151 cases",
+    "E nil":
+        "122 0, 2 10, 13 11, 35 12, 82 13, 3 14, 22 15, 9 16, 16 17, 11 18, 44 19, 14 20, 377 "
+        "cases",
+    "E nil, stray bytes": "1 0, 3 11, 157 12, 16 13, 106 19, 283 cases",
+    "E nil, none nillable": "49 11, 129 12, 366 13, 544 cases",
     "J samples": "4 0, 1 2, 1 4, 1 8, 1 9, 2 13, 1 14, 2 17, 10 cases",
     "J random":
         "2819 0, 170 8, 280 9, 595 11, 844 12, 1466 13, 763 15, 733 16, 1063 17, 1117 18, 2363 "
@@ -135,7 +150,9 @@ LEAST = {
         "102 0, 8 2, 10 8, 21 9, 16 11, 31 12, 63 13, 1 14, 25 15, 30 16, 29 17, 30 18, 89 19, "
         "453 cases",
     "J roots": "16 0, 4 8, 21 9, 1 11, 5 12, 10 13, 1 15, 1 16, 1 18, 3 19, 68 cases",
-    "J nil": "29 0, 4 8, 25 9, 1 11, 1 12, 14 13, 1 14, 3 15, 3 16, 3 17, 2 18, 6 19, 96 cases",
+    "J nil":
+        "66 0, 9 8, 47 9, 7 11, 11 12, 50 13, 1 14, 20 15, 10 16, 12 17, 11 18, 28 19, 277 cases",
+    "J nil, none nillable": "1 11, 10 12, 57 13, 68 cases",
     "V samples":
         "7 judge 0, 13 judge 1, 4 judge 10, 1 judge 8, 2 judge 9, 8 search 0, 13 search 1, 4 "
         "search 10, 2 search 9, 27 cases",
@@ -159,10 +176,10 @@ LEAST = {
         "31 judge 0, 13 judge 10, 1 judge 8, 7 judge 9, 31 search 0, 13 search 10, 7 search 9, 52 "
         "cases",
     "V nil":
-        "28 judge 0, 2 judge 1, 3 judge 8, 28 judge 9, 31 search 0, 2 search 1, 28 search 9, 62 "
+        "57 judge 0, 2 judge 1, 6 judge 8, 49 judge 9, 63 search 0, 2 search 1, 49 search 9, 115 "
         "cases",
     "V nil made up":
-        "32 judge 0, 1 judge 10, 1 judge 8, 30 judge 9, 33 search 0, 1 search 10, 30 search 9, 64 "
+        "70 judge 0, 1 judge 8, 61 judge 9, 2 judge 10, 72 search 0, 61 search 9, 2 search 10, 136 "
         "cases",
     "P pairs": "512 inside, 16 outside, 528 cases",
     "Q sets":
@@ -177,12 +194,12 @@ def counts_of(text):
 
 
 def too_rare(totals, counts):
-    """The letters, kinds and answers that came up too rarely."""
+    """The letters, names and answers that came up too rarely."""
     rare = [f"{letter}: {totals[letter]}, not {number}" for letter, number in TOTALS.items()
             if totals[letter] < number]
-    for kind, text in LEAST.items():
+    for name, text in LEAST.items():
         for answer, number in counts_of(text).items():
-            found = counts.get(kind, {}).get(answer, 0)
+            found = counts.get(name, {}).get(answer, 0)
             if found < number:
-                rare.append(f"{kind}, {answer}: {found}, not {number}")
+                rare.append(f"{name}, {answer}: {found}, not {number}")
     return rare

@@ -9,8 +9,10 @@ from .expressions import content
 from .meaning import Meaning, TooMany
 from .roots import any_of, no_tree, of_roots
 from .schema_file import Block, Content, Schema, commands_of, leaf, once, read, write
-from .tables import (BYTE, CLOSE_BRACKET, LONGEST_FILE, MOST_ROOTS, MOST_TYPES, NEXT_SEQUENCE,
-                     NO_TREE, OPEN_BRACKET, OPEN_NIL, USE, WORD)
+from .tables import (CLOSE_BRACKET, LONGEST_FILE, MOST_ROOTS, MOST_TAGS, MOST_TYPES, NEXT_SEQUENCE,
+                     NO_TREE, OPEN_BRACKET, OPEN_NIL, USE)
+
+LAST_TAG = MOST_TAGS - 1
 
 
 def nillable(block):
@@ -41,7 +43,8 @@ NIL_ROOT = write(Schema(2, [only_nil(0)]))
 EITHER = write(Schema(2, [any_of(0, 1), either(1)]))
 NEEDS_A_CHILD = write(Schema(3, [nillable(once(0, 1)), nillable(once(1, 2)), leaf(2)]))
 # Document 01's samples with every type nillable; without that the last gets 8.
-R, NESTED, IN_ITSELF = map(all_nillable, (samples.R, samples.NESTED, samples.NO_TREE_AT_ROOT))
+NILLABLE_R, NILLABLE_NESTED, NEEDS_ITSELF = map(all_nillable, (
+    samples.R, samples.NESTED, samples.NO_TREE_AT_ROOT))
 # Two types of one tag, told apart by the kind alone: children; the smaller one nil; children that
 # are followed by others; roots; roots that stand below one of them too.
 BY_KIND = write(Schema(2, [any_of(0, 1, 2), leaf(1), only_nil(1)]))
@@ -49,7 +52,7 @@ NIL_FIRST = write(Schema(3, [any_of(0, 1, 2), only_nil(1), once(1, 3), leaf(2)])
 NEXT_BY_KIND = write(Schema(3, [Block(0, 4, [3], [(0, 1, 1), (0, 2, 2), (1, 3, 3), (2, 4, 3)]),
                                 leaf(1), only_nil(1), leaf(2), leaf(2)]))
 ROOTS_BY_KIND = write(Schema(2, [once(0, 2), only_nil(0), leaf(1)], (1, 0)))
-ALSO_BELOW = write(Schema(1, [any_of(0, 0, 1), only_nil(0)], (0, 1)))
+ROOTS_BELOW_BY_KIND = write(Schema(1, [any_of(0, 0, 1), only_nil(0)], (0, 1)))
 # Types 0 and 1 bear a tree because type 2 is nillable.
 BELOW_NIL = write(Schema(3, [once(0, 1), once(1, 2), only_nil(2)]))
 # No word of type 1 ends, so that types 2 and 3 are not reached and do not compete.
@@ -63,99 +66,40 @@ RACKS = write(Schema(4, [
 RACKS_BY_TEXT = expressions.schema(
     4, (0, "1* 2 3*"), nillable(content(1, "4 4*")), nillable(content(2, "6")),
     nillable(content(1, "5 5*")), (3, ""), (3, ""), (0, "6"))
-# 64 types and 8 roots.
-EIGHT = all_nillable(roots.EIGHT)
+# 64 types and 8 roots; the last type, of the last tag; the last state.
+NILLABLE_EIGHT, NILLABLE_LAST_TYPE, NILLABLE_LAST_STATE = map(all_nillable, (
+    roots.EIGHT, schemas.LAST_TYPE, schemas.LAST_STATE))
 
 # Documents, with the types that they get.
-ROUTES = [(file, route(words), types) for file, words, types in (
+ROUTES = [(file, route(written), types) for file, written, types in (
     (ONLY_NIL, "0 n1 /1 n1 /1 /0 f", [0, 1, 1]),
     (NIL_ROOT, "n0 /0 f", [0]),
     (EITHER, "0 1 /1 n1 /1 1 /1 /0 f", [0, 1, 1, 1]),
     (NEEDS_A_CHILD, "n0 /0 f", [0]),
     (NEEDS_A_CHILD, "0 n1 /1 /0 f", [0, 1]),
     (NEEDS_A_CHILD, "0 1 2 /2 /1 /0 f", [0, 1, 2]),
-    (R, "0 n1 /1 1 /1 n2 /2 n1 /1 1 /1 /0 f", [0, 1, 1, 2, 3, 3]),
-    (NESTED, "0 n0 /0 0 n0 /0 0 /0 /0 /0 f", [0] * 5),
-    (IN_ITSELF, "0 0 n0 /0 /0 /0 f", [0, 0, 0]),
-    (IN_ITSELF, "n0 /0 f", [0]),
+    (NILLABLE_R, "0 n1 /1 1 /1 n2 /2 n1 /1 1 /1 /0 f", [0, 1, 1, 2, 3, 3]),
+    (NILLABLE_NESTED, "0 n0 /0 0 n0 /0 0 /0 /0 /0 f", [0] * 5),
+    (NEEDS_ITSELF, "0 0 n0 /0 /0 /0 f", [0, 0, 0]),
+    (NEEDS_ITSELF, "n0 /0 f", [0]),
     (BY_KIND, "0 1 /1 n1 /1 1 /1 /0 f", [0, 1, 2, 1]),
     (NIL_FIRST, "0 1 2 /2 /1 n1 /1 /0 f", [0, 2, 3, 1]),
     (NEXT_BY_KIND, "0 1 /1 2 /2 /0 f", [0, 1, 3]),
     (NEXT_BY_KIND, "0 n1 /1 2 /2 /0 f", [0, 2, 4]),
     (ROOTS_BY_KIND, "0 1 /1 /0 f", [0, 2]),
     (ROOTS_BY_KIND, "n0 /0 f", [1]),
-    (ALSO_BELOW, "0 0 n0 /0 /0 n0 /0 0 /0 /0 f", [0, 0, 1, 1, 0]),
-    (ALSO_BELOW, "n0 /0 f", [1]),
+    (ROOTS_BELOW_BY_KIND, "0 0 n0 /0 /0 n0 /0 0 /0 /0 f", [0, 0, 1, 1, 0]),
+    (ROOTS_BELOW_BY_KIND, "n0 /0 f", [1]),
     (BELOW_NIL, "0 1 n2 /2 /1 /0 f", [0, 1, 2]),
     (write(Schema(3, NO_END)), "0 n1 /1 n1 /1 /0 f", [0, 1, 1]),
     (RACKS, "0 1 3 /3 3 /3 /1 n1 /1 n2 /2 n1 /1 1 3 /3 /1 /0 f", [0, 1, 4, 4, 1, 2, 3, 3, 5]),
     (RACKS_BY_TEXT, "0 n1 /1 1 3 /3 /1 n2 /2 1 3 /3 3 /3 /1 /0 f", [0, 1, 1, 4, 2, 3, 5, 5]),
-    (EIGHT, "31 n1 /1 7 /7 /31 f", [63, 49, 55]),
-    (EIGHT, "n24 /24 f", [56]))]
+    (NILLABLE_EIGHT, "31 n1 /1 7 /7 /31 f", [63, 49, 55]),
+    (NILLABLE_EIGHT, "n24 /24 f", [56]),
+    (NILLABLE_LAST_TYPE, "31 n31 /31 31 n31 /31 /31 n31 /31 /31 f", [63] * 5),
+    (NILLABLE_LAST_TYPE, "n31 /31 f", [63]),
+    (NILLABLE_LAST_STATE, "0 " + "n1 /1 " * 33 + "/0 f", [0] + [1] * 33))]
 FILES = list(dict.fromkeys(file for file, *_ in ROUTES))
-
-# Lists of calls with their answers: t and the type, r and the number, ok.
-ANSWERS = [
-    # A type that bears a nil tree alone: 21 gets 13, 23 its type, as a child and as a root.
-    (ONLY_NIL, "0 1 n1 /1 1 n2 2 /0 f", "t0 r13 t1 ok r13 r13 r13 ok ok"),
-    (NIL_ROOT, "0 1 n1 n0 /0 f", "r13 r13 r13 t0 ok ok"),
-    (RACKS, "0 2 n2 /2 2 n2 /0 f", "t0 r13 t2 ok r13 r13 ok ok"),
-    # Nillable, and the start state accepts: both kinds.
-    (EITHER, "0 n1 /1 1 /1 /0 f", "t0 t1 ok t1 ok ok ok"),
-    (NESTED, "0 n0 /0 0 /0 /0 f", "t0 t0 ok t0 ok ok ok"),
-    # Of one tag: 21 gives one and 23 the other, as children and as roots.
-    (BY_KIND, "0 n1 /1 1 /1 /0 f", "t0 t2 ok t1 ok ok ok"),
-    (NIL_FIRST, "0 n1 /1 1 /1 n2 2 /2 /1 /0 f", "t0 t1 ok t2 r17 r13 t3 ok ok ok ok"),
-    (ROOTS_BY_KIND, "n0 1 /0 f", "t1 r13 ok ok"),
-    (ROOTS_BY_KIND, "n1 0 n1 1 /1 /0 f", "r13 t0 r13 t2 ok ok ok"),
-    # An opening of either kind inside a nil element, also one that may stand in its content.
-    (NEEDS_A_CHILD, "n0 1 n1 0 n0 2 n2 3 n3 /0 f", "t0 r13 r13 r13 r13 r13 r13 r12 r12 ok ok"),
-    (NESTED, "0 n0 0 n0 /0 0 n0 0 n0 /0 /0 /0 f", "t0 t0 r13 r13 ok t0 t0 r13 r13 ok ok ok ok"),
-    # Closing a nil element; the same type opened plainly.
-    (NEEDS_A_CHILD, "0 n1 /0 /2 /3 f /1 /0 f", "t0 t1 r16 r16 r12 r18 ok ok ok"),
-    (NEEDS_A_CHILD, "0 1 /1 /0 2 /2 /1 /0 f", "t0 t1 r17 r16 t2 ok ok ok ok"),
-    # A nil root: a finish before its closing, a second root.
-    (NEEDS_A_CHILD, "n0 f /1 /0 0 n0 /0 f 0 n0 f", "t0 r18 r16 ok r13 r13 r15 ok r11 r11 r11"),
-    # A second nil element in the place of one.
-    (IN_ITSELF, "0 n0 /0 0 n0 /0 f", "t0 t0 ok r13 r13 ok ok"),
-    (NEEDS_A_CHILD, "0 n1 /1 n1 1 /0 f", "t0 t1 ok r13 r13 ok ok"),
-    # Tags past the count.
-    (BY_KIND, "n2 n255 0 n2 n255 n1 n2 /1 /0 f", "r12 r12 t0 r12 r12 t2 r12 ok ok ok"),
-]
-# The same with entries put between the calls: (field, number, index).
-MADE_UP_ANSWERS = [
-    # A nillable type with no states: closed, and nothing opens in it. With state 0 it is judged by
-    # that.
-    (IN_ITSELF, ["0", ("level set", 0, 0), "0 n0 /0 f"], "t0 r13 r13 ok ok"),
-    (IN_ITSELF, ["n0", ("level set", 1, 0), "/0 n0 /0 /0 f"], "t0 r17 t0 ok ok ok"),
-    (NESTED, ["n0", ("level set", 1, 0), "0 /0 /0 f"], "t0 t0 ok ok ok"),
-    # A type that is not nillable with no states, until it is.
-    (samples.NESTED, ["0", ("level set", 0, 0), "0 n0 /0", ("nillable", 1, 0), "0 n0 /0 f"],
-     "t0 r13 r13 r17 r13 r13 ok ok"),
-    (NEEDS_A_CHILD, ["0 1 2", ("level set", 0, 2), "n2 /2", ("nillable", 1, 2), "/2 /1 /0 f"],
-     "t0 t1 t2 r13 r17 ok ok ok ok"),
-    # A nil element's type is not nillable any more, and is again.
-    (NEEDS_A_CHILD, ["n0", ("nillable", 0, 0), "/0 1", ("nillable", BYTE, 0), "1 /0 f"],
-     "t0 r17 r13 r13 ok ok"),
-    # Flags put under an open document, on one type after the other; any number but 0 is one.
-    (samples.R, ["0 n1", ("nillable", 1, 1), "n1 /1 n2", ("nillable", 2, 2), "n2 /2 n1",
-                 ("nillable", 128, 3), "n1 /1", ("nillable", 0, 3), "n1 1 /1 /0 f"],
-     "t0 r13 t1 ok r13 t2 ok r13 t3 ok r13 t3 ok ok ok"),
-    (samples.NESTED, ["n0", ("nillable", 1, 0), "n0 /0 f"], "r13 t0 ok ok"),
-    # Of several types of a tag the smallest that bears a tree of the kind, below and as roots.
-    (BY_KIND, ["0", ("nillable", 1, 1), "n1 /1 1 /1", ("accepting", 1, 2), "1 /1",
-               ("accepting", 0, 1), "1 /1 n1 /1", ("nillable", 0, 1), "1 /1 n1 /1 /0 f"],
-     "t0 t1 ok t1 ok t1 ok t2 ok t1 ok t2 ok t2 ok ok ok"),
-    (ROOTS_BY_KIND, [("nillable", 1, 0), "n0 /0 f"], "t0 ok ok"),
-    (ROOTS_BY_KIND, [("accepting", 1, 1), "0", ("depth", 0, 0), ("rooted", 0, 0),
-                     ("accepting", 0, 0), "0 /0 f"], "t0 t1 ok ok"),
-    # Types bear a tree because another is nillable, or no longer do.
-    (BELOW_NIL, [("nillable", 0, 2), "0 n0", ("nillable", 1, 2), "0", ("nillable", 0, 2), "1 n1",
-                 ("nillable", 1, 1), "1 n1 /1 /0 f"], "r13 r13 t0 r13 r13 r13 t1 ok ok ok"),
-    # Entries past the types and past the table.
-    (EITHER, [*(("nillable", BYTE, n) for n in (2, MOST_TYPES - 1, MOST_TYPES, BYTE, WORD)),
-              "n0 0 n1 /1 1 /1 /0 f"], "r13 t0 t1 ok t1 ok ok ok"),
-]
 
 
 # By hand, with A J K n and w of every witness that each may get; none: accepted.
@@ -243,9 +187,11 @@ BY_HAND = [
     (Schema(3, [any_of(0, 1), nillable(once(1, 2, 3)), only_nil(2), either(2)]), ["1 2 3 0"]),
     (Schema(3, NO_END), []),
     (Schema(3, [any_of(0, 1), only_nil(1), once(1, 3, 4), either(2), either(2)]), []),
-    # The last types.
+    # The last types; the last tag.
     (Schema(1, [once(0, MOST_TYPES - 2, MOST_TYPES - 1), *[leaf(0)] * (MOST_TYPES - 3),
                 only_nil(0), only_nil(0)]), [f"0 {MOST_TYPES - 2} {MOST_TYPES - 1} 0"]),
+    (Schema(MOST_TAGS, [once(0, 1, 2), only_nil(LAST_TAG), either(LAST_TAG)]), ["0 1 2 0"]),
+    (Schema(MOST_TAGS, [once(0, 1, 2), leaf(LAST_TAG), only_nil(LAST_TAG)]), []),
     # Roots.
     (Schema(1, [only_nil(0), only_nil(0)], (0, 1)), of_roots(0, 1)),
     (Schema(1, [only_nil(0), either(0)], (1, 0)), of_roots(0, 1)),
@@ -258,6 +204,8 @@ BY_HAND = [
     (Schema(1, [only_nil(0), leaf(0), only_nil(0), leaf(0)], (3, 2, 1, 0)),
      of_roots(0, 2) + of_roots(1, 3)),
     (Schema(2, [only_nil(0), only_nil(1)], (0, 1)), []),
+    (Schema(MOST_TAGS, [only_nil(LAST_TAG), either(LAST_TAG)], (0, 1)), of_roots(0, 1)),
+    (Schema(MOST_TAGS, [leaf(LAST_TAG), only_nil(LAST_TAG)], (0, 1)), []),
     (Schema(4, IN_PAIRS, tuple(range(MOST_ROOTS))), []),
     (Schema(4, IN_PAIRS + [only_nil(3)], tuple(range(1, MOST_ROOTS + 1))), of_roots(6, 8)),
     # Roots come before types if they share a kind.
@@ -310,11 +258,11 @@ def with_nil(shape):
 
 
 def add_twin(rng, schema):
-    """A type that is nil alone, of the tag of another, which is not nillable. It may stand where
-    the other does, sometimes as a root too; it leads to the same states or to any."""
+    """A type that is nil alone, of the tag of another, which is mostly not nillable. It may stand
+    where the other does, sometimes as a root too; it leads to the same states or to any."""
     j, k = rng.randrange(len(schema.blocks)), len(schema.blocks)
     anywhere = rng.random() < 0.4
-    schema.blocks[j].nillable = False
+    schema.blocks[j].nillable = rng.random() < 0.2
     schema.blocks = [with_type_beside(rng, block, j, k, anywhere) for block in schema.blocks]
     schema.blocks.append(only_nil(schema.blocks[j].tag))
     if j in schema.roots and len(schema.roots) < MOST_ROOTS and rng.random() < 0.7:

@@ -192,6 +192,11 @@ def random_schema(rng, number, shapes=SMALL):
     return schemas.random_schema(rng, shapes)
 
 
+def random_of_all(rng, number):
+    """The same of all shapes."""
+    return random_schema(rng, number, SMALL + DENSE + LEVELS)
+
+
 def is_wanted(judged):
     return len(judged.meaning.schema.roots) > 1
 

@@ -1,4 +1,4 @@
-//! NIL and openings as nil: each place, each pair of kinds, each list of few events.
+//! NIL and openings as nil: each place, each pair of kinds, each list of few events, each tag, type and state.
 
 mod common;
 
@@ -90,15 +90,41 @@ fn childless(tag: u8, plain: bool, nillable: bool) -> Vec<u8> {
     block
 }
 
-/// Types 1 and 2 of tag 1, with these trees, in type 0 or as roots.
-fn two_of_a_tag(one: [bool; 2], other: [bool; 2], roots: &[u8]) -> Vec<u8> {
-    let mut schema = vec![0x10, 2, 0x11, 0, 2, 0x12, 1, 0x13, 0, 1, 1, 0x13, 0, 2, 1];
-    for [plain, nillable] in [one, other] {
-        schema.extend(childless(1, plain, nillable));
+/// Types 1 and 2 of this tag, with these trees, in type 0 or as roots.
+fn two_of_a_tag(tag: u8, types: [[bool; 2]; 2], roots: &[u8]) -> Vec<u8> {
+    let mut schema = vec![0x10, 32, 0x11, 0, 2, 0x12, 1, 0x13, 0, 1, 1, 0x13, 0, 2, 1];
+    for [plain, nillable] in types {
+        schema.extend(childless(tag, plain, nillable));
     }
     schema.extend(roots.iter().flat_map(|&root| [0x14, root]));
     schema.push(0x1F);
     schema
+}
+
+/// Two types with these trees, of this tag, compete if they share a kind; else an opening of a kind is taken if
+/// one of them has a tree of it.
+fn compete_by_kinds(tag: u8, [one, other]: [[bool; 2]; 2]) {
+    let shared = (0..2).any(|kind| one[kind] && other[kind]);
+    let none = one == [false; 2] && other == [false; 2];
+    let number = if none { 8 } else { 9 * u8::from(shared) };
+    for (within, roots) in [(0, &[0][..]), (NO_PARENT, &[1, 2]), (NO_PARENT, &[2, 1])] {
+        let schema = two_of_a_tag(tag, [one, other], roots);
+        let answers = both(&schema, &[], WITNESS, 0);
+        let fixed = shared.then_some(Fixed { within, length: 0 });
+        assert_eq!((answers.schema, answers.witness), ((number, 0), fixed));
+        let around: [&[u8]; 2] = match within {
+            0 => [&[OPEN, 0], &[CLOSE, 0]],
+            _ => [&[], &[]],
+        };
+        for (kind, code) in [OPEN, OPEN_NIL].into_iter().enumerate() {
+            let events = [around[0], &[code, tag, CLOSE, tag], around[1], &[FINISH]].concat();
+            let taken = match both(&schema, &events, WITNESS, 2).job {
+                Job::EventsRead { number, .. } => Some(number == 0),
+                Job::SchemaRefused { .. } => None,
+            };
+            assert_eq!(taken, (number == 0).then_some(one[kind] || other[kind]));
+        }
+    }
 }
 
 #[test]
@@ -108,26 +134,8 @@ fn competition_by_each_two_kinds() {
         .iter()
         .flat_map(|one| kinds.map(|other| (*one, other)))
     {
-        let shared = (0..2).any(|kind| one[kind] && other[kind]);
-        let none = one == kinds[0] && other == kinds[0];
-        let number = if none { 8 } else { 9 * u8::from(shared) };
-        for (within, roots) in [(0, &[0][..]), (NO_PARENT, &[1, 2]), (NO_PARENT, &[2, 1])] {
-            let schema = two_of_a_tag(one, other, roots);
-            let answers = both(&schema, &[], WITNESS, 0);
-            let fixed = shared.then_some(Fixed { within, length: 0 });
-            assert_eq!((answers.schema, answers.witness), ((number, 0), fixed));
-            let around: [&[u8]; 2] = match within {
-                0 => [&[OPEN, 0], &[CLOSE, 0]],
-                _ => [&[], &[]],
-            };
-            for (kind, code) in [OPEN, OPEN_NIL].into_iter().enumerate() {
-                let events = [around[0], &[code, 1, CLOSE, 1], around[1], &[FINISH]].concat();
-                let taken = match both(&schema, &events, WITNESS, 2).job {
-                    Job::EventsRead { number, .. } => Some(number == 0),
-                    Job::SchemaRefused { .. } => None,
-                };
-                assert_eq!(taken, (number == 0).then_some(one[kind] || other[kind]));
-            }
+        for tag in [1, 4, 31] {
+            compete_by_kinds(tag, [one, other]);
         }
     }
 }
@@ -193,5 +201,84 @@ fn nil_elements_at_the_lowest_level() {
     assert_eq!(job(&whole), (0, 64));
     for end in 0..whole.len() {
         assert_eq!(job(&whole[..end]).0, 19);
+    }
+}
+
+/// The answer to an event file and the types given.
+fn typed(schema: &[u8], events: &[u8]) -> (u8, usize, Vec<u8>) {
+    both(schema, events, WITNESS, 64);
+    let mut types = vec![0; 64];
+    let job = typestock::type_document(schema, events, &mut [0; WITNESS], &mut types);
+    let typestock::Job::EventsRead {
+        number,
+        place,
+        count,
+    } = job
+    else {
+        panic!("{job:?}");
+    };
+    types.truncate(count);
+    (number, place, types)
+}
+
+/// A document whose root is opened so and has nil children of these tags.
+fn over_nil(root: [u8; 2], children: impl Iterator<Item = u8>) -> Vec<u8> {
+    let mut events = root.to_vec();
+    events.extend(children.flat_map(|tag| [OPEN_NIL, tag, CLOSE, tag]));
+    events.extend([CLOSE, root[1], FINISH]);
+    events
+}
+
+/// Type 0, of tag 0, holds types 1 to 31, of tags 1 to 31, in any number, then type 32, of tag 0, then types
+/// 33 to 63, of tags 1 to 31. All but type 0 have nil trees alone.
+fn sixty_four_types(root: u8) -> Vec<u8> {
+    let mut schema = vec![0x10, 32, 0x11, 0, 2, 0x12, 0, 0x12, 1];
+    schema.extend((1..64).flat_map(|by| [0x13, by / 33, by, by / 32]));
+    schema.extend((1..64).flat_map(|of| childless(of % 32, false, true)));
+    schema.extend([0x14, root, 0x1F]);
+    schema
+}
+
+#[test]
+fn nil_openings_of_every_tag_and_type() {
+    let whole = over_nil([OPEN, 0], (1..64).map(|of| of % 32));
+    let types: Vec<u8> = (0..64).collect();
+    let answer = typed(&sixty_four_types(0), &whole);
+    assert_eq!(answer, (0, whole.len(), types.clone()));
+    for of in 1..64 {
+        // Opened plainly it would need an accepting start state.
+        let place = 4 * of - 2;
+        let mut plain = whole.clone();
+        plain[place] = OPEN;
+        let answer = typed(&sixty_four_types(0), &plain);
+        assert_eq!(answer, (13, place, types[..of].to_vec()));
+        // As a root.
+        let tag = of as u8 % 32;
+        let alone = over_nil([OPEN_NIL, tag], std::iter::empty());
+        let schema = sixty_four_types(of as u8);
+        assert_eq!(typed(&schema, &alone), (0, 5, vec![of as u8]));
+        let inside = [OPEN_NIL, tag, OPEN_NIL, tag];
+        assert_eq!(typed(&schema, &inside), (13, 2, vec![of as u8]));
+    }
+}
+
+/// Type 63, of tag 31, holds 31 of type 62, of tag 30, which has nil trees alone: a state after each.
+#[test]
+fn nil_openings_from_every_state() {
+    let mut schema = vec![0x10, 32];
+    schema.extend(childless(0, false, false).repeat(62));
+    schema.extend(childless(30, false, true));
+    schema.extend([0x11, 31, 32, 0x12, 31]);
+    schema.extend((0..31).flat_map(|from| [0x13, from, 62, from + 1]));
+    schema.extend([0x14, 63, 0x1F]);
+    for children in 0..=32 {
+        let events = over_nil([OPEN, 31], std::iter::repeat_n(30, children));
+        let (number, place) = match children {
+            31 => (0, events.len()),
+            32 => (13, 2 + 4 * 31),
+            _ => (17, 2 + 4 * children),
+        };
+        let types = [&[63][..], &vec![62; children.min(31)]].concat();
+        assert_eq!(typed(&schema, &events), (number, place, types));
     }
 }

@@ -46,7 +46,7 @@ pub fn read(schema: &Schema, file: &[u8], types: &mut [Type]) -> EventAnswer {
     if !schema.within_limits() {
         return outside_limits(file);
     }
-    walk(&Ways::of(schema), file, types)
+    walk(&RootsAndRows::of(schema), file, types)
 }
 
 /// The answer under a schema that is outside the limits.
@@ -99,26 +99,26 @@ fn take(
 }
 
 /// A schema with its roots by kind and tag and its rows, made once for a file.
-struct Ways<'s> {
+struct RootsAndRows<'s> {
     schema: &'s Schema,
     root_of: RootOf,
     rows: Rows,
 }
 
-impl<'s> Ways<'s> {
+impl<'s> RootsAndRows<'s> {
     fn of(schema: &'s Schema) -> Self {
-        let mut ways = Ways {
+        let mut both = RootsAndRows {
             schema,
             root_of: NO_ROOTS,
             rows: Rows::NONE,
         };
-        let (_, opened) = live_and_rows(schema, &mut ways.rows);
-        ways.root_of = roots_by_tag(schema, &opened);
-        ways
+        let (_, opened) = live_and_rows(schema, &mut both.rows);
+        both.root_of = roots_by_tag(schema, &opened);
+        both
     }
 }
 
-impl Ahead for Ways<'_> {
+impl Ahead for RootsAndRows<'_> {
     #[inline]
     fn schema(&self) -> &Schema {
         self.schema

@@ -96,12 +96,12 @@ impl Reading {
 
     #[inline]
     fn open_by(&mut self, kind: Kind, schema: &Schema, tag: Tag) -> Answer {
-        let opened = self.within_limits(schema).and_then(|()| {
+        let given = self.within_limits(schema).and_then(|()| {
             let (of, after) = self.ask_opening(&Live::of(schema), kind, tag)?;
             self.enter(kind, of, after);
             Ok(of)
         });
-        opened.map_or_else(Answer::Refused, Answer::Typed)
+        given.map_or_else(Answer::Refused, Answer::Typed)
     }
 
     pub fn close_lent(&mut self, schema: &Schema, tag: Tag) -> Answer {

@@ -1,11 +1,11 @@
-// Document 01's "Samples from the boot wall", schemas written as expressions, schemas with several roots, and elements that are nil. Where a sample
-// names elements a, b, c their tags are 1, 2, 3; the root's is 0.
+// Document 01's "Samples from the boot wall", schemas written as expressions, schemas with several roots, elements that are nil, and files written
+// by the names of their first bytes. Where a sample names elements a, b, c their tags are 1, 2, 3; the root's is 0.
 mod common;
 use common::{
     checked, hex, read, refused, typed, LISTS, R, R_BY_EXPRESSIONS, R_EVENTS, STOCK, WALL,
     WALL_EVENTS,
 };
-use typestock::{openings, witness, Opening, SchemaAnswer, Witness, WITNESS};
+use typestock::{command, event, openings, witness, Opening, SchemaAnswer, Witness, WITNESS};
 
 // The schema gets the number at the place, with the witness, from both calls.
 fn schema_gets(schema: &str, number: u8, place: usize, expected: &str) {
@@ -422,4 +422,41 @@ fn kinds_of_openings_compete_apart() {
     let roots = schema(nil, plain, "14 01 14 02");
     events_get(&roots, "21 01 22 01 2F", 0, 5, &[2]);
     events_get(&roots, "23 01 22 01 2F", 0, 5, &[1]);
+}
+
+// A rack, (1 | 2)* 3, of hire boots, boxes and the mark, may be empty on purpose; a box has a boot in it.
+#[test]
+fn commands_and_events_by_their_names() {
+    use command::{CLOSE_BRACKET, END, NIL, OPEN_BRACKET, OR, REPEAT, USE};
+    use command::{DONE, FINAL, ROOT, STEP, TAGS, TYPE};
+    use event::{CLOSE, FINISH, OPEN, OPEN_NIL};
+    let choice = [OPEN_BRACKET, USE, 1, OR, USE, 2, CLOSE_BRACKET, REPEAT];
+    let rack = [&[TYPE, 0, 0], &choice[..], &[USE, 3, END, NIL]].concat();
+    let boxed = [TYPE, 2, 2, FINAL, 1, STEP, 0, 1, 1];
+    let [boot, mark] = [1, 3].map(|tag| [TYPE, tag, 1, FINAL, 0]);
+    let schema = [
+        &[TAGS, 4],
+        &rack[..],
+        &boot,
+        &boxed,
+        &mark,
+        &[ROOT, 0, DONE],
+    ]
+    .concat();
+    let bytes = "10 04  11 00 00 30 32 01 33 32 02 31 34 32 03 3F 15  11 01 01 12 00
+        11 02 02 12 01 13 00 01 01  11 03 01 12 00  14 00 1F";
+    assert_eq!(schema, hex(bytes));
+    let full = [
+        OPEN, 0, OPEN, 2, OPEN, 1, CLOSE, 1, CLOSE, 2, OPEN, 3, CLOSE, 3, CLOSE, 0, FINISH,
+    ];
+    assert_eq!(
+        full[..],
+        hex("21 00 21 02 21 01 22 01 22 02 21 03 22 03 22 00 2F")
+    );
+    let (job, _, types) = typed(&schema, &full, WITNESS, 4);
+    assert_eq!((job, types), (read(0, 17, 4), vec![0, 2, 1, 3]));
+    let empty = [OPEN_NIL, 0, CLOSE, 0, FINISH];
+    assert_eq!(empty[..], hex("23 00 22 00 2F"));
+    let (job, _, types) = typed(&schema, &empty, WITNESS, 1);
+    assert_eq!((job, types), (read(0, 5, 1), vec![0]));
 }

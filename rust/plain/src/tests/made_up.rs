@@ -129,7 +129,12 @@ fn the_set_of_no_states() {
 }
 
 /// The answer to an opening and the reading that follows it, by value and on a lent reading alike.
-pub(super) fn opened(schema: &Schema, reading: Reading, kind: Kind, tag: u8) -> (Answer, Reading) {
+pub(super) fn call_open(
+    schema: &Schema,
+    reading: Reading,
+    kind: Kind,
+    tag: u8,
+) -> (Answer, Reading) {
     let mut lent = reading;
     let (answered, answer) = match kind {
         Kind::Plain => (reading.open(schema, tag), lent.open_lent(schema, tag)),
@@ -146,7 +151,7 @@ pub(super) fn opened(schema: &Schema, reading: Reading, kind: Kind, tag: u8) -> 
 
 /// The type that a first opening gets, alike from a call and from an event file of both layouts.
 pub(super) fn root_given(schema: &Schema, kind: Kind, tag: u8) -> Option<u8> {
-    let called = match opened(schema, Reading::FRESH, kind, tag).0 {
+    let called = match call_open(schema, Reading::FRESH, kind, tag).0 {
         Answer::Typed(of) => Some(of),
         answer => {
             assert_eq!(answer, Answer::Refused(NO_SUCH_OPENING));

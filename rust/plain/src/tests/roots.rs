@@ -122,6 +122,7 @@ fn roots_stand_together() {
         let file = format!("10 01 11 00 01 12 00 11 00 01 14 00 {between} 14 01 1F");
         refused(&hex(&file), 3, 12);
     }
+    refused(&hex("10 01 11 00 01 12 00 14 00 15 14 00 1F"), 3, 9);
     refused(&hex("10 01 11 00 01 12 00 14 00 20 14 00 1F"), 2, 9);
     refused(&hex("10 01 11 00 01 12 00 14 00 1F 14 00"), 3, 10);
     // Before the first TYPE, also with a type that is never given.

@@ -1,6 +1,6 @@
 //! Calls on schemas and readings as values, among them some that no file stated and no events led to.
 
-use super::super::made_up::{inside, opened, root_given};
+use super::super::made_up::{call_open, inside, root_given};
 use super::super::{Block, file_of_bytes, stated};
 use super::{childless, plain, wall};
 use crate::limits::MOST_OPEN;
@@ -12,13 +12,13 @@ use crate::{Answer, Kind, Reading, Schema, States, Trimming, competition};
 #[test]
 fn states_of_a_nil_element() {
     let schema = stated(&wall());
-    let open = opened(&schema, Reading::FRESH, Kind::Plain, 0).1;
-    let rack = opened(&schema, open, Kind::Nil, 1).1;
+    let open = call_open(&schema, Reading::FRESH, Kind::Plain, 0).1;
+    let rack = call_open(&schema, open, Kind::Nil, 1).1;
     assert_eq!((rack.depth, rack.types[1]), (2, 1));
     assert_eq!(rack.sets[..2], [States::START, States::NONE]);
     let closed = rack.close(&schema, 1);
     assert_eq!((closed.answer, closed.reading.depth), (Answer::Taken, 1));
-    let rack = opened(&schema, closed.reading, Kind::Plain, 1).1;
+    let rack = call_open(&schema, closed.reading, Kind::Plain, 1).1;
     assert_eq!(rack.sets[..2], [States::START, States::START]);
 }
 
@@ -35,7 +35,7 @@ fn elements_without_states() {
         .into_iter()
         .flat_map(|kind| [0, 1, 2, 3].map(|tag| (kind, tag)))
     {
-        let answers = [rack, wall].map(|reading| opened(&schema, reading, kind, tag).0);
+        let answers = [rack, wall].map(|reading| call_open(&schema, reading, kind, tag).0);
         assert_eq!(answers, [refused(NO_SUCH_OPENING); 2]);
     }
     // With states a nillable type is asked for a word.
@@ -55,7 +55,7 @@ fn questions_of_a_nil_opening_in_order() {
     let mut schema = stated(&wall());
     schema.nillable = [true; 64];
     let refused = Answer::Refused;
-    let asked = |reading: Reading, tag| opened(&schema, reading, Kind::Nil, tag).0;
+    let asked = |reading: Reading, tag| call_open(&schema, reading, Kind::Nil, tag).0;
     let mut finished = inside(1, 0b01);
     finished.finished = true;
     assert_eq!(asked(finished, 99), refused(FINISHED));
@@ -79,7 +79,7 @@ fn questions_of_a_nil_opening_in_order() {
 /// The type that a child gets in type 0 and the states that follow it there, in the child the states of
 /// its kind.
 fn next(schema: &Schema, kind: Kind) -> Option<(u8, u32)> {
-    let (answer, after) = opened(schema, inside(0, 0b1), kind, 1);
+    let (answer, after) = call_open(schema, inside(0, 0b1), kind, 1);
     match answer {
         Answer::Typed(of) => {
             assert_eq!((after.types[1], after.sets[1]), (of, kind.first_states()));
