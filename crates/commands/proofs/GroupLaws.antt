@@ -14,7 +14,7 @@ use lib.Pow.{pow-pos}
 use lib.Seq.{getD-set-same, getD-set-other}
 use Rattle.sdtd.specs.Limits.{mostTypes, mostStates}
 use Rattle.sdtd.specs.Schema.{Step, step}
-use Rattle.sdtd.proofs.Basics.{is-true, is-false, not-both}
+use Rattle.sdtd.proofs.Basics.{is-true, is-false, same-test, not-both}
 use Rattle.sdtd.proofs.Tests.{itself, eq-means, or-means}
 use Rattle.schema.specs.States.{member, insert}
 use Rattle.schema.proofs.Bits.{member-insert}
@@ -22,7 +22,7 @@ use Rattle.expression.specs.Expression.{Expression as Exp}
 use Rattle.expression.specs.Automaton.{uses, typeOfUse}
 use Rattle.expression.specs.Tests.{leads, ofEach, stepsBy, stepsFrom, allSteps}
 use Rattle.expression.specs.Answer.{setOf}
-use Rattle.expression.proofs.SetLaws.{same-test, member-or, without-own, without-other}
+use Rattle.expression.proofs.SetLaws.{member-or, without-own, without-other}
 use Rattle.expression.proofs.TestLaws.{leads-below}
 use Rattle.expression.proofs.TestSets.{member-set}
 use Rattle.commands.specs.Laying.{Grouped, ofMembers, laidBy, laidFrom, laidSteps}

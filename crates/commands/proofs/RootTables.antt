@@ -8,10 +8,10 @@ use borrow.Author.Tests.{lt-ltb, eq-eqb}
 use lib.Dec.{T, eqb, ltb, eqb→eq}
 use lib.ListN.{length, getD, set, replicate}
 use Rattle.sdtd.specs.Limits.{mostTypes, mostRoots}
+use Rattle.sdtd.proofs.Basics.{same-test}
 use Rattle.schema.specs.Value.{upFrom, rootsOf}
 use Rattle.schema.specs.Trimming.{MarksExactly}
 use Rattle.schema.proofs.Values.{up-last}
-use Rattle.expression.proofs.SetLaws.{same-test}
 use Rattle.commands.specs.File.{hasRoot}
 use Rattle.commands.specs.Progress.{rootAmong}
 use Rattle.commands.proofs.Standing.{StandsIn, Standing, none-stands, set-stands}

@@ -10,14 +10,13 @@ use lib.Dec.{eqb}
 use borrow.Author.Tests.{eqb-true}
 use lib.ListN.{length, length-map}
 use Rattle.sdtd.specs.Limits.{mostTypes, mostStates}
-use Rattle.sdtd.proofs.Basics.{is-false}
+use Rattle.sdtd.proofs.Basics.{is-false, same-test}
 use Rattle.schema.specs.States.{member, members, membersBelow, noStates}
 use Rattle.expression.specs.Expression.{Expression as Exp}
 use Rattle.expression.specs.Automaton.{uses, named, AutomatonOf}
 use Rattle.expression.specs.Tests.{accepts, ofEach, allSteps, automaton}
 use Rattle.expression.specs.Content.{Name, whole, contentAt}
 use Rattle.expression.specs.Answer.{setOf}
-use Rattle.expression.proofs.SetLaws.{same-test}
 use Rattle.expression.proofs.TestSets.{member-set}
 use Rattle.expression.proofs.TestLaws.{accepts-below}
 use Rattle.expression.proofs.AutomatonLaws.{automaton-of, automaton-flag}

@@ -12,7 +12,7 @@ use lib.ListN.{length, getD, set, replicate, length-set, length-map, length-reve
 use lib.Seq.{getD-set-same, getD-set-other, ext-getD}
 use Rattle.sdtd.specs.Limits.{mostStates}
 use Rattle.sdtd.specs.declared.Verdict.the-variants.{Fine}
-use Rattle.sdtd.proofs.Basics.{cond-both, is-true}
+use Rattle.sdtd.proofs.Basics.{cond-both, is-true, same-test}
 use Rattle.schema.specs.Putting.{putAll}
 use Rattle.schema.specs.States.{member, insert}
 use Rattle.schema.specs.declared.state_set.StateSet.{StateSet}
@@ -33,7 +33,7 @@ use Rattle.expression.specs.declared.sets.Parsed.{Parsed}
 use Rattle.expression.proofs.CommandTests.{is-end, ending-is}
 use Rattle.expression.proofs.ParseLaws.{refused-one, well-one}
 use Rattle.expression.proofs.ScanLaws.{scan-fails, scan-ends}
-use Rattle.expression.proofs.SetLaws.{same-test, member-zero}
+use Rattle.expression.proofs.SetLaws.{member-zero}
 
 -- The content: the whole choice, then the 3F.
 content-scan : (file : List ℕ) (i : ℕ) → contentAt file i ≡ scan file i (soFar [] noLevel [] false)

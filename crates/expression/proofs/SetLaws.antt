@@ -12,17 +12,10 @@ use lib.Count.{under, trailingZeros}
 use lib.Dec.{T, eqb, eqb→eq}
 use lib.Pow.{pow-pos}
 use Rattle.sdtd.specs.Limits.{mostStates}
-use Rattle.sdtd.proofs.Basics.{is-false}
+use Rattle.sdtd.proofs.Basics.{is-false, same-test}
 use Rattle.schema.specs.States.{member, insert}
 use Rattle.schema.proofs.Bits.{member-none, member-insert, member-kept}
 use Rattle.expression.specs.Parsing.{beyond}
-
--- two tests that pass together are one
-pub same-test : (a b : Bool) → (T a → T b) → (T b → T a) → a ≡ b
-same-test true true f g = refl
-same-test false false f g = refl
-same-test true false f g = absurd (f tt)
-same-test false true f g = absurd (g tt)
 
 pub member-zero : (q : ℕ) → member q 0 ≡ false
 member-zero q = is-false (member q 0) (member-none q)

@@ -16,6 +16,7 @@ use lib.Pow.{pow-mono, pow-add}
 use lib.Bits.{bitAnd, bitOr, and-step, and-high, or-add-and}
 use borrow.Author.Tests.{ltb-true, ltb-false, eqb-false, eq-eqb, ne-eqb}
 use Rattle.sdtd.specs.Limits.{mostStates}
+use Rattle.sdtd.proofs.Basics.{same-test}
 use Rattle.sdtd.proofs.Tests.{itself, and-means, or-means}
 use Rattle.schema.specs.States.{member, insert, meetBelow, meet, membersBelow, members}
 
@@ -334,9 +335,3 @@ and-is-meet x y bx by =
     same-test (not (eqb (bitAnd x y) 0)) (meet x y)
     (λ t. meet-means x y bx .1 (and-common x y bx by .0 (λ e. T-not (eqb (bitAnd x y) 0) t (rw (eq-eqb (bitAnd x y) 0 e) tt))))
     (λ t. not-T (eqb (bitAnd x y) 0) (λ z. and-common x y bx by .1 (meet-means x y bx .0 t) (eqb→eq (bitAnd x y) 0 z)))
-  where
-    same-test : (a b : Bool) → (T a → T b) → (T b → T a) → a ≡ b
-    same-test true true f g = refl
-    same-test false false f g = refl
-    same-test true false f g = absurd (f tt)
-    same-test false true f g = absurd (g tt)

@@ -15,6 +15,7 @@ use Rattle.sdtd.specs.Limits.{mostTypes}
 use Rattle.sdtd.specs.Schema.{Block, Schema as Meaning, blockOf, Nillable}
 use Rattle.sdtd.specs.Tree.{Kind, plain, nil}
 use Rattle.sdtd.specs.Trim.{Bears, BearsBy}
+use Rattle.sdtd.proofs.Basics.{same-test}
 use Rattle.sdtd.proofs.Tests.{itself, or-means}
 use Rattle.sdtd.proofs.Bearing.{nil-bears, bears-either}
 use Rattle.sdtd.proofs.Fixpoint.{plain-live}
@@ -53,12 +54,6 @@ says-all (suc zero) l = refl
 says-all (suc (suc zero)) l = refl
 says-all (suc (suc (suc zero))) l = refl
 says-all (suc (suc (suc (suc w)))) l = absurd (omega arith)
-
-same-test : (a b : Bool) → (T a → T b) → (T b → T a) → a ≡ b
-same-test true true f g = refl
-same-test true false f g = absurd (f tt)
-same-test false true f g = absurd (g tt)
-same-test false false f g = refl
 
 -- the number of a type that bears a tree opened plainly, or is nillable, as the tests say
 ways-for : {S : Meaning} {j : ℕ} (p n : Bool) → T p ↔ BearsBy S plain j → T n ↔ Nillable S j → WaysFor S j (waysOf p n)

@@ -25,6 +25,13 @@ not-false-true false n = absurd (n refl)
 pub not-both : {b : Bool} → b ≡ true → b ≡ false → ⊥
 not-both t f = true≢false (sym t ∙ f)
 
+-- two tests that pass together are one
+pub same-test : (a b : Bool) → (T a → T b) → (T b → T a) → a ≡ b
+same-test true true f g = refl
+same-test false false f g = refl
+same-test true false f g = absurd (f tt)
+same-test false true f g = absurd (g tt)
+
 -- the two parts of a test
 pub and-parts : (a b : Bool) → T (a && b) → T a × T b
 and-parts true b t = (tt, t)
