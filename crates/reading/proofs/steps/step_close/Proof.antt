@@ -1,6 +1,6 @@
 -- `reading::steps::step_close` meets its contract.
-use mathlib.Core.Path.{_≡_, refl, sym, _∙_}
-use mathlib.Core.Bool.{Bool, true, false, _||_}
+use mathlib.Core.Path.{_≡_, sym, _∙_}
+use mathlib.Core.Bool.{true, false, or-true}
 use Prim.Native.Nat.{ℕ, _-_}
 use borrow.Author.Needs.{needs}
 use borrow.Author.Tests.{not-true, not-false}
@@ -14,13 +14,9 @@ use Rattle.reading.proofs.steps.step_close.Statement.{statement}
 use Rattle.reading.proofs.steps.step_close.Tie as tie
 
 -- whether the element is complete, by the two tests
-second-true : (p : Bool) {b : Bool} → b ≡ true → p || b ≡ true
-second-true true e = refl
-second-true false e = e
-
 module _ (own : Inner) (set : ℕ) where
   accepts : meet set (own .accepting) ≡ true → complete own set ≡ true
-  accepts e = second-true (isNilled own set) e
+  accepts e = rw e (or-true (isNilled own set))
 
   as-nil : isNilled own set ≡ true → complete own set ≡ true
   as-nil e = rw e
