@@ -15,3 +15,4 @@ pub mod RowsLaid
 pub mod RowsExact
 pub mod TablesExact
 pub mod TablesTrim
+pub mod UsedTables

@@ -1,14 +1,16 @@
 -- What the tables of a trimming say: document 01, "Trimming".
 use mathlib.Core.Path.{_≡_}
-use mathlib.Core.Bool.{Bool, false}
+use mathlib.Core.Bool.{Bool, false, _&&_}
 use mathlib.Core.Logic.{_↔_}
-use mathlib.Core.List.{List, List·Memᴰ}
+use mathlib.Core.List.{List, List·Memᴰ, map}
 use Prim.Native.Nat.{ℕ, suc, _<_}
 use lib.Dec.{T}
 use lib.ListN.{getD, replicate}
 use Rattle.sdtd.specs.Limits.{mostTypes, mostSteps}
 use Rattle.sdtd.specs.Schema.{Schema, WithinLimits}
 use Rattle.sdtd.specs.Trim.{Live, Reached, trimmedByTests}
+use Rattle.sdtd.specs.Reduced.{TellsUsed}
+use Rattle.schema.specs.Value.{upFrom}
 use Rattle.schema.specs.States.{member, noStates}
 use Rattle.schema.specs.Ways.{bearsIn, WaysFor}
 use Rattle.schema.specs.Rows.{mostRows, RowsMean}
@@ -72,3 +74,12 @@ pub record LiveMeans (S : Schema) (r : LiveStates) : Type 0 where
 pub record RowsLent (S : Schema) (entries begins : List ℕ) : Type 0 where
   pub rows : WithinLimits S → RowsMean S entries begins
   pub outside : ¬ WithinLimits S → (entries ≡ replicate mostSteps 0) × (begins ≡ replicate (suc mostRows) 0)
+
+-- of each type, whether the tables say that it is reached and bears a tree
+abbrev pub usedIn : Trimming → List Bool
+usedIn t = map (λ a. getD (t .reached) a false && bearsIn (t .ways) a) (upFrom 0 mostTypes)
+
+-- which types a valid document uses, of a schema inside the limits; none outside them
+pub record UsedMeans (S : Schema) (used : List Bool) : Type 0 where
+  pub exact : WithinLimits S → TellsUsed S (λ a. getD used a false)
+  pub outside : ¬ WithinLimits S → used ≡ replicate mostTypes false

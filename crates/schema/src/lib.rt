@@ -8,6 +8,7 @@ mod span;
 mod spread;
 mod state_set;
 mod tables;
+mod used;
 mod value;
 mod ways;
 
@@ -25,6 +26,8 @@ pub use tables::Trimming;
 pub use tables::live;
 pub use tables::live_rows;
 pub use tables::trim;
+pub use used::used_in;
+pub use used::used_types;
 pub use value::ROOTS;
 pub use value::STATES;
 pub use value::STEPS;

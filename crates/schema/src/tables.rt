@@ -193,7 +193,7 @@ pub fn live_rows<'a>(
 }
 
 // The tables of a schema inside the limits, by its live states and the ways in which its types bear a tree.
-fn trim_inside(schema: Schema, live: [u32; TYPES], ways: [u8; TYPES]) -> Trimming
+pub(crate) fn trim_inside(schema: Schema, live: [u32; TYPES], ways: [u8; TYPES]) -> Trimming
     requires { ⌜ WithinLimits (meaning schema) × LiveExactly (meaning schema) live × WaysExactly (meaning schema) ways ⌝ }
     ensures { λ r. ⌜ T (r .inside) × Exact (meaning schema) r ⌝ }
 {

@@ -2,7 +2,7 @@
 use mathlib.Core.Path.{_≡_, refl, sym, _∙_}
 use mathlib.Core.Logic.{_≢_}
 use mathlib.Core.Bool.{Bool, true, false, true≢false, cond, _&&_}
-use mathlib.Core.List.{List, [], _∷_, List·Memᴰ, List·Memᴰ·head, List·Memᴰ·tail}
+use mathlib.Core.List.{List, [], _∷_, cons≢nil, List·Memᴰ, List·Memᴰ·head, List·Memᴰ·tail}
 use Prim.Native.Nat.{ℕ, zero, suc, _<_}
 use native.Mathlib.Omega.{arith}
 use lib.Dec.{T}
@@ -61,3 +61,8 @@ getD-member (x ∷ xs) (suc i) d l = List·Memᴰ·tail (getD-member xs i d (ome
 infixr 25 _&_
 pub _&_ : {A B : Type 0} → A → B → A × B
 a & b = (a, b)
+
+-- whether a list is empty is decided
+pub none-decided : {A : Type 0} (l : List A) → Dec (l ≡ [])
+none-decided [] = yes refl
+none-decided (x ∷ l) = no cons≢nil

@@ -1,6 +1,6 @@
 -- It is decided in which types two types compete, so whether there is competition in a schema at all.
 use mathlib.Core.Path.{_≡_}
-use mathlib.Core.Logic.{_↔_, _⊎_, inl, inr, _≢_}
+use mathlib.Core.Logic.{_↔_, _⊎_, inl, inr, ⊎-elim, _≢_}
 use Prim.Native.Nat.{ℕ}
 use Rattle.sdtd.specs.Schema.{Step, step, Schema, blockOf, tagOf}
 use Rattle.sdtd.specs.Trim.{Bears, Live, Useful}
@@ -113,3 +113,6 @@ pub competition-decided : (S : Schema) → Competition S ⊎ (¬ Competition S)
 competition-decided S =
     let in-types = any-means (λ a. competes S a .1) (reached-table S .0) in
     decided (means-iff (or-means (rival-roots-means (live-table S .1)) in-types) (competition-found S))
+
+pub restrained-decided : (S : Schema) → Dec (¬ Competition S)
+restrained-decided S = ⊎-elim (λ c. no (λ n. n c)) (λ n. yes n) (competition-decided S)

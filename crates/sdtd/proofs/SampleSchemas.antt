@@ -55,19 +55,23 @@ exactR = live-check schemaR liveR tt
 pub acceptedR : Accepted schemaR
 acceptedR = accepted exactR (((1, 1) ∷ []) ∷ []) tt
 
+abbrev pub liveNoD : LiveTable
+liveNoD = (0, 0) ∷ (0, 1) ∷ (1, 0) ∷ (1, 1) ∷ (2, 1) ∷ (3, 0) ∷ []
+
+pub exactNoD : LiveExact schemaNoD liveNoD
+exactNoD = live-check schemaNoD liveNoD tt
+
 pub acceptedNoD : Accepted schemaNoD
-acceptedNoD =
-    accepted
-    (live-check schemaNoD ((0, 0) ∷ (0, 1) ∷ (1, 0) ∷ (1, 1) ∷ (2, 1) ∷ (3, 0) ∷ []) tt)
-    (((1, 1) ∷ []) ∷ ((1, 1) ∷ []) ∷ [])
-    tt
+acceptedNoD = accepted exactNoD (((1, 1) ∷ []) ∷ ((1, 1) ∷ []) ∷ []) tt
+
+abbrev pub liveTwoTypes : LiveTable
+liveTwoTypes = (0, 0) ∷ (0, 1) ∷ (0, 2) ∷ (1, 0) ∷ (2, 0) ∷ (3, 0) ∷ []
+
+pub exactTwoTypes : LiveExact schemaTwoTypes liveTwoTypes
+exactTwoTypes = live-check schemaTwoTypes liveTwoTypes tt
 
 pub acceptedTwoTypes : Accepted schemaTwoTypes
-acceptedTwoTypes =
-    accepted
-    (live-check schemaTwoTypes ((0, 0) ∷ (0, 1) ∷ (0, 2) ∷ (1, 0) ∷ (2, 0) ∷ (3, 0) ∷ []) tt)
-    (((1, 1) ∷ (2, 2) ∷ []) ∷ [])
-    tt
+acceptedTwoTypes = accepted exactTwoTypes (((1, 1) ∷ (2, 2) ∷ []) ∷ []) tt
 
 abbrev pub liveLastButOne : LiveTable
 liveLastButOne = (0, 0) ∷ (0, 1) ∷ (0, 2) ∷ (1, 0) ∷ (2, 0) ∷ []
@@ -88,7 +92,7 @@ exactOptional = live-check schemaOptional liveOptional tt
 pub acceptedOptional : Accepted schemaOptional
 acceptedOptional = accepted exactOptional (((1, 1) ∷ (2, 2) ∷ (3, 3) ∷ (4, 4) ∷ []) ∷ []) tt
 
-all-bear : {S : Schema} {L : LiveTable} → LiveExact S L → (w : List ℕ) → T (every (bearsIn S L) w) → AllBear S w
+pub all-bear : {S : Schema} {L : LiveTable} → LiveExact S L → (w : List ℕ) → T (every (bearsIn S L) w) → AllBear S w
 all-bear x [] t = none
 all-bear {S} {L} x (j ∷ w) t =
     let r = and-means (x .bears j) (itself (every (bearsIn S L) w)) .says t in
@@ -139,16 +143,26 @@ root-witness {S} {L} x j k w u v is-root order one-tag short least t =
       }),
     )
 
+abbrev pub liveChoice : LiveTable
+liveChoice = (0, 0) ∷ (0, 1) ∷ (1, 0) ∷ (1, 1) ∷ (2, 0) ∷ (2, 1) ∷ (3, 0) ∷ (4, 0) ∷ []
+
+pub exactChoice : LiveExact schemaChoice liveChoice
+exactChoice = live-check schemaChoice liveChoice tt
+
 pub refusedChoice : Holds (refuses-9 schemaChoice witnessChoice)
 refusedChoice =
-    root-witness
-    (live-check schemaChoice ((0, 0) ∷ (0, 1) ∷ (1, 0) ∷ (1, 1) ∷ (2, 0) ∷ (2, 1) ∷ (3, 0) ∷ (4, 0) ∷ []) tt)
+    root-witness exactChoice
     1 2 [] [] [] (List·Memᴰ·head refl) (lit< tt) refl (lit≤ tt) (λ v m n c. omega arith) tt
+
+abbrev pub liveTwoWays : LiveTable
+liveTwoWays = (0, 0) ∷ (0, 1) ∷ (0, 2) ∷ (0, 3) ∷ (1, 0) ∷ (2, 0) ∷ (3, 0) ∷ []
+
+pub exactTwoWays : LiveExact schemaTwoWays liveTwoWays
+exactTwoWays = live-check schemaTwoWays liveTwoWays tt
 
 pub refusedTwoWays : Holds (refuses-9 schemaTwoWays witnessTwoWays)
 refusedTwoWays =
-    root-witness
-    (live-check schemaTwoWays ((0, 0) ∷ (0, 1) ∷ (0, 2) ∷ (0, 3) ∷ (1, 0) ∷ (2, 0) ∷ (3, 0) ∷ []) tt)
+    root-witness exactTwoWays
     2 3 (1 ∷ []) [] [] (List·Memᴰ·head refl) (lit< tt) refl (lit≤ tt) (λ v m n c. omega (arith, ap length (ways-only v m n c .0))) tt
 
 pub bearsNoneEndless : Holds (refuses-8 schemaEndless)

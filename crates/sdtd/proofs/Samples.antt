@@ -13,6 +13,7 @@ use Rattle.sdtd.proofs.SampleSchemas.{exactR, acceptedR, acceptedNoD, a
 use Rattle.sdtd.proofs.SampleSchemas.{exactOptional, acceptedOptional, refusedChoice, refusedTwoWays, bearsNoneEndless}
 use Rattle.sdtd.proofs.SampleSchemas.{exactNested, acceptedNested, exactLists, acceptedLists, exactTreeless, acceptedTreeless, refusedOneTag}
 use Rattle.sdtd.proofs.SampleSchemas.{exactRacks, acceptedRacks, exactByKind, acceptedByKind, refusedBothNil}
+use Rattle.sdtd.proofs.SampleUses.{everyUsedTwoTypes, beforeB2, b2Unused}
 use Rattle.sdtd.proofs.SampleSchemas.{exactRootsByKind, acceptedRootsByKind, refusedRootsBothNil}
 
 answers-hold : {S : Schema} {L : LiveTable} → Accepted S → LiveExact S L → (xs : List Exchange) → T (agrees S L [] start xs)
@@ -25,9 +26,9 @@ starred-hold =
     & answers-hold acceptedR exactR _ tt
     & answers-hold acceptedR exactR _ tt
     & refusedChoice
-    & acceptedNoD
+    & (acceptedNoD .within, acceptedNoD .bears, b2Unused, beforeB2)
     & refusedTwoWays
-    & acceptedTwoTypes
+    & (acceptedTwoTypes, everyUsedTwoTypes)
     & answers-hold acceptedLastButOne exactLastButOne _ tt
     & answers-hold acceptedOptional exactOptional _ tt
     & bearsNoneEndless

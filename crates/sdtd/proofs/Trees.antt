@@ -4,7 +4,7 @@ use mathlib.Core.List.{List, [], _∷_, _++_, map, map-append, append-nil, appen
 use Prim.Native.Nat.{ℕ, suc, _+_}
 use native.Mathlib.Omega.{arith}
 use lib.ListN.{length}
-use Rattle.sdtd.specs.Tree.{Tree, Forest, node, empty, more, relabel, relabelAll, preorder, preorders}
+use Rattle.sdtd.specs.Tree.{Tree, Forest, node, empty, more, label, labels, relabel, relabelAll, preorder, preorders}
 use Rattle.sdtd.specs.Document.{Event, opening, closing, finish, stream, streams, document, openings}
 
 -- the event with its number replaced by its image
@@ -74,6 +74,22 @@ module _ (h : ℕ → ℕ) where
 
   pub relabel-document : (t : Tree) → document (relabel h t) ≡ map (relabelEvent h) (document t)
   relabel-document t = rw (map-append, relabel-stream t)
+
+  pub label-relabel : (t : Tree) → label (relabel h t) ≡ h (label t)
+  label-relabel (node κ a f) = refl
+
+  pub labels-relabel : (f : Forest) → labels (relabelAll h f) ≡ map h (labels f)
+  labels-relabel empty = refl
+  labels-relabel (more t f) = λ i. label-relabel t i ∷ labels-relabel f i
+
+  mutual
+    -- the numbers of a relabelled tree's elements are the images
+    pub preorder-relabel : (t : Tree) → preorder (relabel h t) ≡ map h (preorder t)
+    preorder-relabel (node κ a f) = λ i. h a ∷ preorders-relabel f i
+
+    preorders-relabel : (f : Forest) → preorders (relabelAll h f) ≡ map h (preorders f)
+    preorders-relabel empty = refl
+    preorders-relabel (more t f) = rw (map-append, preorder-relabel t, preorders-relabel f)
 
   pub openings-relabel : (e : List Event) → openings (map (relabelEvent h) e) ≡ openings e
   openings-relabel [] = refl

@@ -12,8 +12,9 @@ use Rattle.sdtd.specs.Trim.{Bears, Live, Reached, Useful, Trimmed}
 use Rattle.sdtd.specs.Trim.{TypeTests, keepsType, keepsStep, keptSteps, trimAt, trimFrom, trimmedByTests}
 use Rattle.sdtd.proofs.Tests.{Means, itself, and-means}
 
+-- the kept steps are just the given ones that pass
 module _ (f : Step → Bool) where
-  kept : (xs : List Step) (y : Step) → List·Memᴰ y (keptSteps f xs) → List·Memᴰ y xs × T (f y)
+  pub kept : (xs : List Step) (y : Step) → List·Memᴰ y (keptSteps f xs) → List·Memᴰ y xs × T (f y)
   kept [] y m = absurd (List·Memᴰ·not-nil m)
   kept (x ∷ xs) y m = by-test (f x) refl m (kept xs y)
     where
@@ -24,7 +25,7 @@ module _ (f : Step → Bool) where
           (List·Memᴰ·cases-cons k)
       by-test false e k h = (List·Memᴰ·tail (h k .0), h k .1)
 
-  keeps : (xs : List Step) (y : Step) → List·Memᴰ y xs → T (f y) → List·Memᴰ y (keptSteps f xs)
+  pub keeps : (xs : List Step) (y : Step) → List·Memᴰ y xs → T (f y) → List·Memᴰ y (keptSteps f xs)
   keeps (x ∷ xs) y m t = by-test (f x) refl (List·Memᴰ·cases-cons m) (λ k. keeps xs y k t)
     where
       by-test : (b : Bool) → f x ≡ b → (y ≡ x) ⊎ List·Memᴰ y xs → (List·Memᴰ y xs → List·Memᴰ y (keptSteps f xs))

@@ -35,7 +35,7 @@ root-bears {S} = (there, back)
         record { type = label (t .typed); is-root = t .is-typing .root; bears = tree-bears (t .typed) (t .is-typing .derived) }
 
 -- what each member of a list has, the list has
-all-of : {P : ℕ → Type 0} (w : List ℕ) → ((j : ℕ) → List·Memᴰ j w → P j) → All P w
+pub all-of : {P : ℕ → Type 0} (w : List ℕ) → ((j : ℕ) → List·Memᴰ j w → P j) → All P w
 all-of [] every = none
 all-of (j ∷ w) every = both (every j (List·Memᴰ·head refl)) (all-of w (λ k m. every k (List·Memᴰ·tail m)))
 

@@ -95,8 +95,8 @@ pub data Witness (S : Schema) (bytes : List ℕ) : Type 0 where
   by-roots : RootsWitness S bytes → Witness S bytes
   by-types : ¬ CompeteOutside S → TypesWitness S bytes → Witness S bytes
 
--- An accepted schema: it is inside the limits, which questions 1 to 7 and 21 to 23 see to, and passes questions 8 and 9: a root bears a tree,
--- and "Is there no competition?"
+-- What a reading needs of a schema, and every accepted file's has: it is inside the limits, which questions 1 to 7 and 21 to 23 see to, and passes
+-- questions 8 and 9: a root bears a tree, and "Is there no competition?" A file is asked 24 too, whether each type is used (`EveryTypeUsed`).
 pub record Accepted (S : Schema) : Type 0 where
   pub within : WithinLimits S
   pub bears : SomeRootBears S

@@ -7,6 +7,8 @@ pub mod Document
 pub mod Trim
 pub mod Competition
 pub mod Answer
+pub mod Output
+pub mod Reduced
 pub mod Reading
 pub mod Calls
 pub mod Samples

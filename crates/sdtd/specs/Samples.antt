@@ -2,28 +2,32 @@
 -- document 02's wholesaler and what is empty on purpose.
 use mathlib.Core.Bool.{true, false}
 use mathlib.Core.List.{List, [], _∷_, _++_}
-use Prim.Native.Nat.{ℕ}
+use Prim.Native.Nat.{ℕ, _<_}
 use lib.ListN.{replicate}
 use Rattle.sdtd.specs.Limits.{mostLevels}
 use Rattle.sdtd.specs.Schema.{Step, step, Block, Schema, WithinLimits}
 use Rattle.sdtd.specs.Tree.{plain, nil}
 use Rattle.sdtd.specs.Document.{Event, opening, closing, finish}
-use Rattle.sdtd.specs.Trim.{SomeRootBears}
+use Rattle.sdtd.specs.Trim.{SomeRootBears, Used}
 use Rattle.sdtd.specs.Competition.{Witness, Accepted}
 use Rattle.sdtd.specs.Answer.{Answer, refused, typed, taken}
+use Rattle.sdtd.specs.Reduced.{EveryTypeUsed}
 use Rattle.sdtd.specs.Calls.{Exchange, RightCalls}
 
 -- what a sample says of its schema
 pub data Sample : Type 0 where
   accepts : Schema → Sample
   refuses-8 : Schema → Sample
+  refuses-24 : Schema → ℕ → Sample
   refuses-9 : Schema → List ℕ → Sample
   answers : Schema → List Exchange → Sample
 
--- accepted; 8; 9 with the witness; accepted, and the calls of the list, from a fresh reading, get these answers
+-- accepted; 8; 24 of the first unused type; 9 with the witness; and of a schema that a reading takes: the calls of the list, from a fresh reading, get
+-- these answers
 abbrev pub Holds : Sample → Type 0
-Holds (accepts S) = Accepted S
+Holds (accepts S) = Accepted S × EveryTypeUsed S
 Holds (refuses-8 S) = WithinLimits S × (¬ SomeRootBears S)
+Holds (refuses-24 S a) = WithinLimits S × SomeRootBears S × (¬ Used S a) × ((b : ℕ) → b < a → Used S b)
 Holds (refuses-9 S bytes) = WithinLimits S × SomeRootBears S × Witness S bytes
 Holds (answers S xs) = Accepted S × RightCalls S xs
 
@@ -233,8 +237,8 @@ starred =
     (says (opening plain 0) (typed 0) ∷ says (opening plain 2) (typed 2) ∷ says (closing 2) taken ∷ says (opening plain 2) (refused 13) ∷ [])
     -- "9"
     ∷ refuses-9 schemaChoice witnessChoice
-    -- "The same, d without an accepting state: accepted."
-    ∷ accepts schemaNoD
+    -- "The same, d without an accepting state": by Req 06 "24, place that of the first such TYPE (the fifth sample among them)", which is b2's
+    ∷ refuses-24 schemaNoD 2
     -- "9"
     ∷ refuses-9 schemaTwoWays witnessTwoWays
     -- "003's a1(a2 or b1): accepted."

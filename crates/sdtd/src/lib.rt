@@ -1,4 +1,4 @@
-// Tags and types, numbered separately so that neither number stands for the other; and number and place, or fine.
+// Tags and types, numbered separately so that neither number stands for the other; and two kinds of answers.
 ghost use mathlib.Core.Path.{_≡_};
 ghost use lib.Dec.{eqb, ltb};
 
@@ -37,4 +37,10 @@ impl TypeNo {
 pub enum Verdict {
     Fine,
     RefusedAt(u8, usize),
+}
+
+// The length of the file that was written, or a refusal's number.
+pub enum FileWritten {
+    Length(usize),
+    Refused(u8),
 }

@@ -15,14 +15,14 @@ pub laid-byte : (was : List ℕ) (at b : ℕ) → at < length was → Laid was a
 laid-byte was at b h = record { bytes = refl; place = omega arith }
 
 -- past the end nothing is put
-laid-past : (was : List ℕ) (at : ℕ) (text : List ℕ) → length was ≤ at → sets was at text ≡ was
+pub laid-past : (was : List ℕ) (at : ℕ) (text : List ℕ) → length was ≤ at → sets was at text ≡ was
 laid-past was at [] h = refl
 laid-past was at (b ∷ text) h = rw (set-out was at b h) (laid-past was (suc at) text (omega arith))
 
 pub laid-out : (was : List ℕ) (at b : ℕ) → length was ≤ at → Laid was at (b ∷ []) was at
 laid-out was at b h = record { bytes = sym (laid-past was at (b ∷ []) h); place = omega arith }
 
-sets-then : (was : List ℕ) (at : ℕ) (s t : List ℕ) → sets was at (s ++ t) ≡ sets (sets was at s) (at + length s) t
+pub sets-then : (was : List ℕ) (at : ℕ) (s t : List ℕ) → sets was at (s ++ t) ≡ sets (sets was at s) (at + length s) t
 sets-then was at [] t = ap (λ (n : ℕ). sets was n t) (omega arith)
 sets-then was at (b ∷ s) t =
     sets-then (set was at b) (suc at) s t
@@ -40,6 +40,10 @@ laid-whole {was} {text} {is} {r} x h =
     let same : r ≡ length text = omega (arith, x .place) in
     let long : length is ≡ length was = ap length (x .bytes) ∙ length-sets was 0 text in
     (omega arith, rw (x .bytes, fits was text h) (take-at text (drop (length text) was) r (sym same)))
+
+-- a text laid from the buffer's start on ends inside it
+pub laid-inside : {was text is : List ℕ} {r : ℕ} → Laid was 0 text is r → r ≤ length is
+laid-inside {was} {text} l = omega (arith, l .place, ap length (l .bytes), length-sets was 0 text)
 
 -- from the buffer's start on
 pub sets-start : (was text : List ℕ) → sets was 0 text ≡ take (length was) text ++ drop (length text) was
