@@ -1,22 +1,25 @@
--- A file of 8,389 bytes that is accepted: 64 types of 32 states, all accepting, and in the first all the 1,024 steps by one type.
-use mathlib.Core.Path.{_≡_, refl, sym, ap, subst}
+-- A file of 8,389 bytes that is accepted: 64 types of one tag and of 32 states, all accepting, each with 16 steps by the next type, one from a state;
+-- so each is used.
+use mathlib.Core.Path.{_≡_, refl, sym, ap, subst, _∙_}
 use mathlib.Core.Logic.{⊎-elim}
-use mathlib.Core.Bool.{true, false, _&&_}
+use mathlib.Core.Bool.{true, false}
 use mathlib.Core.List.{List, [], _∷_, _++_, map, reverseAux, List·Memᴰ, List·Memᴰ·head, List·Memᴰ·not-nil, List·Memᴰ·cases-cons}
 use mathlib.Core.List.{List·Memᴰ·append-cases, List·Memᴰ·eq-of-singleton}
 use Prim.Native.Nat.{ℕ, zero, suc, _+_, _*_, _/_, _%_, _-_, _≤_, _<_}
-use native.Mathlib.Decide.{ℕ-discrete}
+use native.Mathlib.Decide.{decLt}
 use native.Mathlib.Omega.{arith}
-use lib.Dec.{T, eqb}
-use lib.ListN.{length, getD}
-use borrow.Author.Tests.{lt-ltb, eq-eqb, ne-eqb}
-use Rattle.sdtd.specs.Schema.{Schema, Block, step, noBlock, blockOf, stay}
+use lib.Dec.{T}
+use lib.ListN.{length, getD, length-reverse, length-map}
+use borrow.Author.Tests.{lt-ltb, ne-eqb}
+use Rattle.sdtd.specs.Schema.{Schema, Block, step, noBlock, blockOf, stay, go}
 use Rattle.sdtd.specs.Schema.{Step as StepOf}
 use Rattle.sdtd.specs.Tree.{plain as opened-plainly}
-use Rattle.sdtd.specs.Trim.{SomeRootBears, none}
+use Rattle.sdtd.specs.Trim.{SomeRootBears, Bears, none, both, Reached, root, child}
+use Rattle.sdtd.specs.Reduced.{EveryTypeUsed}
 use Rattle.sdtd.specs.Competition.{Competition, of-roots, in-type}
 use Rattle.sdtd.proofs.Basics.{is-false}
 use Rattle.sdtd.proofs.Bearing.{by-bears, word-bears}
+use Rattle.sdtd.proofs.Ambiguity.{useful-used}
 use Rattle.sdtd.proofs.Rivals.{compete-rivals}
 use Rattle.schema.specs.States.{member, insert}
 use Rattle.schema.proofs.Bits.{mem-members}
@@ -25,7 +28,7 @@ use Rattle.sdtd.specs.Limits.{mostTags, mostTypes, mostStates, mostSteps}
 use Rattle.commands.specs.Questions.{failed}
 use Rattle.commands.specs.declared.progress.Phase.{Phase}
 use Rattle.commands.specs.declared.progress.Phase.the-variants.{BeforeTypes, InBlock, AfterDone}
-use Rattle.commands.specs.File.{Draft, Stated, hasStep, seenOf, after, states, commands}
+use Rattle.commands.specs.File.{Draft, Stated, stepCount, hasStep, seenOf, after, states, commands}
 use Rattle.commands.specs.File.{blockBy, schemaBy, unknownIn, unknown, rootCount, OldWithOneRoot, mostBytes}
 use Rattle.expression.specs.Content.{Name}
 use Rattle.expression.specs.Answer.{setOf}
@@ -38,12 +41,22 @@ use Rattle.command.proofs.CommandLaws.{length-more}
 use Rattle.commands.proofs.Lengths.{roots-append}
 use Rattle.commands.proofs.Runs.{CommandsPass, pass-none, pass-more, pass-all}
 
--- the TYPE of each block, the STEP of the pair of states number n, and the ROOT
+-- each type has so many steps; they are by the next type, for the last one by the first
+abbrev ownSteps : ℕ
+ownSteps = mostSteps / mostTypes
+
+abbrev nextType : ℕ → ℕ
+nextType a = suc a % mostTypes
+
+-- the TAGS, the TYPE of each block, the STEP from the state n of the type a, and the ROOT
+abbrev tagsCommand : Command
+tagsCommand = Tags mostTags
+
 abbrev typeCommand : Command
 typeCommand = TypeBlock (tagNo 0) mostStates
 
-abbrev stepCommand : ℕ → Command
-stepCommand n = Step (n / mostStates) (typeNo 1) (n % mostStates)
+abbrev stepCommand : ℕ → ℕ → Command
+stepCommand a n = Step n (typeNo (nextType a)) n
 
 abbrev rootCommand : Command
 rootCommand = Root (typeNo 0)
@@ -53,26 +66,26 @@ unfoldable pub thenFinals : List Command → ℕ → List Command
 thenFinals cs zero = cs
 thenFinals cs (suc n) = thenFinals cs n ++ (Final n ∷ [])
 
--- the commands, then n STEPs by the type 1, the pairs of states in order
-unfoldable pub thenSteps : List Command → ℕ → List Command
-thenSteps cs zero = cs
-thenSteps cs (suc n) = thenSteps cs n ++ (stepCommand n ∷ [])
+-- the commands, then the STEPs of the type a from the states below n
+unfoldable pub thenSteps : List Command → ℕ → ℕ → List Command
+thenSteps cs a zero = cs
+thenSteps cs a (suc n) = thenSteps cs a n ++ (stepCommand a n ∷ [])
 
--- the commands, then a block of 32 states, all accepting
-unfoldable pub thenBlock : List Command → List Command
-thenBlock cs = thenFinals (cs ++ (typeCommand ∷ [])) mostStates
+-- the commands, then a TYPE with its FINALs
+unfoldable pub thenStates : List Command → List Command
+thenStates cs = thenFinals (cs ++ (typeCommand ∷ [])) mostStates
 
--- the commands, then n such blocks
+-- the commands, then the blocks of the types below n
 unfoldable pub thenBlocks : List Command → ℕ → List Command
 thenBlocks cs zero = cs
-thenBlocks cs (suc n) = thenBlock (thenBlocks cs n)
+thenBlocks cs (suc n) = thenSteps (thenStates (thenBlocks cs n)) n ownSteps
 
--- the first block with its steps
-unfoldable pub firstCommands : List Command
-firstCommands = thenSteps (thenBlock (Tags mostTags ∷ [])) mostSteps
+-- the blocks of the types below n
+abbrev blocksBelow : ℕ → List Command
+blocksBelow n = thenBlocks (tagsCommand ∷ []) n
 
 unfoldable pub longestCommands : List Command
-longestCommands = thenBlocks firstCommands (mostTypes - 1) ++ (rootCommand ∷ []) ++ (Done ∷ [])
+longestCommands = blocksBelow mostTypes ++ (rootCommand ∷ []) ++ (Done ∷ [])
 
 unfoldable pub longestFile : List ℕ
 longestFile = fileOf longestCommands
@@ -83,31 +96,28 @@ unfolding thenFinals
 finals-length cs zero = omega arith
 finals-length cs (suc n) = rw (length-more (thenFinals cs n) (Final n)) (omega (arith, finals-length cs n))
 
-steps-length : (cs : List Command) (n : ℕ) → length (fileOf (thenSteps cs n)) ≡ length (fileOf cs) + 4 * n
+steps-length : (cs : List Command) (a n : ℕ) → length (fileOf (thenSteps cs a n)) ≡ length (fileOf cs) + 4 * n
 unfolding thenSteps
-steps-length cs zero = omega arith
-steps-length cs (suc n) = rw (length-more (thenSteps cs n) (stepCommand n)) (omega (arith, steps-length cs n))
+steps-length cs a zero = omega arith
+steps-length cs a (suc n) = rw (length-more (thenSteps cs a n) (stepCommand a n)) (omega (arith, steps-length cs a n))
 
-block-length : (cs : List Command) → length (fileOf (thenBlock cs)) ≡ length (fileOf cs) + (3 + 2 * mostStates)
-unfolding thenBlock
-block-length cs = omega (arith, finals-length (cs ++ (typeCommand ∷ [])) mostStates, length-more cs typeCommand)
+states-length : (cs : List Command) → length (fileOf (thenStates cs)) ≡ length (fileOf cs) + (3 + 2 * mostStates)
+unfolding thenStates
+states-length cs = omega (arith, finals-length (cs ++ (typeCommand ∷ [])) mostStates, length-more cs typeCommand)
 
-blocks-length : (cs : List Command) (n : ℕ) → length (fileOf (thenBlocks cs n)) ≡ length (fileOf cs) + (3 + 2 * mostStates) * n
+blocks-length : (cs : List Command) (n : ℕ) → length (fileOf (thenBlocks cs n)) ≡ length (fileOf cs) + (3 + 2 * mostStates + 4 * ownSteps) * n
 unfolding thenBlocks
 blocks-length cs zero = omega arith
-blocks-length cs (suc n) = omega (arith, blocks-length cs n, block-length (thenBlocks cs n))
-
-first-length : length (fileOf firstCommands) ≡ 2 + (3 + 2 * mostStates) + 4 * mostSteps
-unfolding firstCommands
-first-length =
-    let t : length (fileOf (Tags mostTags ∷ [])) ≡ 2 = unfold fileOf in refl in
-    omega (arith, steps-length (thenBlock (Tags mostTags ∷ [])) mostSteps, block-length (Tags mostTags ∷ []))
+blocks-length cs (suc n) =
+    let ds = thenBlocks cs n in
+    omega (arith, blocks-length cs n, states-length ds, steps-length (thenStates ds) n ownSteps)
 
 pub longest-length : length longestFile ≡ mostBytes
 unfolding longestFile longestCommands
 longest-length =
-    let cs = thenBlocks firstCommands (mostTypes - 1) in
-    omega (arith, length-more (cs ++ (rootCommand ∷ [])) Done, length-more cs rootCommand, blocks-length firstCommands (mostTypes - 1), first-length)
+    let cs = blocksBelow mostTypes in
+    let t : length (fileOf (tagsCommand ∷ [])) ≡ 2 = unfold fileOf in refl in
+    omega (arith, length-more (cs ++ (rootCommand ∷ [])) Done, length-more cs rootCommand, blocks-length (tagsCommand ∷ []) mostTypes)
 
 -- all of them are old commands
 abbrev AllOld : List Command → Type 0
@@ -121,19 +131,18 @@ unfolding thenFinals
 old-finals cs zero h = h
 old-finals cs (suc n) h = old-more (thenFinals cs n) (Final n) tt (old-finals cs n h)
 
-old-steps : (cs : List Command) (n : ℕ) → AllOld cs → AllOld (thenSteps cs n)
+old-steps : (cs : List Command) (a n : ℕ) → AllOld cs → AllOld (thenSteps cs a n)
 unfolding thenSteps
-old-steps cs zero h = h
-old-steps cs (suc n) h = old-more (thenSteps cs n) (stepCommand n) tt (old-steps cs n h)
-
-old-block : (cs : List Command) → AllOld cs → AllOld (thenBlock cs)
-unfolding thenBlock
-old-block cs h = old-finals (cs ++ (typeCommand ∷ [])) mostStates (old-more cs typeCommand tt h)
+old-steps cs a zero h = h
+old-steps cs a (suc n) h = old-more (thenSteps cs a n) (stepCommand a n) tt (old-steps cs a n h)
 
 old-blocks : (cs : List Command) (n : ℕ) → AllOld cs → AllOld (thenBlocks cs n)
-unfolding thenBlocks
+unfolding thenBlocks thenStates
 old-blocks cs zero h = h
-old-blocks cs (suc n) h = old-block (thenBlocks cs n) (old-blocks cs n h)
+old-blocks cs (suc n) h =
+    let ds = thenBlocks cs n in
+    let typed = old-more ds typeCommand tt (old-blocks cs n h) in
+    old-steps (thenStates ds) n ownSteps (old-finals (ds ++ (typeCommand ∷ [])) mostStates typed)
 
 -- one of them is a ROOT
 roots-more : (cs : List Command) (c : Command) → rootCount (cs ++ (c ∷ [])) ≡ rootCount cs + onRoot (λ a. 1) 0 c
@@ -144,40 +153,34 @@ unfolding thenFinals
 roots-finals cs zero = refl
 roots-finals cs (suc n) = omega (arith, roots-more (thenFinals cs n) (Final n), roots-finals cs n)
 
-roots-steps : (cs : List Command) (n : ℕ) → rootCount (thenSteps cs n) ≡ rootCount cs
+roots-steps : (cs : List Command) (a n : ℕ) → rootCount (thenSteps cs a n) ≡ rootCount cs
 unfolding thenSteps
-roots-steps cs zero = refl
-roots-steps cs (suc n) = omega (arith, roots-more (thenSteps cs n) (stepCommand n), roots-steps cs n)
-
-roots-block : (cs : List Command) → rootCount (thenBlock cs) ≡ rootCount cs
-unfolding thenBlock
-roots-block cs = omega (arith, roots-finals (cs ++ (typeCommand ∷ [])) mostStates, roots-more cs typeCommand)
+roots-steps cs a zero = refl
+roots-steps cs a (suc n) = omega (arith, roots-more (thenSteps cs a n) (stepCommand a n), roots-steps cs a n)
 
 roots-blocks : (cs : List Command) (n : ℕ) → rootCount (thenBlocks cs n) ≡ rootCount cs
-unfolding thenBlocks
+unfolding thenBlocks thenStates
 roots-blocks cs zero = refl
-roots-blocks cs (suc n) = omega (arith, roots-block (thenBlocks cs n), roots-blocks cs n)
+roots-blocks cs (suc n) =
+    let ds = thenBlocks cs n in
+    let f = roots-finals (ds ++ (typeCommand ∷ [])) mostStates in
+    omega (arith, roots-steps (thenStates ds) n ownSteps, f, roots-more ds typeCommand, roots-blocks cs n)
 
 one-root : rootCount longestCommands ≡ 1
-unfolding longestCommands firstCommands
+unfolding longestCommands
 one-root =
-    let tags = Tags mostTags ∷ [] in
-    let cs = thenBlocks firstCommands (mostTypes - 1) in
-    let none : rootCount cs ≡ 0 =
-    omega (arith, roots-blocks firstCommands (mostTypes - 1), roots-steps (thenBlock tags) mostSteps, roots-block tags) in
-    omega (arith, roots-more (cs ++ (rootCommand ∷ [])) Done, roots-more cs rootCommand)
+    let cs = blocksBelow mostTypes in
+    omega (arith, roots-more (cs ++ (rootCommand ∷ [])) Done, roots-more cs rootCommand, roots-blocks (tagsCommand ∷ []) mostTypes)
 
 pub longest-old : OldWithOneRoot longestFile
-unfolding longestFile longestCommands firstCommands
+unfolding longestFile longestCommands
 longest-old =
-    let tags : AllOld (Tags mostTags ∷ []) = λ c m. subst (λ (x : Command). T (isOld x)) (sym (List·Memᴰ·eq-of-singleton m)) tt in
-    let first = old-steps (thenBlock (Tags mostTags ∷ [])) mostSteps (old-block (Tags mostTags ∷ []) tags) in
-    let cs = thenBlocks firstCommands (mostTypes - 1) in
-    let blocks : AllOld cs = old-blocks firstCommands (mostTypes - 1) first in
+    let tags : AllOld (tagsCommand ∷ []) = λ c m. subst (λ (x : Command). T (isOld x)) (sym (List·Memᴰ·eq-of-singleton m)) tt in
+    let cs = blocksBelow mostTypes in
     record {
       given = longestCommands;
       bytes = refl;
-      old = old-more (cs ++ (rootCommand ∷ [])) Done tt (old-more cs rootCommand tt blocks);
+      old = old-more (cs ++ (rootCommand ∷ [])) Done tt (old-more cs rootCommand tt (old-blocks (tagsCommand ∷ []) mostTypes tags));
       one-root = one-root;
     }
 
@@ -188,194 +191,219 @@ firstStates n = setOf (λ q. true) n
 first-new : (n : ℕ) → n ≤ mostStates → member n (firstStates n) ≡ false
 first-new n l = is-false (member n (firstStates n)) (λ m. omega (arith, member-set (λ q. true) n n l .0 m))
 
--- a block with n FINALs whose TYPE is at the place i, and what is stated with these blocks
-abbrev plain : ℕ → ℕ → Draft
-plain i n = record { place = i; tag = 0; nillable = false; states = mostStates; accepting = firstStates n; steps = [] }
+-- the steps of the type a from the states below n, the last first, and what they name with their places, before the names so far
+stepsGiven : ℕ → ℕ → List StepOf
+stepsGiven a zero = []
+stepsGiven a (suc n) = step n (nextType a) n ∷ stepsGiven a n
+
+namesGiven : List Command → ℕ → ℕ → List Name → List Name
+namesGiven cs a zero ns = ns
+namesGiven cs a (suc n) ns = record { type = nextType a; place = length (fileOf (thenSteps cs a n)) } ∷ namesGiven cs a n ns
+
+given-count : (a n : ℕ) → length (stepsGiven a n) ≡ n
+unfolding stepsGiven
+given-count a zero = refl
+given-count a (suc n) = ap suc (given-count a n)
+
+-- the step from a later state is not among them
+step-new : (a n m : ℕ) → n ≤ m → hasStep m (nextType a) m (stepsGiven a n) ≡ false
+unfolding stepsGiven
+step-new a zero m l = refl
+step-new a (suc n) m l = rw (ne-eqb n m (λ e. omega arith), step-new a n m (omega arith))
+
+-- a block with n FINALs whose TYPE is at the place i; the block of the type a with n steps; and what is stated with these blocks
+abbrev accepting : ℕ → ℕ → Draft
+accepting i n = record { place = i; tag = 0; nillable = false; states = mostStates; accepting = firstStates n; steps = [] }
+
+abbrev stepped : ℕ → ℕ → ℕ → Draft
+stepped i a n =
+    record { place = i; tag = 0; nillable = false; states = mostStates; accepting = firstStates mostStates; steps = stepsGiven a n }
 
 abbrev stated : Phase → List Draft → List Name → Stated
 stated phase ds ns = record { phase = phase; tags = mostTags; blocks = ds; names = ns; roots = [] }
 
--- a run of FINALs
+-- a run of FINALs, and one of STEPs
 finals-pass : {cs : List Command} (i : ℕ) (ds : List Draft) (ns : List Name) (n : ℕ) → n ≤ mostStates
-    → CommandsPass cs (stated InBlock (plain i 0 ∷ ds) ns) → CommandsPass (thenFinals cs n) (stated InBlock (plain i n ∷ ds) ns)
+    → CommandsPass cs (stated InBlock (accepting i 0 ∷ ds) ns) → CommandsPass (thenFinals cs n) (stated InBlock (accepting i n ∷ ds) ns)
 unfolding thenFinals after setOf
 finals-pass i ds ns zero l r = r
 finals-pass i ds ns (suc n) l r = pass-more (Final n) (finals-pass i ds ns n (omega arith) r) (rw (lt-ltb n mostStates l, first-new n (omega arith)))
 
--- a block, where its TYPE passes
-block-pass : {cs : List Command} (phase : Phase) (ds : List Draft) (ns : List Name)
-    → failed (seenOf (stated phase ds ns) typeCommand) typeCommand ≡ 0
-    → CommandsPass cs (stated phase ds ns) → CommandsPass (thenBlock cs) (stated InBlock (plain (length (fileOf cs)) mostStates ∷ ds) ns)
-unfolding thenBlock after setOf
-block-pass {cs} phase ds ns z r = finals-pass (length (fileOf cs)) ds ns mostStates (omega arith) (pass-more typeCommand r z)
-
--- the steps of n STEPs, the last first, and what they name with their places
-stepsGiven : ℕ → List StepOf
-stepsGiven zero = []
-stepsGiven (suc n) = step (n / mostStates) 1 (n % mostStates) ∷ stepsGiven n
-
-namesGiven : List Command → ℕ → List Name
-namesGiven cs zero = []
-namesGiven cs (suc n) = record { type = 1; place = length (fileOf (thenSteps cs n)) } ∷ namesGiven cs n
-
-given-count : (n : ℕ) → length (stepsGiven n) ≡ n
-unfolding stepsGiven
-given-count zero = refl
-given-count (suc n) = ap suc (given-count n)
-
--- pairs of states with different numbers differ
-pair-differs : (n m : ℕ) → n < m → (eqb (n / mostStates) (m / mostStates) && (eqb 1 1 && eqb (n % mostStates) (m % mostStates))) ≡ false
-pair-differs n m l = elim (ℕ-discrete (n / mostStates) (m / mostStates)) [
-  | yes e ↦ rw (eq-eqb (n / mostStates) (m / mostStates) e, ne-eqb (n % mostStates) (m % mostStates) (λ d. omega arith))
-  | no d ↦ rw (ne-eqb (n / mostStates) (m / mostStates) d)
-]
-
--- the pair with a later number is not among the steps
-step-new : (n m : ℕ) → n ≤ m → hasStep (m / mostStates) 1 (m % mostStates) (stepsGiven n) ≡ false
-unfolding stepsGiven
-step-new zero m l = refl
-step-new (suc n) m l = rw (pair-differs n m l, step-new n m (omega arith))
-
--- the first block with n steps
-abbrev stepped : ℕ → ℕ → Draft
-stepped i n =
-    record { place = i; tag = 0; nillable = false; states = mostStates; accepting = firstStates mostStates; steps = stepsGiven n }
-
--- a run of STEPs
-steps-pass : {cs : List Command} (i n : ℕ) → n ≤ mostSteps → CommandsPass cs (stated InBlock (plain i mostStates ∷ []) [])
-    → CommandsPass (thenSteps cs n) (stated InBlock (stepped i n ∷ []) (namesGiven cs n))
+steps-pass : {cs : List Command} (i a : ℕ) (ds : List Draft) (ns : List Name) (n : ℕ) → n ≤ ownSteps → stepCount ds + n ≤ mostSteps
+    → CommandsPass cs (stated InBlock (accepting i mostStates ∷ ds) ns)
+    → CommandsPass (thenSteps cs a n) (stated InBlock (stepped i a n ∷ ds) (namesGiven cs a n ns))
 unfolding thenSteps after stepsGiven namesGiven
-steps-pass i zero l r = r
-steps-pass {cs} i (suc n) l r =
-    let from-below = lt-ltb (n / mostStates) mostStates (omega arith) in
-    let to-below = lt-ltb (n % mostStates) mostStates (omega arith) in
-    let few = lt-ltb (0 + length (stepsGiven n)) mostSteps (omega (arith, given-count n)) in
-    pass-more (stepCommand n) (steps-pass i n (omega arith) r) (rw (from-below, to-below, few, step-new n n (omega arith)))
+steps-pass i a ds ns zero l m r = r
+steps-pass {cs} i a ds ns (suc n) l m r =
+    let state = lt-ltb n mostStates (omega arith) in
+    let type = lt-ltb (nextType a) mostTypes (omega arith) in
+    let few = lt-ltb (stepCount ds + length (stepsGiven a n)) mostSteps (omega (arith, given-count a n)) in
+    pass-more (stepCommand a n) (steps-pass i a ds ns n (omega arith) (omega arith) r) (rw (state, type, few, step-new a n n (omega arith)))
 
--- n blocks of FINALs alone after the others
-plains : List Command → List Draft → ℕ → List Draft
-plains cs ds zero = ds
-plains cs ds (suc n) = plain (length (fileOf (thenBlocks cs n))) mostStates ∷ plains cs ds n
+-- the draft of the type a, those of the types below n, and what their steps name
+abbrev draftOf : ℕ → Draft
+draftOf a = stepped (length (fileOf (blocksBelow a))) a ownSteps
 
-plains-count : (cs : List Command) (ds : List Draft) (n : ℕ) → length (plains cs ds n) ≡ length ds + n
-unfolding plains
-plains-count cs ds zero = omega arith
-plains-count cs ds (suc n) = omega (arith, plains-count cs ds n)
+drafts : ℕ → List Draft
+drafts zero = []
+drafts (suc n) = draftOf n ∷ drafts n
 
-blocks-pass : {cs : List Command} (ds : List Draft) (ns : List Name) (n : ℕ) → length ds + n ≤ mostTypes → CommandsPass cs (stated InBlock ds ns)
-    → CommandsPass (thenBlocks cs n) (stated InBlock (plains cs ds n) ns)
-unfolding thenBlocks plains
-blocks-pass ds ns zero l r = r
-blocks-pass {cs} ds ns (suc n) l r =
-    let few = lt-ltb (length (plains cs ds n)) mostTypes (omega (arith, plains-count cs ds n)) in
-    block-pass InBlock (plains cs ds n) ns (rw few) (blocks-pass ds ns n (omega arith) r)
+names : ℕ → List Name
+names zero = []
+names (suc n) = namesGiven (thenStates (blocksBelow n)) n ownSteps (names n)
 
--- the first block, and all the blocks
-firstBlock : Draft
-firstBlock = stepped (length (fileOf (Tags mostTags ∷ []))) mostSteps
+drafts-count : (n : ℕ) → length (drafts n) ≡ n
+unfolding drafts
+drafts-count zero = refl
+drafts-count (suc n) = ap suc (drafts-count n)
 
-allNames : List Name
-allNames = namesGiven (thenBlock (Tags mostTags ∷ [])) mostSteps
+steps-count : (n : ℕ) → stepCount (drafts n) ≡ ownSteps * n
+unfolding drafts
+steps-count zero = refl
+steps-count (suc n) = omega (arith, steps-count n, given-count n ownSteps)
 
-allBlocks : List Draft
-allBlocks = plains firstCommands (firstBlock ∷ []) (mostTypes - 1)
+abbrev phaseAt : ℕ → Phase
+phaseAt zero = BeforeTypes
+phaseAt (suc n) = InBlock
 
-first-pass : CommandsPass firstCommands (stated InBlock (firstBlock ∷ []) allNames)
-unfolding firstCommands firstBlock allNames after
-first-pass =
-    steps-pass (length (fileOf (Tags mostTags ∷ []))) mostSteps (omega arith)
-    (block-pass BeforeTypes [] [] refl (pass-more (Tags mostTags) pass-none refl))
+-- the blocks, one after another
+type-passes : (n : ℕ) → n < mostTypes → let g = stated (phaseAt n) (drafts n) (names n) in failed (seenOf g typeCommand) typeCommand ≡ 0
+unfolding drafts
+type-passes zero l = refl
+type-passes (suc n) l = let few = lt-ltb (length (drafts (suc n))) mostTypes (omega (arith, drafts-count (suc n))) in rw few
+
+blocks-pass : (n : ℕ) → n ≤ mostTypes → CommandsPass (blocksBelow n) (stated (phaseAt n) (drafts n) (names n))
+unfolding thenBlocks thenStates drafts names after setOf
+blocks-pass zero l = pass-more tagsCommand pass-none refl
+blocks-pass (suc n) l =
+    let i = length (fileOf (blocksBelow n)) in
+    let typed = pass-more typeCommand (blocks-pass n (omega arith)) (type-passes n l) in
+    steps-pass i n (drafts n) (names n) ownSteps (omega arith) (omega (arith, steps-count n))
+    (finals-pass i (drafts n) (names n) mostStates (omega arith) typed)
 
 abbrev allStated : Stated
-allStated = record { phase = AfterDone; tags = mostTags; blocks = allBlocks; names = allNames; roots = 0 ∷ [] }
+allStated = record { phase = AfterDone; tags = mostTags; blocks = drafts mostTypes; names = names mostTypes; roots = 0 ∷ [] }
 
 longest-pass : CommandsPass longestCommands allStated
-unfolding longestCommands after allBlocks
+unfolding longestCommands after
 longest-pass =
-    let r = blocks-pass (firstBlock ∷ []) allNames (mostTypes - 1) (omega arith) first-pass in
-    let given = lt-ltb 0 (length allBlocks) (omega (arith, plains-count firstCommands (firstBlock ∷ []) (mostTypes - 1))) in
-    pass-more Done (pass-more rootCommand r (rw given)) refl
+    let given = lt-ltb 0 (length (drafts mostTypes)) (omega (arith, drafts-count mostTypes)) in
+    pass-more Done (pass-more rootCommand (blocks-pass mostTypes (omega arith)) (rw given)) refl
 
 -- each step names a given type
-known-names : (cs : List Command) (n : ℕ) → unknownIn mostTypes (namesGiven cs n) ≡ []
+known-more : (cs : List Command) (a n : ℕ) (ns : List Name) → unknownIn mostTypes ns ≡ [] → unknownIn mostTypes (namesGiven cs a n ns) ≡ []
 unfolding namesGiven
-known-names cs zero = refl
-known-names cs (suc n) = rw (known-names cs n)
+known-more cs a zero ns e = e
+known-more cs a (suc n) ns e = rw (known-more cs a n ns e, lt-ltb (nextType a) mostTypes (omega arith))
+
+known-names : (n : ℕ) → unknownIn mostTypes (names n) ≡ []
+unfolding names
+known-names zero = refl
+known-names (suc n) = known-more (thenStates (blocksBelow n)) n ownSteps (names n) (known-names n)
 
 known : unknown allStated ≡ []
-unfolding allBlocks firstBlock allNames
-known =
-    rw (plains-count firstCommands (firstBlock ∷ []) (mostTypes - 1))
-    (known-names (thenBlock (Tags mostTags ∷ [])) mostSteps)
+known = rw (drafts-count mostTypes) (known-names mostTypes)
 
--- the first block in the schema is the first in the file
-first-block : (cs : List Command) (d : Draft) (n : ℕ) (ds : List Draft)
-    → getD (map blockBy (reverseAux (plains cs (d ∷ []) n) ds)) 0 noBlock ≡ blockBy d
-unfolding plains
-first-block cs d zero ds = refl
-first-block cs d (suc n) ds = first-block cs d n (plain (length (fileOf (thenBlocks cs n))) mostStates ∷ ds)
+-- the blocks in the schema stand as in the file
+past-drafts : (n : ℕ) (ds : List Draft) (k : ℕ) → getD (map blockBy (reverseAux (drafts n) ds)) (n + k) noBlock ≡ getD (map blockBy ds) k noBlock
+unfolding drafts
+past-drafts zero ds k = let e : 0 + k ≡ k = omega arith in rw e
+past-drafts (suc n) ds k = let e : suc n + k ≡ n + suc k = omega arith in rw e (past-drafts n (draftOf n ∷ ds) (suc k))
 
-start-accepts : List·Memᴰ 0 (blockBy firstBlock .accepting)
-unfolding firstBlock setOf insert
-start-accepts = mem-members 0 (firstStates mostStates) (set-below (λ q. true) mostStates) .1 tt
+block-at : (n : ℕ) (ds : List Draft) (a : ℕ) → a < n → getD (map blockBy (reverseAux (drafts n) ds)) a noBlock ≡ blockBy (draftOf a)
+unfolding drafts
+block-at zero ds a l = absurd (omega arith)
+block-at (suc n) ds a l = elim (decLt a n) [
+  | yes b ↦ block-at n (draftOf n ∷ ds) a b
+  | no b ↦ let e : a ≡ n + 0 = omega arith in let f : n + 0 ≡ n = omega arith in rw (e, f) (rw f at (past-drafts n (draftOf n ∷ ds) 0))
+]
 
--- the root type bears the tree of one element
-root-bears : SomeRootBears (schemaBy allStated)
-unfolding allBlocks schemaBy
-root-bears =
-    let m = subst (λ (b : Block). List·Memᴰ 0 (b .accepting)) (sym (first-block firstCommands firstBlock (mostTypes - 1) [])) start-accepts in
-    record {
-      type = 0;
-      is-root = List·Memᴰ·head refl;
-      bears = by-bears opened-plainly (word-bears 0 (record { last = 0; leads = stay; accepting = m }) none);
-    }
+abbrev longestSchema : Schema
+longestSchema = schemaBy allStated
 
--- all the steps carry the type 1
-abbrev OneType : List StepOf → Type 0
-OneType steps = (s : StepOf) → List·Memᴰ s steps → s .by ≡ 1
+own-block : (a : ℕ) → a < mostTypes → blockOf longestSchema a ≡ blockBy (draftOf a)
+unfolding schemaBy
+own-block a l = block-at mostTypes [] a l
 
-one-type-steps : (n : ℕ) (ss : List StepOf) → OneType ss → OneType (reverseAux (stepsGiven n) ss)
+no-block : (a : ℕ) → mostTypes ≤ a → blockOf longestSchema a ≡ noBlock
+unfolding schemaBy
+no-block a l = let e : a ≡ mostTypes + (a - mostTypes) = omega arith in rw e (past-drafts mostTypes [] (a - mostTypes))
+
+-- state 0 accepts, and each step carries the next type; the first leads from state 0
+start-accepts : (a : ℕ) → List·Memᴰ 0 (blockBy (draftOf a) .accepting)
+unfolding setOf insert
+start-accepts a = mem-members 0 (firstStates mostStates) (set-below (λ q. true) mostStates) .1 tt
+
+abbrev OneType : ℕ → List StepOf → Type 0
+OneType j steps = (s : StepOf) → List·Memᴰ s steps → s .by ≡ j
+
+one-type : (a n : ℕ) (ss : List StepOf) → OneType (nextType a) ss → OneType (nextType a) (reverseAux (stepsGiven a n) ss)
 unfolding stepsGiven
-one-type-steps zero ss h = h
-one-type-steps (suc n) ss h =
-    one-type-steps n (_ ∷ ss) (λ s m. ⊎-elim (λ e. ap (λ (x : StepOf). x .by) e) (h s) (List·Memᴰ·cases-cons m))
+one-type a zero ss h = h
+one-type a (suc n) ss h =
+    one-type a n (_ ∷ ss) (λ s m. ⊎-elim (λ e. ap (λ (x : StepOf). x .by) e) (h s) (List·Memᴰ·cases-cons m))
 
--- so do they in each block
-abbrev OneTypeEach : List Draft → Type 0
-OneTypeEach ds = (a : ℕ) → OneType (getD (map blockBy ds) a noBlock .steps)
+first-step : (a n : ℕ) (ss : List StepOf) → List·Memᴰ (step 0 (nextType a) 0) (reverseAux (stepsGiven a (suc n)) ss)
+unfolding stepsGiven
+first-step a zero ss = List·Memᴰ·head refl
+first-step a (suc n) ss = first-step a n (_ ∷ ss)
 
-one-block-more : (d : Draft) (ds : List Draft) → OneType (blockBy d .steps) → OneTypeEach ds → OneTypeEach (d ∷ ds)
-one-block-more d ds h hs zero = h
-one-block-more d ds h hs (suc a) = hs a
+-- each type bears the tree of one element
+start-of : (a : ℕ) → a < mostTypes → List·Memᴰ 0 (blockOf longestSchema a .accepting)
+start-of a l = subst (λ (b : Block). List·Memᴰ 0 (b .accepting)) (sym (own-block a l)) (start-accepts a)
 
-one-type-blocks : (cs : List Command) (d : Draft) → OneType (blockBy d .steps) → (n : ℕ) (ds : List Draft) → OneTypeEach ds
-    → OneTypeEach (reverseAux (plains cs (d ∷ []) n) ds)
-unfolding plains
-one-type-blocks cs d h zero ds hs = one-block-more d ds h hs
-one-type-blocks cs d h (suc n) ds hs =
-    let p = plain (length (fileOf (thenBlocks cs n))) mostStates in
-    one-type-blocks cs d h n (p ∷ ds) (one-block-more p ds (λ s m. absurd (List·Memᴰ·not-nil m)) hs)
+each-bears : (a : ℕ) → a < mostTypes → Bears longestSchema a
+each-bears a l = by-bears opened-plainly (word-bears a (record { last = 0; leads = stay; accepting = start-of a l }) none)
 
-first-one-type : OneType (blockBy firstBlock .steps)
-unfolding firstBlock
-first-one-type = one-type-steps mostSteps [] (λ s m. absurd (List·Memᴰ·not-nil m))
+root-bears : SomeRootBears longestSchema
+unfolding schemaBy
+root-bears = record { type = 0; is-root = List·Memᴰ·head refl; bears = each-bears 0 (omega arith) }
+
+-- each is reached: the first is the root, and each next one is the word of the type before it
+each-reached : (a : ℕ) → a < mostTypes → Reached longestSchema a
+unfolding schemaBy
+each-reached zero l = root (List·Memᴰ·head refl)
+each-reached (suc a) l =
+    let next : nextType a ≡ suc a = omega arith in
+    let first = subst (λ (j : ℕ). List·Memᴰ (step 0 j 0) (blockBy (draftOf a) .steps)) next (first-step a (ownSteps - 1) []) in
+    let by-step = subst (λ (b : Block). List·Memᴰ (step 0 (suc a) 0) (b .steps)) (sym (own-block a (omega arith))) first in
+    child (each-reached a (omega arith)) (record { last = 0; leads = go by-step stay; accepting = start-of a (omega arith) })
+    (both (each-bears (suc a) l) none) (List·Memᴰ·head refl)
+
+every-used : EveryTypeUsed longestSchema
+unfolding schemaBy
+every-used a l =
+    let count : length (map blockBy (reverseAux (drafts mostTypes) [])) ≡ mostTypes =
+    rw (length-map) (length-reverse (drafts mostTypes) ∙ drafts-count mostTypes) in
+    let below : a < mostTypes = omega arith in
+    useful-used (each-reached a below, each-bears a below)
 
 -- one root competes with none; types that compete in a block are types of two of its steps, and these are never different
-one-type-free : {S : Schema} {root : ℕ} → S .roots ≡ root ∷ [] → ((a : ℕ) → OneType (blockOf S a .steps)) → ¬ Competition S
+one-type-free : {S : Schema} {root : ℕ} → S .roots ≡ root ∷ [] → ((a : ℕ) → (j : ℕ) × OneType j (blockOf S a .steps)) → ¬ Competition S
 one-type-free one h (of-roots o) =
     let c = o .compete in
     omega (arith, c .order, List·Memᴰ·eq-of-singleton (rw one at (c .is-root-j)), List·Memᴰ·eq-of-singleton (rw one at (c .is-root-k)))
 one-type-free one h (in-type {a = a} c) =
     let k = c .compete in
     let r = compete-rivals k .rivals in
-    let x = h a _ (r .step-j) in
-    let y = h a _ (r .step-k) in
+    let x = h a .1 _ (r .step-j) in
+    let y = h a .1 _ (r .step-k) in
     let l = k .order in
     omega arith
 
-no-competition : ¬ Competition (schemaBy allStated)
-unfolding allBlocks schemaBy
-no-competition = one-type-free refl (one-type-blocks firstCommands firstBlock first-one-type (mostTypes - 1) [] (λ a s m. absurd (List·Memᴰ·not-nil m)))
+block-type : (a : ℕ) → (j : ℕ) × OneType j (blockOf longestSchema a .steps)
+block-type a = elim (decLt a mostTypes) [
+  | yes l ↦
+      let own = one-type a ownSteps [] (λ s m. absurd (List·Memᴰ·not-nil m)) in
+      (nextType a, subst (λ (b : Block). OneType (nextType a) (b .steps)) (sym (own-block a l)) own)
+  | no n ↦
+      let none : OneType 0 (noBlock .steps) = λ s m. absurd (List·Memᴰ·not-nil m) in
+      (0, subst (λ (b : Block). OneType 0 (b .steps)) (sym (no-block a (omega arith))) none)
+]
+
+no-competition : ¬ Competition longestSchema
+unfolding schemaBy
+no-competition = one-type-free refl block-type
 
 -- What is asked of the file after questions 2 to 6.
 pub record LongestStates : Type 0 where
@@ -383,6 +411,7 @@ pub record LongestStates : Type 0 where
   pub commands-pass : commands longestFile ≡ states longest-states
   pub steps-known : unknown longest-states ≡ []
   pub bears-tree : SomeRootBears (schemaBy longest-states)
+  pub every-type-used : EveryTypeUsed (schemaBy longest-states)
   pub restrained : ¬ Competition (schemaBy longest-states)
 
 pub longest-stated : LongestStates
@@ -393,5 +422,6 @@ longest-stated =
       commands-pass = pass-all longest-pass refl;
       steps-known = known;
       bears-tree = root-bears;
+      every-type-used = every-used;
       restrained = no-competition;
     }

@@ -52,7 +52,7 @@ module _ (fuel : ℕ) (file : List ℕ) (i : ℕ) (g : Stated) where
   unfolding commandsFrom
   stops p x e = rw (p, x, ne-eqb (failed (seenOf g (commandAt file i)) (commandAt file i)) 0 e)
 
-  reads-expression : samePhase (g .phase) InExpression ≡ true → commandsFrom (suc fuel) file i g ≡ byContent g (commandsFrom fuel file) (contentAt file i)
+  pub reads-expression : samePhase (g .phase) InExpression ≡ true → commandsFrom (suc fuel) file i g ≡ byContent g (commandsFrom fuel file) (contentAt file i)
   unfolding commandsFrom
   reads-expression x = rw (expression-not-done (g .phase) x, x)
     where

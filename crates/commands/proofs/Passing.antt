@@ -72,7 +72,7 @@ before-type p t =
     ⊎-elim (λ h. omega (arith, eqb→eq (rank p) (rank BeforeTypes) h)) (λ h. omega (arith, in-type-block p h))
     (or-parts (samePhase p BeforeTypes) (inTypeBlock p) t)
 
-answered : (g : Stated) (c : Command) → let s = seenOf g c in failed s c ≡ 0
+pub answered : (g : Stated) (c : Command) → let s = seenOf g c in failed s c ≡ 0
     → T (isCommand c) × T (inOrder s c) × T (inRange s c) × T (withinCounts s c) × T (notGiven s c)
 answered g c z =
     let h = all-yes (questions (seenOf g c) c) (omega arith) z in
@@ -132,11 +132,11 @@ pub record HoldsAtEnd (P : ℕ → Stated → Type 0) (file : List ℕ) (g : Sta
   pub holds : P place g
 
 -- a refusal states nothing
-not-stopped : {A : Type 0} {n p : ℕ} {g : Stated} → stopped n p ≡ states g → A
+pub not-stopped : {A : Type 0} {n p : ℕ} {g : Stated} → stopped n p ≡ states g → A
 not-stopped e = absurd (let z : _≡_ {A = ℕ} 0 1 = cc in omega arith)
 
 -- one turn: the commands end here, or an expression is read, or this one passes and the rest follow
-turn : {R : Type 0} (a b x c : Bool) (n i : ℕ) {g g′ : Stated} {expression rest : Commands}
+pub turn : {R : Type 0} (a b x c : Bool) (n i : ℕ) {g g′ : Stated} {expression rest : Commands}
     → cond a (cond b (states g) (stopped 3 i)) (cond x expression (cond c rest (stopped n i))) ≡ states g′
     → (a ≡ true → b ≡ true → g ≡ g′ → R) → (x ≡ true → expression ≡ states g′ → R) → (c ≡ true → rest ≡ states g′ → R) → R
 turn true true x c n i e last read more = last refl refl (cc)

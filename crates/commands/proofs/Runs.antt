@@ -18,7 +18,7 @@ use Rattle.commands.proofs.Drafts.{fuel-enough}
 use Rattle.commands.proofs.OneByOne.{goes-on, ends}
 
 -- where a command passes, the file has not ended
-not-done : (g : Stated) (c : Command) → Passed g c → samePhase (g .phase) AfterDone ≡ false
+pub not-done : (g : Stated) (c : Command) → Passed g c → samePhase (g .phase) AfterDone ≡ false
 not-done g (Tags n) p = ne-eqb (rank (g .phase)) (rank AfterDone) (λ e. omega arith)
 not-done g (TypeBlock t s) p = ne-eqb (rank (g .phase)) (rank AfterDone) (λ e. omega arith)
 not-done g (Final q) p = ne-eqb (rank (g .phase)) (rank AfterDone) (λ e. omega arith)
@@ -30,7 +30,7 @@ not-done g (Expression x) p = absurd p
 not-done g NoCommand p = absurd p
 
 -- nor is an expression next
-not-inside : (g : Stated) (c : Command) → Passed g c → samePhase (g .phase) InExpression ≡ false
+pub not-inside : (g : Stated) (c : Command) → Passed g c → samePhase (g .phase) InExpression ≡ false
 not-inside g (Tags n) p = ne-eqb (rank (g .phase)) (rank InExpression) (λ e. omega arith)
 not-inside g (TypeBlock t s) p = ne-eqb (rank (g .phase)) (rank InExpression) (p .2)
 not-inside g (Final q) p = ne-eqb (rank (g .phase)) (rank InExpression) (λ e. omega arith)

@@ -8,9 +8,9 @@ use native.Mathlib.Decide.{decLt}
 use native.Mathlib.Omega.{arith}
 use lib.Dec.{eqb}
 use borrow.Author.Tests.{eqb-true}
-use lib.ListN.{length, length-map}
+use lib.ListN.{length, getD, length-map}
 use Rattle.sdtd.specs.Limits.{mostTypes, mostStates}
-use Rattle.sdtd.proofs.Basics.{is-false, same-test}
+use Rattle.sdtd.proofs.Basics.{is-false, same-test, getD-member}
 use Rattle.schema.specs.States.{member, members, membersBelow, noStates}
 use Rattle.expression.specs.Expression.{Expression as Exp}
 use Rattle.expression.specs.Automaton.{uses, named, AutomatonOf}
@@ -20,18 +20,20 @@ use Rattle.expression.specs.Answer.{setOf}
 use Rattle.expression.proofs.TestSets.{member-set}
 use Rattle.expression.proofs.TestLaws.{accepts-below}
 use Rattle.expression.proofs.AutomatonLaws.{automaton-of, automaton-flag}
-use Rattle.sdtd.specs.Schema.{Block, Schema}
+use Rattle.sdtd.specs.Schema.{Block, Schema, blockOf, noBlock}
 use Rattle.sdtd.specs.declared.Tag.{Tag}
 use Rattle.command.specs.Command.{commandAt, size}
 use Rattle.command.specs.declared.Command.{Command}
 use Rattle.command.specs.declared.Command.the-variants.{Tags, TypeBlock, Final, Step as StepCommand, Root, Nil, Done, Expression, NoCommand}
 use Rattle.sdtd.specs.Schema.{step}
 use Rattle.commands.specs.Written.{ByExpression, Written}
+use Rattle.commands.specs.TypePlaces.{placeOfType}
 use Rattle.commands.specs.Questions.{rank}
 use Rattle.commands.specs.declared.progress.Phase.the-variants.{InBlock, InExpression}
 use Rattle.expression.proofs.WholeContents.{typesOf, TypesBelow, whole-content}
-use Rattle.commands.proofs.StatedLimits.{Each, each-none, each-more, each-turned, each-current, others, same-others, type-phase}
+use Rattle.commands.proofs.StatedLimits.{Each, each-none, each-more, mem-reverse, each-turned, each-current, others, same-others, type-phase}
 use Rattle.commands.proofs.Passing.{Passed, ExpressionRead, kept-to-end}
+use Rattle.commands.proofs.TypePlaces.{type-place-stated}
 use Rattle.expression.proofs.UseTypes.{named-uses}
 use Rattle.commands.specs.File.{Draft, Stated, current, withFinal, withStep, withNil, inCurrent, after, withAutomaton, afterExpression}
 use Rattle.commands.specs.File.{states, commands, blockBy, schemaBy, StatesSchema}
@@ -124,7 +126,7 @@ record AllWritten (file : List ℕ) (i : ℕ) (g : Stated) : Type 0 where
   waits : rank (g .phase) ≡ rank InExpression → Begun file (current (g .blocks)) 0 × (i ≡ current (g .blocks) .place + 3)
 
 -- the types that it names are below the number of types
-types-below : (xs : List Name) → TypesBelow xs → Each (λ j. j < mostTypes) (typesOf xs)
+pub types-below : (xs : List Name) → TypesBelow xs → Each (λ j. j < mostTypes) (typesOf xs)
 types-below [] h = each-none (λ j. j < mostTypes) [] refl
 types-below (x ∷ xs) h = each-more (λ j. j < mostTypes) (h .0) (types-below xs (h .1))
 
@@ -272,3 +274,30 @@ unfolding schemaBy
 stated-written {file} {S} x b m =
     let o : List·Memᴰ b (map blockBy (reverse (x .stated .blocks))) = subst (λ (R : Schema). List·Memᴰ b (R .blocks)) (sym (x .schema)) m in
     each-turned (Written file) blockBy (x .stated .blocks) (λ d k. draft-block d (all-written file (x .passes) d k)) b o
+
+-- the entry at a place of a mapped list
+entry-of : {A B : Type 0} (f : A → B) (xs : List A) (n : ℕ) (d : A) (z : B) → n < length xs → getD (map f xs) n z ≡ f (getD xs n d)
+entry-of f [] n d z l = absurd (omega arith)
+entry-of f (x ∷ xs) zero d z l = refl
+entry-of f (x ∷ xs) (suc n) d z l = entry-of f xs n d z (omega arith)
+
+-- The block of the type a is begun by the TYPE number a.
+pub type-written : {file : List ℕ} {S : Schema} → StatesSchema file S → (a : ℕ) → a < length (S .blocks)
+    → (w : Written file (blockOf S a)) × (w .place ≡ placeOfType file a)
+unfolding schemaBy draft-block
+type-written {file} {S} x a l =
+    subst (λ (R : Schema). (w : Written file (blockOf R a)) × (w .place ≡ placeOfType file a)) (x .schema)
+    (subst (λ (b : Block). (w : Written file b) × (w .place ≡ placeOfType file a)) (sym (entry-of blockBy ds a (current []) noBlock inside))
+    (draft-block d (all-written file (x .passes) d (mem-reverse (x .stated .blocks) (getD-member ds a (current []) inside))), sym place))
+  where
+    ds : List Draft
+    ds = reverse (x .stated .blocks)
+
+    d : Draft
+    d = getD ds a (current [])
+
+    inside : a < length ds
+    inside = omega (arith, l, ap (λ (R : Schema). length (R .blocks)) (x .schema), length-map ds blockBy)
+
+    place : placeOfType file a ≡ d .place
+    place = type-place-stated file a (x .passes) ∙ entry-of (λ (d : Draft). d .place) ds a (current []) 0 inside

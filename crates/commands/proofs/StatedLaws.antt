@@ -23,7 +23,7 @@ map-last f [] x = refl
 map-last f (y ∷ ys) x = ap (λ (l : List _). f y ∷ l) (map-last f ys x)
 
 -- what is reversed, with one more
-map-reverse : {A B : Type 0} (f : A → B) (x : A) (xs : List A) → map f (reverse (x ∷ xs)) ≡ map f (reverse xs) ++ (f x ∷ [])
+pub map-reverse : {A B : Type 0} (f : A → B) (x : A) (xs : List A) → map f (reverse (x ∷ xs)) ≡ map f (reverse xs) ++ (f x ∷ [])
 map-reverse f x xs = ap (map f) (reverse-cons x xs) ∙ map-last f (reverse xs) x
 
 -- the steps at a block's places are its steps in file order

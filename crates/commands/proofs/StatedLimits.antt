@@ -45,7 +45,7 @@ pub each-more : {A : Type 0} (P : A → Type 0) {a : A} {l : List A} → P a →
 each-more P h every x m = ⊎-elim (λ e. subst P (sym e) h) (every x) (List·Memᴰ·cases-cons m)
 
 -- the list turned round and mapped
-mem-reverse : {A : Type 0} {x : A} (l : List A) → List·Memᴰ x (reverse l) → List·Memᴰ x l
+pub mem-reverse : {A : Type 0} {x : A} (l : List A) → List·Memᴰ x (reverse l) → List·Memᴰ x l
 mem-reverse [] m = m
 mem-reverse {x = x} (y ∷ l) m =
     ⊎-elim (λ n. List·Memᴰ·tail (mem-reverse l n)) (λ n. List·Memᴰ·head (List·Memᴰ·eq-of-singleton n))
@@ -345,7 +345,7 @@ known-one : (b : Bool) (p : ℕ) → cond b [] (p ∷ []) ≡ [] → b ≡ true
 known-one true p e = refl
 known-one false p e = cc
 
-known-in : (n : ℕ) (ns : List Name) → unknownIn n ns ≡ [] → Each (λ j. j < n) (typesOf ns)
+pub known-in : (n : ℕ) (ns : List Name) → unknownIn n ns ≡ [] → Each (λ j. j < n) (typesOf ns)
 known-in n [] e = each-none (λ j. j < n) [] refl
 known-in n (x ∷ ns) e =
     let r = none-both (unknownIn n ns) _ e in

@@ -219,6 +219,13 @@ blockBy d =
 unfoldable pub schemaBy : Stated → Schema
 schemaBy g = record { tags = g .tags; blocks = map blockBy (reverse (g .blocks)); roots = reverse (g .roots) }
 
+-- the places of the TYPEs in order, and that of the type a
+abbrev pub typePlaces : Stated → List ℕ
+typePlaces g = map (λ d. d .place) (reverse (g .blocks))
+
+abbrev pub typePlace : Stated → ℕ → ℕ
+typePlace g a = getD (typePlaces g) a 0
+
 -- the places of the names, in file order, that are no type below the count
 abbrev pub unknownIn : ℕ → List Name → List ℕ
 unknownIn types [] = []

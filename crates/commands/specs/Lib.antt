@@ -4,6 +4,7 @@ pub mod Questions
 pub mod File
 pub mod Value
 pub mod Written
+pub mod TypePlaces
 pub mod Answer
 pub mod Progress
 pub mod Laying

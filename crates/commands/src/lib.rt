@@ -4,7 +4,9 @@ mod laying;
 mod progress;
 mod questions;
 mod tables;
+mod type_places;
 
 pub use commands::StatedSchema;
 pub use commands::no_schema;
 pub use commands::read_commands;
+pub use type_places::type_place;

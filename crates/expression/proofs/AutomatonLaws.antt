@@ -89,7 +89,7 @@ module _ (e : Expression) where
       let b = mem-steps-by e p l y .0 n in
       inr (a .0 ∙ sym (b .0), inl (omega (arith, a .1, b .1)))) 0 mostTypes
 
-  steps-sorted : Sorted Before (allSteps e)
+  pub steps-sorted : Sorted Before (allSteps e)
   steps-sorted =
       sorted-of-each Before (stepsFrom e) from-sorted
       (λ k l x y h m n. inl (omega (arith, mem-steps-from e k x .0 m .0, mem-steps-from e l y .0 n .0))) 0 (suc (uses e))

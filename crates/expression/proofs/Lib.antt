@@ -6,11 +6,14 @@ pub mod EachLaws
 pub mod TestLaws
 pub mod AutomatonLimits
 pub mod AutomatonLaws
+pub mod RelabelledAutomata
 pub mod SampleExpressions
 pub mod WholeContents
+pub mod ExpressionParts
 pub mod SampleContents
 pub mod TestSets
 pub mod ScanLaws
+pub mod RelabelledContents
 pub mod CommandTests
 pub mod SetLaws
 pub mod ReadLaws

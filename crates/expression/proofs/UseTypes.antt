@@ -13,12 +13,12 @@ use Rattle.expression.proofs.Chains.{Pieces, no-piece, piece, pieces-ma
 use Rattle.expression.proofs.UseWords.{sequence-words, choice-words, repeat-words, words-repeat}
 
 -- the expression with h of each type in its place
-abbrev renamed : (ℕ → ℕ) → Expression → Expression
-renamed h emptyWord = emptyWord
-renamed h (single j) = single (h j)
-renamed h (sequence e f) = sequence (renamed h e) (renamed h f)
-renamed h (choice e f) = choice (renamed h e) (renamed h f)
-renamed h (repeat e) = repeat (renamed h e)
+abbrev pub relabelExpression : (ℕ → ℕ) → Expression → Expression
+relabelExpression h emptyWord = emptyWord
+relabelExpression h (single j) = single (h j)
+relabelExpression h (sequence e f) = sequence (relabelExpression h e) (relabelExpression h f)
+relabelExpression h (choice e f) = choice (relabelExpression h e) (relabelExpression h f)
+relabelExpression h (repeat e) = repeat (relabelExpression h e)
 
 -- w is h of each number of a list of P.
 pub record Image (h : ℕ → ℕ) (P : List ℕ → Type 0) (w : List ℕ) : Type 0 where
@@ -42,17 +42,17 @@ pieces-image : {h : ℕ → ℕ} {P : List ℕ → Type 0} {w : List ℕ} → Pi
 pieces-image no-piece = record { list = []; is-one = no-piece; types = refl }
 pieces-image (piece a r) = image-append (λ u t. piece) a (pieces-image r)
 
--- The words of the renamed expression are the words of the expression, renamed.
-renamed-word : (h : ℕ → ℕ) {e : Expression} {w : List ℕ} → Denotes e w → Denotes (renamed h e) (map h w)
-renamed-word h of-empty = of-empty
-renamed-word h (of-single j) = of-single (h j)
-renamed-word h (of-sequence {v = v} {w = w} a b) = rw (map-append h v w) (of-sequence (renamed-word h a) (renamed-word h b))
-renamed-word h (of-first a) = of-first (renamed-word h a)
-renamed-word h (of-second a) = of-second (renamed-word h a)
-renamed-word h of-none = of-none
-renamed-word h (of-more {v = v} {w = w} a r) = rw (map-append h v w) (of-more (renamed-word h a) (renamed-word h r))
+-- The words of the relabelled expression are the words of the expression, relabelled.
+relabelled-word : (h : ℕ → ℕ) {e : Expression} {w : List ℕ} → Denotes e w → Denotes (relabelExpression h e) (map h w)
+relabelled-word h of-empty = of-empty
+relabelled-word h (of-single j) = of-single (h j)
+relabelled-word h (of-sequence {v = v} {w = w} a b) = rw (map-append h v w) (of-sequence (relabelled-word h a) (relabelled-word h b))
+relabelled-word h (of-first a) = of-first (relabelled-word h a)
+relabelled-word h (of-second a) = of-second (relabelled-word h a)
+relabelled-word h of-none = of-none
+relabelled-word h (of-more {v = v} {w = w} a r) = rw (map-append h v w) (of-more (relabelled-word h a) (relabelled-word h r))
 
-word-image : (h : ℕ → ℕ) (e : Expression) (w : List ℕ) → Denotes (renamed h e) w → Image h (Denotes e) w
+word-image : (h : ℕ → ℕ) (e : Expression) (w : List ℕ) → Denotes (relabelExpression h e) w → Image h (Denotes e) w
 word-image h emptyWord w of-empty = record { list = []; is-one = of-empty; types = refl }
 word-image h (single j) w (of-single k) = record { list = j ∷ []; is-one = of-single j; types = refl }
 word-image h (sequence e f) w d =
@@ -85,16 +85,16 @@ module _ (h : ℕ → ℕ) (n : ℕ) (e f : Expression)
       rw (place, t (uses e + i) (omega arith), ← named-uses e) (getD-append-add (named e) (named f) i 0)
 
 -- so the numbered expression with the types in place of the numbers is the expression
-renamed-numbered : (h : ℕ → ℕ) (n : ℕ) (e : Expression) → Types h n e → renamed h (numbered n e) ≡ e
-renamed-numbered h n emptyWord t = refl
-renamed-numbered h n (single j) t =
+relabelled-numbered : (h : ℕ → ℕ) (n : ℕ) (e : Expression) → Types h n e → relabelExpression h (numbered n e) ≡ e
+relabelled-numbered h n emptyWord t = refl
+relabelled-numbered h n (single j) t =
     let place : n ≡ n + 0 = omega arith in
     ap single (ap h place ∙ t 0 (omega arith))
-renamed-numbered h n (sequence e f) t =
-    rw (renamed-numbered h n e (types-first h n e f t), renamed-numbered h (n + uses e) f (types-second h n e f t))
-renamed-numbered h n (choice e f) t =
-    rw (renamed-numbered h n e (types-first h n e f t), renamed-numbered h (n + uses e) f (types-second h n e f t))
-renamed-numbered h n (repeat e) t = ap repeat (renamed-numbered h n e t)
+relabelled-numbered h n (sequence e f) t =
+    rw (relabelled-numbered h n e (types-first h n e f t), relabelled-numbered h (n + uses e) f (types-second h n e f t))
+relabelled-numbered h n (choice e f) t =
+    rw (relabelled-numbered h n e (types-first h n e f t), relabelled-numbered h (n + uses e) f (types-second h n e f t))
+relabelled-numbered h n (repeat e) t = ap repeat (relabelled-numbered h n e t)
 
 numbered-types : (e : Expression) → Types (typeOfUse e) 1 e
 numbered-types e i l =
@@ -104,7 +104,7 @@ numbered-types e i l =
 -- A word of the expression is the types of a word of uses.
 pub word-types : (e : Expression) (w : List ℕ) → Denotes e w ↔ Image (typeOfUse e) (UseWord e) w
 word-types e w =
-    let same = renamed-numbered (typeOfUse e) 1 e (numbered-types e) in (
+    let same = relabelled-numbered (typeOfUse e) 1 e (numbered-types e) in (
       λ d. word-image (typeOfUse e) (numbered 1 e) w (rw same d),
-      λ a. rw (a .types) (rw same at (renamed-word (typeOfUse e) (a .is-one))),
+      λ a. rw (a .types) (rw same at (relabelled-word (typeOfUse e) (a .is-one))),
     )

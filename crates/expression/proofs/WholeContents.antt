@@ -94,7 +94,7 @@ closed-same : (ls : List Level) (r : SoFar) → r .around ≡ ls → namedSoFar 
 closed-same [] r e = refl
 closed-same (l ∷ ls) r e = rw (e, named-level (r .level)) (simp append-assoc)
 
-closed-names : (ls : List Level) (r : SoFar) → r .names ≡ closed ls r .names
+pub closed-names : (ls : List Level) (r : SoFar) → r .names ≡ closed ls r .names
 closed-names [] r = refl
 closed-names (l ∷ ls) r = refl
 
@@ -191,11 +191,11 @@ part-passes r (Expression x) z =
 part-passes r NoCommand z = absurd (omega arith)
 
 -- a refusal is no whole expression
-not-broken : {A : Type 0} {n q p : ℕ} {e : Exp} {ns : List Name} → broken n q ≡ whole e ns p → A
+pub not-broken : {A : Type 0} {n q p : ℕ} {e : Exp} {ns : List Name} → broken n q ≡ whole e ns p → A
 not-broken h = absurd (let z : _≡_ {A = ℕ} 0 1 = cc in omega arith)
 
 -- one turn: the command ends the expression, or the rest follows
-turn : {R : Type 0} (a b : Bool) (n i : ℕ) {ended rest : Content} {e : Exp} {ns : List Name} {p : ℕ}
+pub turn : {R : Type 0} (a b : Bool) (n i : ℕ) {ended rest : Content} {e : Exp} {ns : List Name} {p : ℕ}
     → cond a (cond b ended rest) (broken n i) ≡ whole e ns p
     → (a ≡ true → b ≡ true → ended ≡ whole e ns p → R) → (a ≡ true → b ≡ false → rest ≡ whole e ns p → R) → R
 turn true true n i h last more = last refl refl h
@@ -218,7 +218,7 @@ ended-whole {file} {i} {m} {r} h l none =
     outside [] e = refl
     outside (x ∷ ls) e = absurd (omega arith)
 
-end-only : (x : Part) → isEnd x ≡ true → x ≡ End
+pub end-only : (x : Part) → isEnd x ≡ true → x ≡ End
 end-only OpenBracket e = absurd (let z : _≡_ {A = ℕ} 0 1 = cc in omega arith)
 end-only CloseBracket e = absurd (let z : _≡_ {A = ℕ} 0 1 = cc in omega arith)
 end-only (Use j) e = absurd (let z : _≡_ {A = ℕ} 0 1 = cc in omega arith)
