@@ -1,4 +1,4 @@
--- What each answer of the two calls about competition means.
+-- What each answer of the calls about competition means.
 use mathlib.Core.Path.{_≡_, refl, ap, _∙_}
 use mathlib.Core.Logic.{inl, inr}
 use mathlib.Core.Bool.{true, false}
@@ -8,15 +8,11 @@ use native.Mathlib.Omega.{arith}
 use lib.ListN.{length}
 use Rattle.sdtd.specs.Limits.{leastWitness}
 use Rattle.sdtd.specs.Schema.{Schema, WithinLimits}
-use Rattle.sdtd.specs.Trim.{SomeRootBears}
 use Rattle.sdtd.specs.Competition.{Competition, of-roots, in-type, Witness, by-roots, by-types}
-use Rattle.sdtd.specs.Answer.{Ordered}
 use Rattle.sdtd.specs.Numbered.{typeNo}
-use Rattle.sdtd.proofs.Verdicts.{other-number, refused-not-fine}
 use Rattle.sdtd.proofs.Witnesses.{partsOf}
-use Rattle.sdtd.specs.declared.Verdict.the-variants.{Fine, RefusedAt}
 use Rattle.competition.specs.Witness.{headOf}
-use Rattle.competition.specs.Search.{Written, SearchMeans, judgeQuestions, JudgeMeans}
+use Rattle.competition.specs.Search.{Written, SearchMeans}
 use Rattle.competition.specs.Queue.{CompetesMeans}
 use Rattle.competition.specs.declared.search.Searched.the-variants.{ShortBuffer, OutsideLimits, Restrained, Competes}
 
@@ -44,24 +40,14 @@ head-written w rest =
     ∙ (λ i. record { of = typeNo (p .parent); first = typeNo (p .first); second = typeNo (p .second); word = long i })
 
 module _ (S : Schema) (was : List ℕ) where
-  -- a refusal by another number leaves the buffer as it was
-  unwritten : (n : ℕ) → ¬ (n ≡ 9) → Ordered (judgeQuestions S was) (λ a. a ≡ Fine) (RefusedAt n 0) → JudgeMeans S was was (RefusedAt n 0)
-  unwritten n d a = record { answer = a; written = λ e. absurd (other-number refl d e); unchanged = λ o. refl }
-
   pub short-searched : length was < leastWitness → SearchMeans S was was ShortBuffer
   short-searched l =
       record { answer = inl (λ h. omega arith, refl); written = λ e. absurd (omega arith); unchanged = λ d. refl }
-
-  pub short-judged : length was < leastWitness → JudgeMeans S was was (RefusedAt 1 0)
-  short-judged l = unwritten 1 (λ e. omega arith) (inl (λ h. omega arith, refl))
 
   module _ (long : leastWitness ≤ length was) where
     pub outside-searched : ¬ WithinLimits S → SearchMeans S was was OutsideLimits
     outside-searched o =
         record { answer = inr (long, inl (o, refl)); written = λ e. absurd (omega arith); unchanged = λ d. refl }
-
-    pub outside-judged : ¬ WithinLimits S → JudgeMeans S was was (RefusedAt 10 0)
-    outside-judged o = unwritten 10 (λ e. omega arith) (inr (long, inl (o, refl)))
 
     module _ (within : WithinLimits S) where
       pub competing-searched : {is : List ℕ} → CompetesMeans S was is true → SearchMeans S was is Competes
@@ -79,23 +65,3 @@ module _ (S : Schema) (was : List ℕ) where
             written = λ e. absurd (omega arith);
             unchanged = λ d. n .1;
           }
-
-      pub treeless-judged : ¬ SomeRootBears S → JudgeMeans S was was (RefusedAt 8 0)
-      treeless-judged d = unwritten 8 (λ e. omega arith) (inr (long, inr (within, inl (d, refl))))
-
-      module _ (bears : SomeRootBears S) where
-        pub competing-judged : {is : List ℕ} → CompetesMeans S was is true → JudgeMeans S was is (RefusedAt 9 0)
-        competing-judged w =
-            record {
-              answer = inr (long, inr (within, inr (bears, inl (λ n. n (written-competes w), refl))));
-              written = λ e. w;
-              unchanged = λ d. absurd (d refl);
-            }
-
-        pub restrained-judged : {is : List ℕ} → CompetesMeans S was is false → JudgeMeans S was is Fine
-        restrained-judged n =
-            record {
-              answer = inr (long, inr (within, inr (bears, inr (n .0, refl))));
-              written = λ e. refused-not-fine e refl;
-              unchanged = λ d. n .1;
-            }

@@ -11,4 +11,5 @@ pub mod Shortest
 pub mod SearchMeaning
 pub mod RootLaws
 pub mod Answers
+pub mod Judged
 pub mod OneWitness

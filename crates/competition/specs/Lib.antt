@@ -1,4 +1,4 @@
--- Competition. `Rows`, `Marks`, `Rivals`, `Queue` and `Roots` say what the private loops compute; no public promise cites them.
+-- Competition. `Rows`, `Marks`, `Rivals`, `Queue`, `Roots` and `Unused` say what the private functions compute; no public promise cites them.
 pub mod Questions
 pub mod Search
 pub mod Witness
@@ -7,3 +7,4 @@ pub mod Marks
 pub mod Rivals
 pub mod Queue
 pub mod Roots
+pub mod Unused

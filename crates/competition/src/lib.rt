@@ -5,11 +5,13 @@ mod rivals;
 mod roots;
 mod rows;
 mod search;
+mod verdict;
 mod witness;
 
 pub use search::Searched;
 pub use search::competition;
-pub use search::judge;
+pub use verdict::judge;
+pub use verdict::judge_reduced;
 pub use witness::LEAST_WITNESS;
 pub use witness::WORD_PLACE;
 pub use witness::WitnessHead;

@@ -1,5 +1,5 @@
-// The search for competition: two roots of one tag; then type by type, breadth first over unordered pairs of states; and the two calls that
-// answer by it.
+// The search for competition: two roots of one tag; then type by type, breadth first over unordered pairs of states; and the call that answers by
+// it.
 use crate::entries::first_of;
 use crate::entries::second_of;
 use crate::marks::search_from;
@@ -7,7 +7,6 @@ use crate::rivals::Rivals;
 use crate::rivals::rivals_at;
 use crate::roots::opening_types;
 use crate::roots::rival_roots;
-use crate::roots::some_opens;
 use crate::rows::row_of;
 use crate::witness::LEAST_WITNESS;
 use crate::witness::NO_PARENT;
@@ -24,7 +23,6 @@ use schema::Trimming;
 use schema::opens;
 use schema::trim;
 use sdtd::TypeNo;
-use sdtd::Verdict;
 ghost use Prim.Native.Nat.{_<_, _≤_};
 ghost use lib.ListN.{length};
 ghost use Rattle.sdtd.specs.Limits.{mostTypes, leastWitness};
@@ -36,7 +34,7 @@ ghost use Rattle.schema.specs.Value.{meaning};
 ghost use Rattle.schema.specs.Rows.{RowsInside, RowsMean};
 ghost use Rattle.competition.specs.Queue.{PairFoundMeans, SearchedAt, CompetingMeans, CompetesMeans};
 ghost use Rattle.competition.specs.Roots.{OpensExactly, RootsCompeteMeans};
-ghost use Rattle.competition.specs.Search.{SearchMeans, JudgeMeans};
+ghost use Rattle.competition.specs.Search.{SearchMeans};
 
 // What the search of a schema answers.
 pub enum Searched {
@@ -191,7 +189,7 @@ fn types_compete<'a>(
 }
 
 // The search of a schema inside the limits by its trimming, its roots' ways and its rows. Roots are looked at before all else.
-fn competes<'a>(
+pub(crate) fn competes<'a>(
     schema: Schema,
     trimming: Trimming,
     opening: &[u8; TYPES],
@@ -227,27 +225,4 @@ pub fn competition(schema: Schema, witness: &mut [u8]) -> Searched
         return Searched::Competes;
     }
     Searched::Restrained
-}
-
-// The verdict on a schema: does a root type bear a tree, and is there no competition?
-pub fn judge(schema: Schema, witness: &mut [u8]) -> Verdict
-    ensures { λ r. ⌜ JudgeMeans (meaning schema) (now (witness .entry)) (now (witness .exit)) r ⌝ }
-{
-    if witness.len() < LEAST_WITNESS {
-        return Verdict::RefusedAt(1, 0);
-    }
-    let mut entries = [0u32; STEPS];
-    let mut begins = [0u16; BEGINS];
-    let trimming = trim(schema, &mut entries, &mut begins);
-    if !trimming.inside {
-        return Verdict::RefusedAt(10, 0);
-    }
-    let opening = opening_types(schema, trimming);
-    if !some_opens(&opening) {
-        return Verdict::RefusedAt(8, 0);
-    }
-    if competes(schema, trimming, &opening, &entries, &begins, witness) {
-        return Verdict::RefusedAt(9, 0);
-    }
-    Verdict::Fine
 }
