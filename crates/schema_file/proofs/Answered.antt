@@ -1,29 +1,36 @@
 -- What each answer of the schema file's call means.
 use mathlib.Core.Path.{_≡_, refl, sym, ap, subst, _∙_}
 use mathlib.Core.Logic.{_≢_, inl, inr, ⊎-elim}
-use mathlib.Core.List.{List, []}
+use mathlib.Core.List.{List, [], _∷_}
 use Prim.Native.Nat.{ℕ, _≤_, _<_}
 use native.Mathlib.Omega.{arith}
 use lib.ListN.{length, getD}
-use Rattle.sdtd.specs.Limits.{leastWitness}
+use Rattle.sdtd.specs.Limits.{mostTypes, leastWitness}
 use Rattle.sdtd.specs.Schema.{Schema as Meaning, WithinLimits}
 use Rattle.sdtd.specs.Trim.{SomeRootBears}
+use Rattle.sdtd.specs.Reduced.{EveryTypeUsed}
 use Rattle.sdtd.specs.Competition.{Competition}
+use Rattle.sdtd.specs.Answer.{Ordered}
+use Rattle.sdtd.proofs.UsedAsked.{FirstUnused, every-type-ordered}
 use Rattle.sdtd.proofs.Verdicts.{same-number, same-place, other-number, refused-not-fine}
 use Rattle.schema.specs.Value.{meaning}
-use Rattle.competition.specs.Search.{Written, JudgeMeans}
+use Rattle.competition.specs.Questions.{competitionAsked}
+use Rattle.competition.specs.Search.{Written, questionsOf, ReducedMeans}
 use Rattle.competition.proofs.Answers.{witness-competes}
 use Rattle.schema.specs.declared.value.Schema.{Schema}
-use Rattle.commands.specs.File.{Stated, Commands, stopped, states, commands, schemaBy, unknown}
+use Rattle.commands.specs.File.{Stated, Commands, stopped, states, commands, schemaBy, typePlace, unknown}
 use Rattle.sdtd.specs.declared.Verdict.{Verdict}
 use Rattle.sdtd.specs.declared.Verdict.the-variants.{Fine, RefusedAt}
 use Rattle.commands.specs.declared.commands.StatedSchema.{StatedSchema}
 use Rattle.commands.proofs.Passing.{stopped-before}
 use Rattle.commands.proofs.StatedLimits.{stated-within}
+use Rattle.commands.proofs.TypePlaces.{type-place-stated}
 use Rattle.commands.specs.Value.{StatedValue, noSchema}
 use Rattle.commands.specs.Answer.{CommandsBy}
 use Rattle.schema_file.specs.Answer.{AnswerIs, AnswerBy, BufferBy, SchemaBy, FileMeans}
+use Rattle.schema_file.specs.Place.{placeIn}
 use Rattle.schema_file.specs.declared.file.SchemaFile.{SchemaFile}
+use Rattle.schema_file.proofs.AfterDone.{UnusedAt, unused, competing, accepted, after-answer}
 
 -- a refusal with no schema beside it
 abbrev pub refusal : ℕ → ℕ → SchemaFile
@@ -61,22 +68,26 @@ module _ (file was : List ℕ) where
         treeless-means d = refused-means 8 0 (omega arith) (answered (inr (known, inl (d, refl))))
 
         module _ (bears : SomeRootBears (schemaBy g)) where
-          pub compete-means : (is : List ℕ) → Written (schemaBy g) was is → FileMeans file was is (refusal 9 0)
-          compete-means is w =
-              record {
-                answer = answered (inr (known, inr (bears, inl (λ n. n (witness-competes (w .witness)), refl))));
-                buffer = subst (λ (k : Commands). BufferBy k was is (RefusedAt 9 0)) (sym e) (λ q. w, λ d. absurd (d refl));
-                schema = no-schema (commands file) 9 0;
-              }
+          pub unused-means : {p : ℕ} → UnusedAt g (RefusedAt 24 p) → FileMeans file was was (refusal 24 p)
+          unused-means {p} f = refused-means 24 p (omega arith) (answered (after-answer g (RefusedAt 24 p) (unused known bears f)))
 
-          pub accepted-means : (v : Schema) → StatedValue g v → ¬ Competition (schemaBy g)
-              → FileMeans file was was (record { answer = Fine; schema = v })
-          accepted-means v m n =
-              record {
-                answer = answered (inr (known, inr (bears, inr (n, refl))));
-                buffer = subst (λ (k : Commands). BufferBy k was was Fine) (sym e) (λ q. refused-not-fine q refl, λ d. refl);
-                schema = subst (λ (k : Commands). SchemaBy k v Fine) (sym e) (λ q. m, λ d. absurd (d refl));
-              }
+          module _ (used : EveryTypeUsed (schemaBy g)) where
+            pub compete-means : (is : List ℕ) → Written (schemaBy g) was is → FileMeans file was is (refusal 9 0)
+            compete-means is w =
+                record {
+                  answer = answered (after-answer g (RefusedAt 9 0) (competing known bears used (λ n. n (witness-competes (w .witness))) refl));
+                  buffer = subst (λ (k : Commands). BufferBy k was is (RefusedAt 9 0)) (sym e) (λ q. w, λ d. absurd (d refl));
+                  schema = no-schema (commands file) 9 0;
+                }
+
+            pub accepted-means : (v : Schema) → StatedValue g v → ¬ Competition (schemaBy g)
+                → FileMeans file was was (record { answer = Fine; schema = v })
+            accepted-means v m n =
+                record {
+                  answer = answered (after-answer g Fine (accepted known bears used n refl));
+                  buffer = subst (λ (k : Commands). BufferBy k was was Fine) (sym e) (λ q. refused-not-fine q refl, λ d. refl);
+                  schema = subst (λ (k : Commands). SchemaBy k v Fine) (sym e) (λ q. m, λ d. absurd (d refl));
+                }
 
 -- the same for a result whose answer is the refusal
 pub as-refusal : {file was is : List ℕ} {r : SchemaFile} {n p : ℕ} → (r .answer ≡ RefusedAt n p) × (r .schema ≡ noSchema)
@@ -124,47 +135,69 @@ value-within {file} s =
     subst WithinLimits (sym (s .value .schema)) (stated-within file (s .stated) (s .commands-state) (s .known))
 
 -- the answer to a file whose value gets the verdict
-abbrev pub judgedFile : Schema → Verdict → SchemaFile
-judgedFile v (RefusedAt n p) = refusal n p
-judgedFile v Fine = record { answer = Fine; schema = v }
+abbrev pub judgedFile : List ℕ → Schema → Verdict → SchemaFile
+judgedFile file v (RefusedAt n p) = refusal n (placeIn file n p)
+judgedFile file v Fine = record { answer = Fine; schema = v }
+
+-- what the questions of a schema inside the limits leave, where the buffer is long enough
+abbrev Unused : Meaning → Verdict → Type 0
+Unused S r = FirstUnused S 0 (length (S .blocks)) (λ k. RefusedAt 24 k) r
+
+judged-cases : {R : Type 0} {S : Meaning} {was is : List ℕ} {r : Verdict} → ReducedMeans S was is r → leastWitness ≤ length was → WithinLimits S
+    → (¬ SomeRootBears S → r ≡ RefusedAt 8 0 → R) → (SomeRootBears S → Unused S r → R)
+    → (SomeRootBears S → EveryTypeUsed S → r ≡ RefusedAt 9 0 → R)
+    → (SomeRootBears S → EveryTypeUsed S → ¬ Competition S → r ≡ Fine → R) → R
+judged-cases {R} {S} {was} {is} {r} m long within f8 f24 f9 f0 = by-answer (m .answer)
+  where
+    by-answer : Ordered (questionsOf S was (length (S .blocks))) (λ a. a ≡ Fine) r → R
+    by-answer (inl o) = absurd (o .0 long)
+    by-answer (inr (l, inl o)) = absurd (o .0 within)
+    by-answer (inr (l, inr (w, inl o))) = f8 (o .0) (o .1)
+    by-answer (inr (l, inr (w, inr (b, o)))) =
+        ⊎-elim (λ u. f24 b u) (λ p. ⊎-elim (λ c. f9 b (p .0) (c .1)) (λ n. f0 b (p .0) (n .0) (n .1)) (p .1))
+        (every-type-ordered (λ k. RefusedAt 24 k) S (competitionAsked (RefusedAt 9 0) S ∷ []) (λ a. a ≡ Fine) r .0 o)
+
+-- the place of a 24 is a type
+pub judged-type : {S : Meaning} {was is : List ℕ} {n p : ℕ} → ReducedMeans S was is (RefusedAt n p) → leastWitness ≤ length was → WithinLimits S
+    → n ≡ 24 → p < mostTypes
+judged-type {n = n} {p = p} m long within z =
+    judged-cases m long within
+    (λ d e. absurd (omega (arith, same-number e)))
+    (λ b u. omega (arith, same-place (u .answer), u .below, within .types-most))
+    (λ b u e. absurd (omega (arith, same-number e)))
+    (λ b u d e. refused-not-fine refl e)
 
 -- The verdict on the value that the commands gave is the file's.
 module _ {file : List ℕ} {v : Schema} (s : Passed file v) (was : List ℕ) (long : leastWitness ≤ length was) {is : List ℕ} {r : Verdict}
-    (m : JudgeMeans (meaning v) was is r) where
-  judged-as : {a : Verdict} → r ≡ a → FileMeans file was is (judgedFile v a) → FileMeans file was is (judgedFile v r)
-  judged-as e f = subst (λ (a : Verdict). FileMeans file was is (judgedFile v a)) (sym e) f
+    (given : ReducedMeans (meaning v) was is r) where
+  abbrev stated : Stated
+  stated = s .stated
+
+  m : ReducedMeans (schemaBy stated) was is r
+  m = subst (λ (S : Meaning). ReducedMeans S was is r) (s .value .schema) given
+
+  judged-as : {a : Verdict} → r ≡ a → FileMeans file was is (judgedFile file v a) → FileMeans file was is (judgedFile file v r)
+  judged-as e f = subst (λ (a : Verdict). FileMeans file was is (judgedFile file v a)) (sym e) f
 
   -- with another verdict than 9 the buffer is as it was
-  unchanged-as : {a : Verdict} → r ≡ a → ¬ (a ≡ RefusedAt 9 0) → FileMeans file was was (judgedFile v a) → FileMeans file was is (judgedFile v r)
+  unchanged-as : {a : Verdict} → r ≡ a → ¬ (a ≡ RefusedAt 9 0) → FileMeans file was was (judgedFile file v a)
+      → FileMeans file was is (judgedFile file v r)
   unchanged-as {a} e n f =
-      judged-as e (subst (λ (l : List ℕ). FileMeans file was l (judgedFile v a)) (sym (m .unchanged (λ q. n (sym e ∙ q)))) f)
+      judged-as e (subst (λ (l : List ℕ). FileMeans file was l (judgedFile file v a)) (sym (m .unchanged (λ q. n (sym e ∙ q)))) f)
 
-  treeless : ¬ SomeRootBears (meaning v) → r ≡ RefusedAt 8 0 → FileMeans file was is (judgedFile v r)
-  treeless n e =
-      unchanged-as e (other-number refl (λ z. omega arith))
-      (treeless-means file was long (s .commands-state) (s .known) (λ b. n (subst SomeRootBears (sym (s .value .schema)) b)))
+  -- the TYPE of the first type that is not used stands where the file states it
+  unused-as : SomeRootBears (schemaBy stated) → Unused (schemaBy stated) r → FileMeans file was is (judgedFile file v r)
+  unused-as bears u =
+      let here = type-place-stated file (u .type) (s .commands-state) in
+      let first : UnusedAt stated (RefusedAt 24 (typePlace stated (u .type))) =
+      record { type = u .type; from = u .from; below = u .below; unused = u .unused; before = u .before; answer = refl } in
+      unchanged-as (u .answer) (other-number refl (λ z. omega arith))
+      (subst (λ (p : ℕ). FileMeans file was was (refusal 24 p)) (sym here) (unused-means file was long (s .commands-state) (s .known) bears first))
 
-  module _ (bears : SomeRootBears (meaning v)) where
-    root-bears : SomeRootBears (schemaBy (s .stated))
-    root-bears = subst SomeRootBears (s .value .schema) bears
-
-    competing : r ≡ RefusedAt 9 0 → FileMeans file was is (judgedFile v r)
-    competing e =
-        judged-as e
-        (compete-means file was long (s .commands-state) (s .known) root-bears is
-        (subst (λ (S : Meaning). Written S was is) (s .value .schema) (m .written e)))
-
-    restrained : ¬ Competition (meaning v) → r ≡ Fine → FileMeans file was is (judgedFile v r)
-    restrained n e =
-        unchanged-as e (λ q. refused-not-fine q refl)
-        (accepted-means file was long (s .commands-state) (s .known) root-bears v (s .value)
-        (subst (λ (S : Meaning). ¬ Competition S) (s .value .schema) n))
-
-  pub judged-means : FileMeans file was is (judgedFile v r)
+  pub judged-means : FileMeans file was is (judgedFile file v r)
   judged-means =
-      ⊎-elim (λ o. absurd (o .0 long))
-      (λ o.
-      ⊎-elim (λ p. absurd (p .0 (value-within s)))
-      (λ p.
-      ⊎-elim (λ q. treeless (q .0) (q .1))
-      (λ q. ⊎-elim (λ c. competing (q .0) (c .1)) (λ c. restrained (q .0) (c .0) (c .1)) (q .1)) (p .1)) (o .1)) (m .answer)
+      judged-cases m long (stated-within file stated (s .commands-state) (s .known))
+      (λ d e. unchanged-as e (other-number refl (λ z. omega arith)) (treeless-means file was long (s .commands-state) (s .known) d))
+      unused-as
+      (λ b u e. judged-as e (compete-means file was long (s .commands-state) (s .known) b u is (m .written e)))
+      (λ b u n e. unchanged-as e (λ q. refused-not-fine q refl) (accepted-means file was long (s .commands-state) (s .known) b u v (s .value) n))

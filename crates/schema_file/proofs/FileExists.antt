@@ -1,7 +1,7 @@
 -- A schema file has exactly one answer, and for that answer there is a buffer after the call.
 use mathlib.Core.Path.{_≡_, refl}
 use mathlib.Core.Logic.{inl, inr, ⊎-elim}
-use mathlib.Core.List.{List, [], _∷_, _++_, cons≢nil}
+use mathlib.Core.List.{List, [], _∷_, _++_}
 use Prim.Native.Nat.{ℕ, _≤_}
 use native.Mathlib.Omega.{arith}
 use lib.ListN.{length, drop}
@@ -14,23 +14,20 @@ use Rattle.sdtd.proofs.Tests.{to-dec, le-means}
 use Rattle.sdtd.proofs.Verdicts.{other-number, refused-not-fine}
 use Rattle.sdtd.proofs.Roots.{some-root-bears-means}
 use Rattle.sdtd.proofs.LiveStates.{live-table}
-use Rattle.sdtd.proofs.Competing.{competition-decided}
+use Rattle.sdtd.proofs.Basics.{none-decided}
+use Rattle.sdtd.proofs.Competing.{competition-decided, restrained-decided}
 use Rattle.sdtd.proofs.Witnesses.{witness-exists}
+use Rattle.sdtd.proofs.UsedAsked.{used-asked-decided}
+use Rattle.competition.specs.Questions.{competitionAsked}
 use Rattle.competition.specs.Search.{Written}
-use Rattle.commands.specs.File.{Stated, Commands, stopped, states, commands, schemaBy, unknown}
+use Rattle.commands.specs.File.{Stated, Commands, stopped, states, commands, schemaBy, typePlace, unknown}
 use Rattle.schema_file.specs.Answer.{afterDone, AnswerBy, AnswerIs, BufferBy}
 use Rattle.sdtd.specs.declared.Verdict.{Verdict}
 use Rattle.sdtd.specs.declared.Verdict.the-variants.{Fine, RefusedAt}
 use Rattle.commands.proofs.Passing.{stopped-before}
 use Rattle.commands.proofs.StatedLimits.{stated-within}
+use Rattle.schema_file.proofs.AfterDone.{AfterDone, unknown-type, treeless, unused, competing, accepted, after-cases}
 use Rattle.schema_file.proofs.FileAnswers.{file-unique}
-
-none-decided : (l : List ℕ) → Dec (l ≡ [])
-none-decided [] = yes refl
-none-decided (x ∷ l) = no cons≢nil
-
-restrained-decided : (S : Meaning) → Dec (¬ Competition S)
-restrained-decided S = ⊎-elim (λ c. no (λ n. n c)) (λ n. yes n) (competition-decided S)
 
 -- the questions after DONE are decided
 after-decided : (g : Stated) → Decided (afterDone g) (λ b. b ≡ Fine)
@@ -38,7 +35,9 @@ after-decided g = (
   none-decided (unknown g),
   λ k. (
     to-dec (some-root-bears-means (live-table (schemaBy g) .1)),
-    λ b. (restrained-decided (schemaBy g), λ n. (Fine, refl)),
+    λ b.
+        used-asked-decided (λ a. RefusedAt 24 (typePlace g a)) (schemaBy g) (competitionAsked (RefusedAt 9 0) (schemaBy g) ∷ []) (λ c. c ≡ Fine)
+        0 (length (schemaBy g .blocks)) (λ u. (restrained-decided (schemaBy g), λ n. (Fine, refl))),
   ),
 )
 
@@ -69,17 +68,22 @@ unchanged k was d = (λ q. absurd (d q), λ e. refl)
 filled : (g : Stated) {was is : List ℕ} {a : Verdict} → a ≡ RefusedAt 9 0 → Written (schemaBy g) was is → BufferBy (states g) was is a
 filled g e w = (λ q. w, λ d. absurd (d e))
 
+after-buffer : (file was : List ℕ) (g : Stated) (a : Verdict) → commands file ≡ states g → AfterDone g a
+    → (is : List ℕ) × BufferBy (states g) was is a
+after-buffer file was g a e (unknown-type n o) = (was, unchanged (states g) was (other-number o (λ z. omega arith)))
+after-buffer file was g a e (treeless k n o) = (was, unchanged (states g) was (other-number o (λ z. omega arith)))
+after-buffer file was g a e (unused k b f) = (was, unchanged (states g) was (other-number (f .answer) (λ z. omega arith)))
+after-buffer file was g a e (competing k b u d o) =
+    ⊎-elim
+    (λ c. let x = written-exists (schemaBy g) was (stated-within file g e k) c in (x .0, filled g o (x .1)))
+    (λ n. absurd (d n))
+    (competition-decided (schemaBy g))
+after-buffer file was g a e (accepted k b u n o) = (was, unchanged (states g) was (λ q. refused-not-fine q o))
+
 by-buffer : (file was : List ℕ) (k : Commands) (a : Verdict) → commands file ≡ k → AnswerBy k a → (is : List ℕ) × BufferBy k was is a
 by-buffer file was (stopped n p) a e r =
     (was, unchanged (stopped n p) was (other-number r (λ z. stopped-before file e (omega arith) (omega arith))))
-by-buffer file was (states g) a e (inl o) = (was, unchanged (states g) was (other-number (o .1) (λ z. omega arith)))
-by-buffer file was (states g) a e (inr (k, inl o)) = (was, unchanged (states g) was (other-number (o .1) (λ z. omega arith)))
-by-buffer file was (states g) a e (inr (k, inr (b, inl o))) =
-    ⊎-elim
-    (λ c. let x = written-exists (schemaBy g) was (stated-within file g e k) c in (x .0, filled g (o .1) (x .1)))
-    (λ n. absurd (o .0 n))
-    (competition-decided (schemaBy g))
-by-buffer file was (states g) a e (inr (k, inr (b, inr (n, o)))) = (was, unchanged (states g) was (λ q. refused-not-fine q o))
+by-buffer file was (states g) a e r = after-buffer file was g a e (after-cases g a r)
 
 pub buffer-exists : (file was : List ℕ) (a : Verdict) → AnswerIs file was a → (is : List ℕ) × BufferBy (commands file) was is a
 buffer-exists file was a (inl o) = (was, unchanged (commands file) was (other-number (o .1) (λ z. omega arith)))

@@ -14,6 +14,7 @@ use Rattle.commands.proofs.Passing.{stopped-before}
 use Rattle.schema_file.specs.Answer.{AnswerBy, AnswerIs, OfStated, FileMeans}
 use Rattle.sdtd.specs.declared.Verdict.the-variants.{RefusedAt}
 use Rattle.schema_file.specs.declared.file.SchemaFile.{SchemaFile}
+use Rattle.schema_file.proofs.AfterDone.{AfterDone, unknown-type, treeless, unused, competing, accepted, after-cases}
 
 -- a file that is answered 9: the place is 0, and it passes questions 2 to 7 and 21 to 23
 record Nine (file : List ℕ) (place : ℕ) : Type 0 where
@@ -22,12 +23,16 @@ record Nine (file : List ℕ) (place : ℕ) : Type 0 where
   passes : commands file ≡ states stated
   known : unknown stated ≡ []
 
+nine-after : (file : List ℕ) {p : ℕ} (g : Stated) → commands file ≡ states g → AfterDone g (RefusedAt 9 p) → Nine file p
+nine-after file g e (unknown-type n o) = absurd (omega (arith, ap verdictNumber o))
+nine-after file g e (treeless k n o) = absurd (omega (arith, ap verdictNumber o))
+nine-after file g e (unused k b f) = absurd (omega (arith, ap verdictNumber (f .answer)))
+nine-after file g e (competing k b u c o) = record { first-place = ap verdictPlace o; stated = g; passes = e; known = k }
+nine-after file g e (accepted k b u n o) = refused-not-fine refl o
+
 nine-by : (file : List ℕ) {p : ℕ} (k : Commands) → commands file ≡ k → AnswerBy k (RefusedAt 9 p) → Nine file p
 nine-by file (stopped n l) e r = let z = ap verdictNumber r in absurd (stopped-before file e (omega arith) (omega arith))
-nine-by file (states g) e (inl o) = absurd (omega (arith, ap verdictNumber (o .1)))
-nine-by file (states g) e (inr (k, inl o)) = absurd (omega (arith, ap verdictNumber (o .1)))
-nine-by file (states g) e (inr (k, inr (b, inl o))) = record { first-place = ap verdictPlace (o .1); stated = g; passes = e; known = k }
-nine-by file (states g) e (inr (k, inr (b, inr (n, o)))) = refused-not-fine refl o
+nine-by file {p} (states g) e r = nine-after file g e (after-cases g (RefusedAt 9 p) r)
 
 nine : (file was : List ℕ) {p : ℕ} → AnswerIs file was (RefusedAt 9 p) → Nine file p
 nine file was (inl o) = absurd (omega (arith, ap verdictNumber (o .1)))

@@ -65,9 +65,9 @@ choiceWith d =
 abbrev pub fileChoice : FileSample
 fileChoice = getsWitness (choiceWith (leaf 3 done)) witnessChoice
 
--- the fifth, "d without an accepting state: accepted."
+-- the fifth, "d without an accepting state": "24, place that of the first such TYPE (the fifth sample among them)", which is that of b2
 abbrev pub fileNoD : FileSample
-fileNoD = gets (choiceWith (0x11 ∷ 3 ∷ 1 ∷ done)) Fine
+fileNoD = gets (choiceWith (0x11 ∷ 3 ∷ 1 ∷ done)) (RefusedAt 24 24)
 
 -- the sixth: 9
 abbrev pub fileTwoWays : FileSample

@@ -1,13 +1,18 @@
-// The schema file's answer: questions 1 to 9 and 21 to 23 in order.
+// The schema file's answer: questions 1 to 9 and 21 to 24 in order.
 use commands::no_schema;
 use commands::read_commands;
+use commands::type_place;
 use competition::LEAST_WITNESS;
-use competition::judge;
+use competition::judge_reduced;
 use schema::Schema;
+use sdtd::TypeNo;
 use sdtd::Verdict;
 ghost use mathlib.Core.Path.{_≡_};
+ghost use Prim.Native.Nat.{_<_};
+ghost use Rattle.sdtd.specs.Limits.{mostTypes};
 ghost use Rattle.commands.specs.Value.{noSchema};
 ghost use Rattle.schema_file.specs.Answer.{FileMeans};
+ghost use Rattle.schema_file.specs.Place.{placeIn};
 
 // The answer, and beside it the accepted schema; beside a refusal, the value of no schema.
 pub struct SchemaFile {
@@ -25,6 +30,17 @@ fn refused(number: u8, place: usize) -> SchemaFile
     }
 }
 
+// The place of a refusal of the file's schema: on 24 the place is a type, and stands for that of its TYPE.
+fn place_in(file: &[u8], number: u8, place: usize) -> usize
+    requires { ⌜ (number ≡ 24 → place < mostTypes) ⌝ }
+    ensures { λ r. ⌜ r ≡ placeIn (now (file .entry)) number place ⌝ }
+{
+    if number == 24 {
+        return type_place(file, TypeNo(place as u8));
+    }
+    place
+}
+
 // The answer to the file; on 9 the witness goes to the buffer.
 pub fn read(file: &[u8], witness: &mut [u8]) -> SchemaFile
     ensures { λ r. ⌜ FileMeans (now (file .entry)) (now (witness .entry)) (now (witness .exit)) r ⌝ }
@@ -38,9 +54,9 @@ pub fn read(file: &[u8], witness: &mut [u8]) -> SchemaFile
         return refused(n, p);
     }
     let schema = all.schema;
-    let judged = judge(schema, witness);
+    let judged = judge_reduced(schema, witness);
     match judged {
-        Verdict::RefusedAt(n, p) => refused(n, p),
+        Verdict::RefusedAt(n, p) => refused(n, place_in(file, n, p)),
         Verdict::Fine => SchemaFile {
             answer: Verdict::Fine,
             schema,

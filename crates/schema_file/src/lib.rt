@@ -1,4 +1,4 @@
-// The schema file: questions 1 to 9 and 21 to 23, and the schema that it states.
+// The schema file: questions 1 to 9 and 21 to 24, and the schema that it states.
 mod file;
 
 pub use file::SchemaFile;

@@ -1,3 +1,4 @@
 -- What the numbers tell.
 pub mod ReadBack
+pub mod ReadWritten
 pub mod ReadDocuments

@@ -1,16 +1,17 @@
--- The answer is read back from its numbers: a schema file's is 0 to 9 or 21 to 23, and no refusal has the number 0, so 0 is accepted alone.
+-- The answer is read back from its numbers: a schema file's is 0 to 9 or 21 to 24, and no refusal has the number 0, so 0 is accepted alone.
 use mathlib.Core.Path.{_≡_, refl, sym, ap, subst, _∙_}
 use mathlib.Core.Logic.{_⊎_, inl, inr, ⊎-elim}
 use mathlib.Core.List.{List}
 use Prim.Native.Nat.{ℕ, _≤_}
 use native.Mathlib.Omega.{arith}
-use Rattle.commands.specs.File.{Commands, stopped, states, commands}
+use Rattle.commands.specs.File.{Stated, Commands, stopped, states, commands}
 use Rattle.commands.proofs.Passing.{stopped-number, stopped-least}
 use Rattle.sdtd.proofs.Verdicts.{verdictNumber, refused-not-fine}
 use Rattle.schema_file.specs.Answer.{AnswerBy, AnswerIs}
 use Rattle.sdtd.specs.declared.Verdict.{Verdict}
 use Rattle.sdtd.specs.declared.Verdict.the-variants.{Fine, RefusedAt}
 use Rattle.reading.specs.declared.event_file.EventFile.{EventFile}
+use Rattle.schema_file.proofs.AfterDone.{AfterDone, unknown-type, treeless, unused, competing, accepted, after-cases}
 use Rattle.schema_file.proofs.OneWitness.{AnsweredNine}
 use Rattle.typing.specs.Job.{JobMeans}
 use Rattle.typing.specs.declared.job.Job.{Job}
@@ -23,7 +24,7 @@ use Rattle.typestock_c.specs.declared.TypestockDocument.{TypestockDocume
 
 -- the numbers that a schema file gets
 abbrev pub SchemaNumber : ℕ → Type 0
-SchemaNumber n = (n ≤ 9) ⊎ ((21 ≤ n) × (n ≤ 23))
+SchemaNumber n = (n ≤ 9) ⊎ ((21 ≤ n) × (n ≤ 24))
 
 -- one of them, but 0
 record InRange (n : ℕ) : Type 0 where
@@ -37,14 +38,18 @@ Known a = (a ≡ Fine) ⊎ InRange (verdictNumber a)
 numbered : {a : Verdict} {n p : ℕ} → a ≡ RefusedAt n p → 1 ≤ n → SchemaNumber n → InRange (verdictNumber a)
 numbered e l m = subst InRange (sym (ap verdictNumber e)) (record { above = l; among = m })
 
--- a command is refused with 2 to 6 or 21 to 23, and after them come 7 to 9
+-- a command is refused with 2 to 6 or 21 to 23, and after them come 7 to 9 and 24
+known-after : (g : Stated) (a : Verdict) → AfterDone g a → Known a
+known-after g a (unknown-type n e) = inr (numbered e (omega arith) (inl (omega arith)))
+known-after g a (treeless k n e) = inr (numbered e (omega arith) (inl (omega arith)))
+known-after g a (unused k b f) = inr (numbered (f .answer) (omega arith) (inr (omega arith)))
+known-after g a (competing k b u c e) = inr (numbered e (omega arith) (inl (omega arith)))
+known-after g a (accepted k b u n e) = inl e
+
 known-by : (file : List ℕ) (k : Commands) (a : Verdict) → commands file ≡ k → AnswerBy k a → Known a
 known-by file (stopped n p) a e r =
-    inr (numbered r (omega (arith, stopped-least file e)) (⊎-elim (λ l. inl (omega arith)) inr (stopped-number file e .1)))
-known-by file (states g) a e (inl o) = inr (numbered (o .1) (omega arith) (inl (omega arith)))
-known-by file (states g) a e (inr (k, inl o)) = inr (numbered (o .1) (omega arith) (inl (omega arith)))
-known-by file (states g) a e (inr (k, inr (b, inl o))) = inr (numbered (o .1) (omega arith) (inl (omega arith)))
-known-by file (states g) a e (inr (k, inr (b, inr (n, o)))) = inl o
+    inr (numbered r (omega (arith, stopped-least file e)) (⊎-elim (λ l. inl (omega arith)) (λ l. inr (omega arith)) (stopped-number file e .1)))
+known-by file (states g) a e r = known-after g a (after-cases g a r)
 
 known : (file was : List ℕ) (a : Verdict) → AnswerIs file was a → Known a
 known file was a (inl o) = inr (numbered (o .1) (omega arith) (inl (omega arith)))
@@ -55,7 +60,7 @@ numbers-among Fine k = inl (omega arith)
 numbers-among (RefusedAt n p) (inl f) = refused-not-fine refl f
 numbers-among (RefusedAt n p) (inr r) = r .among
 
--- A schema's number is 0 to 9 or 21 to 23.
+-- A schema's number is 0 to 9 or 21 to 24.
 pub schema-range : {file was is : List ℕ} {r : TypestockSchema} → SchemaMeans file was is r → SchemaNumber (r .number)
 schema-range {file} {was} m =
     subst (λ (x : TypestockSchema). SchemaNumber (x .number)) (sym (m .numbers))
@@ -88,7 +93,7 @@ schema-nine {was = was} m z =
       answer = nine-by (m .read .answer) (sym (ap (λ (x : TypestockSchema). x .number) (m .numbers)) ∙ z);
     }
 
--- A job's numbers where its schema is refused: the schema's, 1 to 9 or 21 to 23, and its place, twice, and no opening.
+-- A job's numbers where its schema is refused: the schema's, 1 to 9 or 21 to 24, and its place, twice, and no opening.
 pub record RefusedNumbers (r : TypestockDocument) : Type 0 where
   pub above : 1 ≤ r .«schema_number»
   pub among : SchemaNumber (r .«schema_number»)

@@ -4,10 +4,13 @@ use mathlib.Core.List.{List}
 use Prim.Native.Nat.{ℕ}
 use Rattle.schema_file.specs.Answer.{FileMeans}
 use Rattle.schema_file.specs.declared.file.SchemaFile.{SchemaFile}
+use Rattle.sdtd.specs.declared.FileWritten.{FileWritten}
+use Rattle.schema_writer.specs.Answer.{WriteMeans}
 use Rattle.typing.specs.Job.{JobMeans}
 use Rattle.typing.specs.declared.job.Job.{Job}
-use Rattle.typestock_c.specs.Numbers.{schemaNumbers, documentNumbers}
+use Rattle.typestock_c.specs.Numbers.{schemaNumbers, writtenNumbers, documentNumbers}
 use Rattle.typestock_c.specs.declared.TypestockSchema.{TypestockSchema}
+use Rattle.typestock_c.specs.declared.TypestockWritten.{TypestockWritten}
 use Rattle.typestock_c.specs.declared.TypestockDocument.{TypestockDocument}
 
 -- the schema file's answer, the buffer before and after the call
@@ -15,6 +18,12 @@ pub record SchemaMeans (file was is : List ℕ) (r : TypestockSchema) : Type 0 w
   pub read : SchemaFile
   pub means : FileMeans file was is read
   pub numbers : r ≡ schemaNumbers (read .answer)
+
+-- the writer's, the buffer before and after the call
+pub record WrittenMeans (file was is : List ℕ) (r : TypestockWritten) : Type 0 where
+  pub written : FileWritten
+  pub means : WriteMeans file was is written
+  pub numbers : r ≡ writtenNumbers written
 
 -- the whole job's, both buffers before and after the call
 pub record DocumentMeans (schema events wasWitness isWitness wasTypes isTypes : List ℕ) (r : TypestockDocument) : Type 0 where

@@ -3,12 +3,15 @@ use mathlib.Core.Bool.{true, false}
 use Prim.Native.Nat.{ℕ}
 use Rattle.sdtd.specs.declared.Verdict.{Verdict}
 use Rattle.sdtd.specs.declared.Verdict.the-variants.{Fine, RefusedAt}
+use Rattle.sdtd.specs.declared.FileWritten.{FileWritten}
+use Rattle.sdtd.specs.Output.{writtenNumber, writtenLength}
 use Rattle.typing.specs.declared.job.Job.{Job}
 use Rattle.typing.specs.declared.job.Job.the-variants.{SchemaRefused, EventsRead}
 use Rattle.events.specs.declared.outline.Cursor.{Cursor}
 use Rattle.events.specs.declared.outline.NextOpening.{NextOpening}
 use Rattle.events.specs.declared.outline.NextOpening.the-variants.{Opening, NoOpening}
 use Rattle.typestock_c.specs.declared.TypestockSchema.{TypestockSchema}
+use Rattle.typestock_c.specs.declared.TypestockWritten.{TypestockWritten}
 use Rattle.typestock_c.specs.declared.TypestockDocument.{TypestockDocument}
 use Rattle.typestock_c.specs.declared.TypestockOpening.{TypestockOpening}
 
@@ -16,6 +19,10 @@ use Rattle.typestock_c.specs.declared.TypestockOpening.{TypestockOpening
 abbrev pub schemaNumbers : Verdict → TypestockSchema
 schemaNumbers Fine = record { number = 0; place = 0 }
 schemaNumbers (RefusedAt n p) = record { number = n; place = p }
+
+-- "a call that writes a file answers 0 and the length written [..]; or a number, alone": the length is then 0
+abbrev pub writtenNumbers : FileWritten → TypestockWritten
+writtenNumbers w = record { number = writtenNumber w; length = writtenLength w }
 
 -- A refused schema's number and place, in both answers, so that 0 is said of no document but one that is taken; no opening is. An accepted
 -- one's 0 and 0, and beside them "a number (0 for taken), a place (of the refused event; the file's length for 0) and the count of openings

@@ -1,22 +1,31 @@
-// The engine for callers in other languages: the calls of `schema_file`, `typing` and `events`, with their answers as numbers. c/typestock.h declares
-// them for C, and rust/typestock wraps them for Rust.
+// The engine for callers in other languages: the calls of `schema_file`, `schema_writer`, `typing` and `events`, with their answers as numbers.
+// c/typestock.h declares them for C, and rust/typestock wraps them for Rust.
 use events::Cursor;
 use events::NextOpening;
 use events::next_opening;
 use schema_file::read;
+use schema_writer::write_reduced;
+use sdtd::FileWritten;
 use sdtd::Verdict;
 use typing::Job;
 use typing::type_document;
 ghost use mathlib.Core.Path.{_≡_};
 ghost use Rattle.events.specs.Outline.{nextOpening};
-ghost use Rattle.typestock_c.specs.Numbers.{cursorAt, schemaNumbers, documentNumbers, openingNumbers};
-ghost use Rattle.typestock_c.specs.Exports.{SchemaMeans, DocumentMeans};
+ghost use Rattle.typestock_c.specs.Numbers.{cursorAt, schemaNumbers, writtenNumbers, documentNumbers, openingNumbers};
+ghost use Rattle.typestock_c.specs.Exports.{SchemaMeans, WrittenMeans, DocumentMeans};
 
 // A schema file's answer: a refusal's number and place; 0 and 0 for accepted.
 #[repr(C)]
 pub struct TypestockSchema {
     pub number: u8,
     pub place: usize,
+}
+
+// The writer's: 0 and the length written; or a refusal's number and 0.
+#[repr(C)]
+pub struct TypestockWritten {
+    pub number: u8,
+    pub length: usize,
 }
 
 // The whole job's: the schema file's answer, and the event file's; where the schema is refused, its number and place once more.
@@ -47,6 +56,15 @@ fn schema_numbers(answer: Verdict) -> TypestockSchema
             place: 0,
         },
         Verdict::RefusedAt(number, place) => TypestockSchema { number, place },
+    }
+}
+
+fn written_numbers(written: FileWritten) -> TypestockWritten
+    ensures { λ r. ⌜ r ≡ writtenNumbers written ⌝ }
+{
+    match written {
+        FileWritten::Length(length) => TypestockWritten { number: 0, length },
+        FileWritten::Refused(number) => TypestockWritten { number, length: 0 },
     }
 }
 
@@ -98,6 +116,14 @@ pub extern "C" fn typestock_check_schema(schema: &[u8], witness: &mut [u8]) -> T
     let told = read(schema, witness);
     let answer = told.answer;
     schema_numbers(answer)
+}
+
+// The schema file without the types that no valid document uses, to the buffer.
+#[no_mangle]
+pub extern "C" fn typestock_write_reduced(schema: &[u8], out: &mut [u8]) -> TypestockWritten
+    ensures { λ r. ⌜ WrittenMeans (now (schema .entry)) (now (out .entry)) (now (out .exit)) r ⌝ }
+{
+    written_numbers(write_reduced(schema, out))
 }
 
 // The schema file's answer, and under an accepted schema the event file's: on 9 the witness goes to its buffer, types go to theirs.

@@ -24,6 +24,7 @@ use Rattle.sdtd.specs.declared.Verdict.the-variants.{RefusedAt}
 use Rattle.schema_file.specs.declared.file.SchemaFile.{SchemaFile}
 use Rattle.competition.proofs.Answers.{written-competes}
 use Rattle.schema_file.proofs.FileAnswers.{file-ambiguous, accepted-file}
+use Rattle.schema_file.proofs.UnusedTypes.{file-unused}
 use Rattle.schema_file.proofs.FileExists.{one-file-answer, buffer-exists}
 use Rattle.reading.proofs.AnswerExists.{one-answer}
 use Rattle.reading.proofs.OneAnswer.{refused-unchanged}
@@ -77,7 +78,9 @@ demand-2-file file was is f m a events lent after r e = (
 pub demand-3 : Demand3
 demand-3 file was is f m =
     record {
-      refused-exactly = λ S l states some. file-ambiguous m states l some;
+      refused-exactly = λ S l states some used. file-ambiguous m states l some used;
+      every-used = λ a. accepted-file m a .used;
+      unused-refused = λ l p. file-unused m l p;
       states = λ a. accepted-file m a .states;
       written = λ a. stated-written (accepted-file m a .states);
       calls = λ a xs calls. list-meets (accepted-file m a .schema) xs calls;

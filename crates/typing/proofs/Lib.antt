@@ -1,5 +1,6 @@
--- The demands met, the starred samples, the whole job, and the lines and the numbers of an event file.
+-- The demands met, the writer's request met, the starred samples, the whole job, and the lines and the numbers of an event file.
 pub mod DemandsMet
+pub mod ReducingMet
 pub mod SampleFiles
 pub mod SampleWitnesses
 pub mod SamplesHold

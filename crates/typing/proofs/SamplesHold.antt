@@ -18,6 +18,9 @@ accepted-not-9 q = refused-not-fine q refl
 eight-not-9 : ¬ (RefusedAt 8 0 ≡ RefusedAt 9 0)
 eight-not-9 = other-number refl (λ z. omega arith)
 
+unused-not-9 : ¬ (RefusedAt 24 24 ≡ RefusedAt 9 0)
+unused-not-9 = other-number refl (λ z. omega arith)
+
 gets-R : SchemaGets fileR
 gets-R = plain-gets fileR accepted-not-9 (starred-files-hold .0)
 
@@ -33,7 +36,7 @@ samples-hold =
     & (gets-R, events-get fileR refl (files-state .first) acceptedR exactR gets-R second refl)
     & (gets-R, events-get fileR refl (files-state .first) acceptedR exactR gets-R third refl)
     & nine-gets fileChoice refl (files-state .fourth) (starred-files-hold .1 .0) choice-witness
-    & plain-gets fileNoD accepted-not-9 (starred-files-hold .1 .1 .0)
+    & plain-gets fileNoD unused-not-9 (starred-files-hold .1 .1 .0)
     & nine-gets fileTwoWays refl (files-state .sixth) (starred-files-hold .1 .1 .1 .0) ways-witness
     & plain-gets fileTwoTypes accepted-not-9 (starred-files-hold .1 .1 .1 .1 .0)
     & (

@@ -13,6 +13,7 @@ use Rattle.sdtd.specs.Schema.{Schema as Meaning}
 use Rattle.sdtd.specs.Tree.{Tree, IsTyping}
 use Rattle.sdtd.specs.Document.{Event, Valid, SomeValid, openings, typesOf, BeginningOf, Ambiguous}
 use Rattle.sdtd.specs.Trim.{Trimmed}
+use Rattle.sdtd.specs.Reduced.{EveryTypeUsed}
 use Rattle.sdtd.specs.Answer.{Verdict}
 use Rattle.sdtd.specs.Calls.{Exchange, ListMeets, WholeMeets}
 use Rattle.schema.specs.Value.{meaning}
@@ -21,7 +22,7 @@ use Rattle.schema.specs.declared.value.Schema.{Schema}
 use Rattle.schema.specs.declared.tables.Trimming.{Trimming}
 use Rattle.commands.specs.File.{commands, StatesSchema}
 use Rattle.commands.specs.Written.{Written}
-use Rattle.schema_file.specs.Answer.{AnswerIs, BufferBy, FileMeans, Demand3File}
+use Rattle.schema_file.specs.Answer.{AnswerIs, BufferBy, FileMeans, FirstUnusedAt, Demand3File}
 use Rattle.sdtd.specs.declared.Verdict.{Verdict as CodeVerdict}
 use Rattle.sdtd.specs.declared.Verdict.the-variants.{Fine, RefusedAt}
 use Rattle.schema_file.specs.declared.file.SchemaFile.{SchemaFile}
@@ -87,8 +88,11 @@ pub record Demand3Of (file was : List ℕ) (f : SchemaFile) : Type 0 where
   -- "Suppose a schema file passes document 01's questions 1 to 7 and at least one document is valid under it. It is refused for competition
   -- exactly when two valid documents [..] agree in every event through some opening tag and differ in that element's type. Otherwise it is
   -- accepted". "[T]he two-document statement covers the first opening tag too". "The third demand supposes these three passed too": 21 to 23
-  -- are among the questions that `StatesSchema` has passed.
-  pub refused-exactly : (S : Meaning) → leastWitness ≤ length was → StatesSchema file S → SomeValid S → Demand3File S (f .answer)
+  -- are among the questions that `StatesSchema` has passed. "[T]he third demand supposes a file without" a type that no valid document uses.
+  pub refused-exactly : (S : Meaning) → leastWitness ≤ length was → StatesSchema file S → SomeValid S → EveryTypeUsed S → Demand3File S (f .answer)
+  -- "A file with a type that no valid document uses is refused from now on"; "after 8, such a file gets 24, place that of the first such TYPE"
+  pub every-used : f .answer ≡ Fine → EveryTypeUsed (meaning (f .schema))
+  pub unused-refused : leastWitness ≤ length was → (p : ℕ) → (f .answer ≡ RefusedAt 24 p) ↔ FirstUnusedAt file p
   -- "The accepted schema is the one that the file states": each block is begun by a TYPE, and has the automaton of the expression after it if
   -- that has state count 0
   pub states : f .answer ≡ Fine → StatesSchema file (meaning (f .schema))

@@ -1,7 +1,8 @@
 -- `schema_file::file::read` meets its contract: each answer is that of the first question answered no.
 use native.Mathlib.Omega.{arith}
 use borrow.Author.Needs.{needs}
-use Rattle.schema_file.proofs.Answered.{as-refusal, short-means, commands-refused, Passed, commands-passed, judged-means}
+use Rattle.schema_file.proofs.Answered.{as-refusal, short-means, commands-refused, Passed, commands-passed, value-within}
+use Rattle.schema_file.proofs.Answered.{judged-type, judged-means}
 use Rattle.schema_file.proofs.file.read.Statement.{statement}
 use Rattle.schema_file.proofs.file.read.Tie as tie
 
@@ -35,8 +36,15 @@ stated c = commands-passed _ _ (c .enum-told .given .1) (c .before .before .read
 enum-told : tie.Need-enum-told
 enum-told c = search needs
 
-judge-requires : tie.Need-judge-requires
-judge-requires c κs = search needs
+judge-reduced-requires : tie.Need-judge-reduced-requires
+judge-reduced-requires c κs = search needs
+
+place-in-requires : tie.Need-place-in-requires
+place-in-requires c κs =
+    let j = c .before .before .before .before .before in
+    let p = j .before .before .before in
+    let long = p .before .before .before .if1 .left in
+    judged-type (rw (c .before .judged .given .1) at (j .judge-reduced .ensures)) long (value-within (stated p))
 
 enum-known-judged : tie.Need-enum-known-judged
 enum-known-judged c = search needs
@@ -52,11 +60,11 @@ same-length c = search needs
 
 returns-3 : tie.Need-returns-3
 returns-3 c =
-    let j = c .before .before .before .before .before .before in
+    let j = c .before .before .before .before .before .before .before in
     let p = j .before .before .before in
     let long = p .before .before .before .if1 .left in
-    let k = rw (c .before .before .judged .given .1) at (j .judge .ensures) in
-    as-refusal (c .refused3 .ensures) (judged-means (stated p) _ long k)
+    let k = rw (c .before .before .before .judged .given .1) at (j .judge-reduced .ensures) in
+    as-refusal (c .refused3 .ensures) (rw (c .before .place-in .ensures) (judged-means (stated p) _ long k))
 
 same-length-2 : tie.Need-same-length-2
 same-length-2 c = search needs
@@ -66,7 +74,7 @@ returns-4 c =
     let j = c .before .before .before .before in
     let p = j .before .before .before in
     let long = p .before .before .before .if1 .left in
-    let k = rw (c .enum-told2 .given .1) at (j .judge .ensures) in
+    let k = rw (c .enum-told2 .given .1) at (j .judge-reduced .ensures) in
     judged-means (stated p) _ long k
 
 pub read-spec : {M : Type 1} → statement M
@@ -80,8 +88,9 @@ read-spec =
     refused-requires-2
     returns-2
     enum-told
-    judge-requires
+    judge-reduced-requires
     enum-known-judged
+    place-in-requires
     refused-requires-3
     enum-told-2
     same-length
