@@ -7,6 +7,9 @@
     documents.py --folders COUNT FOLDER
         writes about COUNT random jobs of the program and those at the limits, each as a folder
         with schema.tab, events and expected.
+    documents.py --stored COUNT FOLDER
+        writes the writer's files by hand and about COUNT random ones, each as a folder with stored
+        and, if it is written, written; else with refused, the line of its number.
     documents.py --confirm SCHEMA PRINTED
         does PRINTED hold the right text for a schema refused with 9?
 
@@ -14,11 +17,14 @@ A case in stdin is a letter, three lengths of two bytes, low byte first (a buffe
 two parts), and the two parts; seven bytes 00 end the cases. In stdout each case has a line, a job
 (J) the program's text and a line `--`; at the end a line `end`. The letters: S a schema file, C a
 list of calls, E an event file, J a whole job of the program, V a schema value made up, P a pair of
-states, Q a set of states.
+states, Q a set of states, W a schema file to be written without its unused types.
+
+Cases are made of files as they were judged until request 06, without 24; the answer to each is the
+reader's, with 24. Those that get 24 come once more, as listing/renewed.py says.
 
 How the model decides. It lists words and typed trees from document 000's definition, as
-listing/meaning.py says: whether a type bears a tree, is reached, or has two that compete in it, and
-whether roots compete; whether a valid document begins with some events is found by typing them and
+listing/meaning.py says: whether a type bears a tree, is reached, is used, or has two that compete
+in it, and whether roots compete; whether a valid document begins with some events is found by typing them and
 completing the typed beginning, as listing/reading.py says. Elements are of two kinds there, opened
 plainly and as nil. What a reading holds, and what made-up values answer, is said by document 01's
 words on such values, in listing/value.py; where both apply both are taken and must agree. Every
@@ -27,7 +33,8 @@ are listed up to some size and compared (listing/listed.py), and for each compet
 two documents of demand 3 are built and looked at, for each kind that the two types share, and all
 shorter words are listed, if there are not too many. Of content written as an expression the words
 are listed too, and the automaton is made from them by the request's wording
-(listing/expression.py).
+(listing/expression.py). What the writer makes of a file is said command by command in
+listing/reduce.py, and the listed documents of both files are compared.
 
 The schema fixes A and n of a witness; J, K and w are the program's choice, w among the shortest
 words. Where roots compete A is 255 and n is 0, and J and K are any two that do. With a committed
@@ -43,12 +50,14 @@ from pathlib import Path
 sys.dont_write_bytecode = True
 
 from listing import (cases_nil, cases_roots, cases_under_expressions, cases_under_nil,
-                     cases_under_roots, choices, least, pair_numbers)
+                     cases_under_roots, cases_writer, choices, least, pair_numbers, reduce)
 from listing.case import HEAD
 from listing.cases_jobs import damaged_cases, named_size_cases, random_cases, sample_cases
-from listing.groups import GROUPS, made
+from listing.groups import GROUPS, STORED, made
 from listing.meaning import Wrong
 from listing.program import confirm_text
+from listing.renewed import renewed
+from listing.tables import MOST_LENGTH, SCHEMA_BYTES, TAKEN
 
 END = "end\n"
 
@@ -56,8 +65,11 @@ END = "end\n"
 def all_cases():
     """The cases of all groups in order, made by as many processes as there are cores."""
     with Pool() as pool:
-        for cases in pool.map(made, range(len(GROUPS)), chunksize=1):
-            yield from cases
+        parts = pool.map(made, range(len(GROUPS)), chunksize=1)
+    stored, new = parts[:len(STORED)], parts[len(STORED):]
+    for cases in (*(cases for cases, _ in stored), *(again for _, again in stored),
+                  *(cases for cases, _ in new)):
+        yield from cases
 
 
 def committed_texts(path, cases):
@@ -116,6 +128,7 @@ def write_folders(count, folder):
     cases += list(islice(cases_under_expressions.random_job_cases(), count // 10))
     cases += list(islice(cases_under_roots.random_job_cases(), count // 10))
     cases += list(islice(cases_under_nil.random_job_cases(), count // 10))
+    cases += renewed(cases)
     named = []
     for name, some in (("sample", sample_cases()), ("random", cases),
                        ("roots", jobs(cases_roots.hand_cases, cases_under_roots.document_cases)),
@@ -131,6 +144,28 @@ def write_folders(count, folder):
         (here / "expected").write_text(case.text.removesuffix("--\n"))
 
 
+def write_stored(count, folder):
+    """Schema files as folders for tests/trimschema."""
+    files = [case.first for cases in (cases_writer.hand_cases, cases_writer.number_cases)
+             for case in cases()]
+    files += [case.first for case in cases_writer.random_cases("stored", count)]
+    files += [case.first for case in cases_writer.damaged_cases(count)]
+    for n, file in enumerate(dict.fromkeys(files)):
+        here = folder / str(n)
+        here.mkdir(parents=True)
+        number, data = written(file)
+        (here / "stored").write_bytes(file)
+        if number == TAKEN:
+            (here / "written").write_bytes(data)
+        else:
+            (here / "refused").write_text(f"schema refused {number}\n")
+
+
+def written(file):
+    """What the program trimschema, which has room for all, answers and writes."""
+    return reduce.answer(file[:SCHEMA_BYTES], MOST_LENGTH)
+
+
 def jobs(*groups):
     """The jobs among these cases."""
     return [case for cases in groups for case in cases() if case.letter == "J"]
@@ -139,6 +174,8 @@ def jobs(*groups):
 def main(arguments):
     if len(arguments) == 3 and arguments[0] == "--folders":
         write_folders(int(arguments[1]), Path(arguments[2]))
+    elif len(arguments) == 3 and arguments[0] == "--stored":
+        write_stored(int(arguments[1]), Path(arguments[2]))
     elif len(arguments) == 3 and arguments[0] == "--confirm":
         confirm_text(Path(arguments[1]).read_bytes(), Path(arguments[2]).read_text())
     elif len(arguments) in (1, 2) and not arguments[0].startswith("--"):

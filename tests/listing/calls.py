@@ -2,7 +2,7 @@
 
 import struct
 
-from .judged import judge
+from .judged import judge, read
 from .reading import Reading
 from .tables import CALLS, FIELD_NAMES, FIELDS, KINDS, OPEN_NIL
 
@@ -30,11 +30,13 @@ def items_of(data):
 
 
 class Calls:
-    """A list of calls on a fresh reading beside a schema file's answer, as far as it goes."""
+    """A list of calls on a fresh reading beside a schema file's answer, as far as it goes. Lists
+    are made beside the answer to a stored file, and then answered beside the reader's."""
 
-    def __init__(self, file):
-        self.file, self.reading = file, Reading(judge(file))
-        self.items, self.texts, self.answers = bytearray(), [judge(file).text()], []
+    def __init__(self, file, judged=None):
+        judged = judged or judge(file)
+        self.file, self.reading = file, Reading(judged)
+        self.items, self.texts, self.answers = bytearray(), [judged.text()], []
         self.lent_answers, self.nil_answers, self.nil_lent_answers = [], [], []
 
     def call(self, event, tag=0, lent=False):
@@ -61,12 +63,19 @@ class Calls:
         return " ".join(self.texts)
 
 
-def line(file, items):
-    """The line for a list given as bytes."""
-    calls = Calls(file)
-    for name, *rest in items_of(items):
+def given(made, items):
+    """The list of calls with these items after it."""
+    for name, *rest in items:
         if name in FIELDS:
-            calls.put(name, rest[1], rest[0])
+            made.put(name, rest[1], rest[0])
         else:
-            calls.call(name, *rest)
-    return calls.line()
+            made.call(name, *rest)
+    return made
+
+
+def answered(made):
+    """The list of calls beside the reader's answer."""
+    judged = read(made.file)
+    if judged is judge(made.file):
+        return made
+    return given(Calls(made.file, judged), items_of(made.items))

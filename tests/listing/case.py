@@ -2,7 +2,7 @@
 
 from typing import NamedTuple
 
-from . import calls, event_file, judged, program
+from . import calls, event_file, judged, program, reduce
 from .meaning import Wrong
 
 HEAD = 7        # a case's letter and three lengths of two bytes; so many bytes 00 end the cases
@@ -32,7 +32,7 @@ def schema_case(name, file, room):
 
 
 def due_case(name, file, number, place, room):
-    """The case of a schema file of which number and place are known."""
+    """The case of a schema file of which number and place are known as a stored file's."""
     found = judged.judge(file)
     if (found.number, found.place) != (number, place):
         raise Wrong(f"{number} at {place} is due, not {found.text()}: {file.hex(' ')}")
@@ -42,6 +42,7 @@ def due_case(name, file, number, place, room):
 def calls_case(name, made):
     """The case of a list of calls; the lent ones and the nil openings are counted besides, the
     latter by value and lent apart, and where they are refused by number."""
+    made = calls.answered(made)
     answers = ["type" if text[0] == "t" else text.removeprefix("r") for text in made.answers]
     answers += ["lent" if text[0] in "to" else "lent refused" for text in made.lent_answers]
     for way, texts in (("nil", made.nil_answers), ("nil lent", made.nil_lent_answers)):
@@ -62,9 +63,15 @@ def job_case(name, file, events, tree=None):
 
 def value_case(name, file, puts, room):
     """A schema value made up by puts (field, number, index)."""
-    value, items = judged.judge(file).value, b""
+    value, items = judged.read(file).value, b""
     for field, number, index in puts:
         value = value.with_entry(field, index, number)
         items += calls.put_bytes(field, index, number)
     text, numbers = judged.value_line(value, room)
     return Case("V", f"V {name}", room, file, items, text + "\n", numbers)
+
+
+def writer_case(name, file, room):
+    """The writer's case of a schema file and an output of so many bytes."""
+    text, number = reduce.line(file, room)
+    return Case("W", f"W {name}", room, file, b"", text + "\n", (number,))

@@ -24,8 +24,7 @@ def sample_cases():
                  for file, events, *rest in samples.DOCUMENTS]
     for file, events, room, number, place, types in with_room + samples.BUFFERS:
         case = event_case("samples", file, events, room)
-        listed = " ".join(map(str, [len(types), *types]))
-        if case.text != f"accepted | {number} at {place} | {listed} | kept\n":
+        if case.text != samples.event_line(samples.ANSWERS[file], number, place, types):
             raise Wrong(f"a sample of document 01 comes out differently: {case.text}")
         yield case
 

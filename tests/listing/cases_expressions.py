@@ -12,7 +12,7 @@ from .cases_schema import listed_case
 from .cases_values import made_up_cases
 from .expressions import (LEAVES, any_words, content, each, leaves_below, never_falling,
                           over_leaves, rising, schema, schema_of, text)
-from .judged import judge
+from .judged import judge, read
 from .meaning import Wrong
 from .schema_file import (Block, Content, Schema, commands_of, end_of_file, leaf, without_end,
                           write)
@@ -44,7 +44,8 @@ def taken(part, file):
 def sample_cases():
     """Document 01's samples written as expressions have the answers of the samples."""
     for by_states, file in expressions.SAMPLES.items():
-        if judge(by_states).text() != judge(file).text():
+        if (judge(by_states).text() != judge(file).text()
+                or read(by_states).number != read(file).number):
             raise Wrong("a sample written as an expression comes out differently")
         yield schema_case("expressions, samples", file, ROOM)
         yield from made_up_cases("expressions", file, ROOM)
@@ -52,8 +53,7 @@ def sample_cases():
     for by_states, events, number, place, types in samples.DOCUMENTS:
         file = expressions.SAMPLES[by_states]
         case = event_case("expressions", file, events, PLENTY)
-        listed = " ".join(map(str, [len(types), *types]))
-        if case.text != f"accepted | {number} at {place} | {listed} | kept\n":
+        if case.text != samples.event_line(read(file).text(), number, place, types):
             raise Wrong(f"a sample by an expression comes out differently: {case.text}")
         yield case
         yield job_case("expressions", file, events)

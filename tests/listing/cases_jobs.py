@@ -38,11 +38,15 @@ def sample_cases():
         case = job_case("samples", file, events)
         given = [int(line.split()[2]) for line in case.text.split("\n")[1:-3]]
         last = f"refused {number} at {place}" if number else f"accepted {len(types)}"
-        if given != types or not case.text.endswith(f"\n{last}\n--\n"):
+        fits = given == types and case.text.endswith(f"\n{last}\n--\n")
+        if samples.ANSWERS[file] != samples.ACCEPTED:
+            fits = case.text == f"schema {samples.ANSWERS[file]}\n--\n"
+        if not fits:
             raise Wrong(f"a sample of document 01 comes out differently: {case.text}")
         yield case
+    with_events = [file for file, *_ in samples.DOCUMENTS]
     for file, number, place, witness in samples.SCHEMAS:
-        if number:
+        if number and file not in with_events:
             case = job_case("samples", file, b"")
             text = f"schema refused {number} at {place}\n"
             if witness:

@@ -7,7 +7,7 @@ from .cases_calls import starter
 from .cases_events import PLENTY
 from .event_file import calls_of, event_bytes, nested
 from .event_lists import ROUTES
-from .judged import judge
+from .judged import judge, read
 from .meaning import Wrong
 from .tables import FINISHED, MOST_LEVELS, NO_DOCUMENT, NO_SUCH_TAG, OPEN_NIL
 
@@ -44,7 +44,7 @@ def event_cases():
         cases = [event_case(NAME, file, data, PLENTY)]
         if number % 8 == 0:
             cases.append(job_case(NAME, file, data))
-        if any(case.answers != (due,) for case in cases):
+        if read(file).accepted and any(case.answers != (due,) for case in cases):
             raise Wrong(f"{due} is due: {cases[0].text}")
         yield from cases
 

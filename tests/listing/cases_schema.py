@@ -99,9 +99,9 @@ def full_block():
         yield head + bytes([STEP, *step]) + end_of_file(0)
 
 
-def longest_files():
-    """The longest accepted files and what is just too long."""
-    for file in (schemas.dense_longest(last=True), schemas.dense_longest(last=False)):
+def longest_files(*files):
+    """Files of the greatest length and what is just too long."""
+    for file in files:
         yield file
         for more in (0, DONE, BYTE):
             yield file + bytes([more])
@@ -112,7 +112,7 @@ def longest_files():
 
 def limit_cases():
     for files in (count_limits(), after_all_types(), step_limits(), full_block(),
-                  longest_files()):
+                  longest_files(*map(schemas.dense_longest, (True, False)))):
         for file in files:
             yield schema_case("limits", file, LEAST_WITNESS_ROOM)
 

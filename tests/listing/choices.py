@@ -6,7 +6,7 @@ The schema fixes A and n, so these are compared. J, K and w are free, w among th
 import re
 
 from .calls import items_of
-from .judged import confirm_witness, judge
+from .judged import confirm_witness, read
 from .meaning import Wrong
 from .program import confirm_text
 from .tables import COMPETITION
@@ -36,18 +36,18 @@ def without_choice(text):
 
 def with_witness(case, witness):
     """The case's text with A J K n and w of another witness, as far as it states them."""
-    if case.letter == "J":
+    if case.letter == "J" and case.answers == (COMPETITION,):
         line = "type {} gives {} or {} after {}\n--\n".format(*witness.split())
         return case.text.split("\n")[0] + "\n" + line
     return WITNESS.sub(witness, case.text)
 
 
 def schema_meaning(case):
-    return judge(case.first).meaning
+    return read(case.first).meaning
 
 
 def value_meaning(case):
-    value = judge(case.first).value
+    value = read(case.first).value
     for field, index, number in items_of(case.second):
         value = value.with_entry(field, index, number)
     return value.meaning

@@ -3,7 +3,7 @@
 from functools import lru_cache
 from itertools import accumulate
 
-from .judged import judge
+from .judged import read
 from .meaning import Wrong, typed_stream
 from .reading import Reading
 from .tables import (CLOSE, EVENTS, FINISH, KINDS, LAST_QUESTIONS, MOST_LEVELS, NO_EVENT, OPEN,
@@ -95,9 +95,10 @@ class Walk:
     """An event file walked up to its first refusal: number, place and the openings taken, each
     (level, tag, type). With a typed tree given, which must be a valid one of at most 64 levels,
     the document alone answers, and the events are not asked about for as long as they are the
-    tree's: a valid document begins with them."""
+    tree's: a valid document begins with them. Under a refused schema a tree says nothing."""
 
     def __init__(self, judged, data, room, tree=None):
+        tree = tree if judged.accepted else None
         self.reading, self.room, self.openings = Reading(judged, tree is None), room, []
         self.known = [] if tree is None else known_events(judged.meaning, tree)
         self.place, self.number = 0, None
@@ -138,7 +139,7 @@ walked = lru_cache(8)(Walk)
 
 def line(file, data, room, tree=None):
     """The line for an event file under a schema file, and the number."""
-    judged = judge(file)
+    judged = read(file)
     walk = walked(judged, data, room, tree)
     types = [len(walk.openings)] + [a for _, _, a in walk.openings]
     return (f"{judged.text()} | {walk.number} at {walk.place} | {' '.join(map(str, types))} | kept",

@@ -1,10 +1,15 @@
-"""All cases, in the groups in which they are made."""
+"""All cases, in the groups in which they are made.
+
+Those of files that passed until now come first; then those of them made anew that are refused with
+24, and then those of unused types and of the writer."""
 
 from . import (cases_calls, cases_events, cases_expressions, cases_jobs, cases_nil,
                cases_none_nillable, cases_roots, cases_schema, cases_under_expressions,
-               cases_under_nil, cases_under_roots, cases_values, cases_words)
+               cases_under_nil, cases_under_roots, cases_unused, cases_values, cases_words,
+               cases_writer)
+from .renewed import renewed
 
-GROUPS = (
+STORED = (
     cases_schema.CASES,
     cases_calls.FRESH_CASES,
     cases_calls.MADE_UP_CASES,
@@ -22,8 +27,17 @@ GROUPS = (
     cases_under_nil.CASES,
     cases_none_nillable.CASES,
 )
+NEW = (
+    cases_unused.CASES,
+    cases_unused.RANDOM_CASES,
+    cases_writer.CASES,
+    cases_writer.RANDOM_CASES,
+    cases_writer.MORE_RANDOM_CASES,
+)
+GROUPS = STORED + NEW
 
 
 def made(number):
-    """The cases of one group."""
-    return [case for cases in GROUPS[number] for case in cases()]
+    """The cases of one group, and those made anew of them."""
+    cases = [case for cases in GROUPS[number] for case in cases()]
+    return cases, renewed(cases) if number < len(STORED) else []

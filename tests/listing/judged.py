@@ -5,7 +5,8 @@ from functools import lru_cache
 from . import schema_file
 from .meaning import Meaning, Wrong
 from .tables import (COMPETITION, KINDS, LEAST_WITNESS_ROOM, MOST_STATES, MOST_TYPES, NO_PARENT,
-                     OPEN, OPEN_NIL, OUTSIDE_LIMITS, SHORT_WITNESS_ROOM, TAKEN)
+                     OPEN, OPEN_NIL, OUTSIDE_LIMITS, SCHEMA_QUESTIONS, SHORT_WITNESS_ROOM,
+                     STORED_QUESTIONS, TAKEN)
 from .value import SchemaValue, as_set
 
 
@@ -13,14 +14,14 @@ NO_SCHEMA = SchemaValue.of(schema_file.Schema(roots=()))
 
 
 class Judged:
-    """A schema file's answer to questions 2 to 9 and 21 to 23; its meaning where it has passed
-    7; the value beside the answer."""
+    """A schema file's answer to questions 2 to 7 and 21 to 23 and to these of its schema; its
+    meaning where it has passed 7, or a known one; the value beside the answer."""
 
-    def __init__(self, file):
-        self.meaning, self.value = None, NO_SCHEMA
+    def __init__(self, file, questions=STORED_QUESTIONS, meaning=None):
+        self.meaning, self.value = meaning, NO_SCHEMA
         try:
-            self.meaning = Meaning(schema_file.read(file))
-            self.number, self.place = self.meaning.answer()
+            self.meaning = meaning or Meaning(schema_file.read(file))
+            self.number, self.place = self.meaning.answer(questions)
         except schema_file.Refused as refused:
             self.number, self.place = refused.number, refused.place
         self.accepted = self.number == TAKEN
@@ -31,7 +32,16 @@ class Judged:
         return answer_text(self.number, self.place)
 
 
-judge = lru_cache(1000)(Judged)
+judge = lru_cache(1000)(Judged)     # as a stored file, without 24
+
+
+@lru_cache(1000)
+def read(file):
+    """The reader's answer, 24 among the questions; where no type is unused that of `judge`."""
+    stored = judge(file)
+    if stored.meaning is None or not stored.meaning.unused():
+        return stored
+    return Judged(file, SCHEMA_QUESTIONS, stored.meaning)
 
 
 def answer_text(number, place):
@@ -48,7 +58,7 @@ def schema_line(file, room):
     if not has_room(room):
         text = answer_text(SHORT_WITNESS_ROOM, 0)
         return f"{text} | {NO_SCHEMA.text()} | kept", SHORT_WITNESS_ROOM
-    judged = judge(file)
+    judged = read(file)
     buffer = buffer_text(judged.number, judged.meaning)
     return f"{judged.text()} | {judged.value.text()} | {buffer}", judged.number
 

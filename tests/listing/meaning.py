@@ -16,6 +16,11 @@ of either kind; where one kind alone is meant it is named. Three facts make the 
     two types compete after it if they do after any of the others. And the first listed after which
     two compete is a shortest of all after which two do.
 
+A type is used if some typing of some valid document gives it to an element. A type that bears no
+tree is not: below each element of a typing stands a tree of its type. By fact 2 a type that bears
+one is used exactly if it is a root, or stands in a word of a used type over tree-bearing types; and
+a document that uses it is built from such words and looked at.
+
 Two types of one tag that may follow a beginning compete if both bear a tree of one kind: then the
 same event opens the one and the other. Where they share no kind, no event opens both.
 
@@ -30,7 +35,7 @@ from typing import NamedTuple
 
 from .tables import (CLOSE, KINDS, MOST_BEGINNINGS, MOST_ELEMENTS, MOST_FORESTS, MOST_LAYER,
                      MOST_LISTED_TREES, MOST_OF_A_LENGTH, MOST_TREES, MOST_WORD, NO_PARENT, OPEN,
-                     OPEN_NIL, SCHEMA_QUESTIONS, TAKEN)
+                     OPEN_NIL, STORED_QUESTIONS, TAKEN)
 
 
 class TooMany(Exception):
@@ -61,7 +66,7 @@ class Meaning:
         self.borne_by = self.trees_by_levels()
         self.borne = self.borne_by[OPEN_NIL] | self.borne_by[OPEN]
         for name in ("ending", "live", "is_word", "completion", "next_types", "types_in_words",
-                     "bearing_roots", "first_competition", "trees", "forests"):
+                     "bearing_roots", "used", "first_competition", "trees", "forests"):
             setattr(self, name, lru_cache(None)(getattr(self, name)))
 
     def tag(self, a):
@@ -247,6 +252,22 @@ class Meaning:
                     todo.append(j)
         return found
 
+    def used(self):
+        """The used types, each with a valid typed tree that has an element of it."""
+        reached, found = self.reached(), {}
+        for a in sorted(reached.keys() & self.borne.keys()):
+            tree = self.borne[a]
+            if reached[a] is not None:
+                tree = self.document_tree(reached, *reached[a], tree)
+            if not self.is_typing(tree) or a not in types_of(tree):
+                raise Wrong("a used type without a document that uses it")
+            found[a] = tree
+        return found
+
+    def unused(self):
+        """The types that no valid document uses, the smallest first."""
+        return [a for a in self.types if a not in self.used()]
+
     def pairs_after(self, a, w):
         """The pairs J < K that compete in a after w."""
         return self.pairs_opened_alike(self.next_types(a, w))
@@ -330,12 +351,16 @@ class Meaning:
     def roots_without_tree(self):
         return None if self.bearing_roots() else 0
 
+    def unused_type_place(self):
+        return next((self.schema.places[a] for a in self.unused()), None)
+
     def competition_place(self):
         return 0 if self.first_competition() else None
 
-    def answer(self):
-        """Number and place of the first question answered no; 0 and 0 if there is none."""
-        for number, asks in SCHEMA_QUESTIONS:
+    def answer(self, questions=STORED_QUESTIONS):
+        """Number and place of the first of these questions answered no; 0 and 0 if there is
+        none."""
+        for number, asks in questions:
             place = getattr(self, asks)()
             if place is not None:
                 return number, place
@@ -356,6 +381,14 @@ def steps_by_state(block):
     for p, j, q in block.steps:
         found.setdefault(p, []).append((j, q))
     return found
+
+
+def types_of(tree):
+    """The types that the tree's elements have."""
+    elements = [tree]
+    for element in elements:
+        elements.extend(element.children)
+    return {element.type for element in elements}
 
 
 def typed_stream(meaning, tree):

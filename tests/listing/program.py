@@ -1,7 +1,7 @@
 """What the program `typestock` prints for a schema file and an event file."""
 
 from .event_file import walked
-from .judged import confirm_length, judge
+from .judged import confirm_length, read
 from .meaning import Wrong
 from .tables import COMPETITION, EVENT_BYTES, PROGRAM_TYPES, SCHEMA_BYTES
 
@@ -12,7 +12,7 @@ def answer(file, events, tree=None):
     """The program's text, and the answer's number or TOO_LONG."""
     if len(events) > EVENT_BYTES:
         return f"{TOO_LONG}\n", TOO_LONG
-    judged = judge(file[:SCHEMA_BYTES])
+    judged = read(file[:SCHEMA_BYTES])
     if not judged.accepted:
         return refused_text(judged), judged.number
     walk = walked(judged, events, PROGRAM_TYPES, tree)
@@ -36,7 +36,7 @@ def refused_text(judged):
 
 def confirm_text(file, text):
     """Is it the right text for a schema refused with 9, whichever J and K it states?"""
-    judged = judge(file[:SCHEMA_BYTES])
+    judged = read(file[:SCHEMA_BYTES])
     numbers = [int(word) for word in text.split() if word.isascii() and word.isdigit()]
     a, j, k, n = numbers[-4:] if len(numbers) == 6 else [None] * 4
     stated = f"schema {judged.text()}\ntype {a} gives {j} or {k} after {n}\n"

@@ -2,6 +2,7 @@
 
 from .event_file import END, closed, leaves, opened
 from .schema_file import Block, Schema, leaf, once, write
+from .tables import OUTSIDE_LIMITS
 
 R = bytes.fromhex(
     "10 03 11 00 02 12 01 13 00 01 00 13 00 02 01 13 01 03 01 11 01 01 12 00"
@@ -36,7 +37,7 @@ FITS_SO_FAR, TAGS_OUT_OF_RANGE = bytes.fromhex("10 20"), bytes.fromhex("10 21")
 SCHEMAS = [
     (R, 0, 0, ""),
     (TWO_B, 9, 0, "0 1 2 0"),
-    (NO_D, 0, 0, ""),
+    (NO_D, 24, 24, ""),         # at b2's TYPE
     (SIXTH, 9, 0, "0 2 3 1 1"),
     (TWO_A, 0, 0, ""),
     (LAST_BUT_ONE, 0, 0, ""),
@@ -47,6 +48,9 @@ SCHEMAS = [
     (TAGS_OUT_OF_RANGE, 4, 0, ""),
 ]
 FILES = [file for file, *_ in SCHEMAS]
+ACCEPTED = "accepted"
+ANSWERS = {file: f"refused {number} at {place}" if number else ACCEPTED
+           for file, number, place, _ in SCHEMAS}
 
 # Pairs of states with their numbers.
 PAIRS = [(0, 0, 0), (3, 1, 7), (31, 31, 527)]
@@ -57,7 +61,8 @@ def row(*tags):
     return opened(0) + leaves(*tags) + closed(0) + END
 
 
-# Accepted schemas with events, number, place and the types of the openings taken.
+# Schemas with events, number, place and the types of the openings taken; under one that is refused
+# now they are those that it gave until now.
 DOCUMENTS = [
     (R, R_EVENTS, 0, 17, [0, 1, 2, 3]),
     (R, bytes.fromhex("21 00 22 00"), 17, 2, [0]),
@@ -82,3 +87,11 @@ DOCUMENTS = [
 ]
 # The same with the length of the types' buffer.
 BUFFERS = [(R, R_EVENTS, 3, 20, 10, [0, 1, 2]), (R, R_EVENTS, 4, 0, 17, [0, 1, 2, 3])]
+
+
+def event_line(schema, number, place, types):
+    """The line of an event file's case beside this answer to the schema file."""
+    if schema != ACCEPTED:
+        number, place, types = OUTSIDE_LIMITS, 0, []
+    listed = " ".join(map(str, [len(types), *types]))
+    return f"{schema} | {number} at {place} | {listed} | kept\n"

@@ -42,11 +42,12 @@ class Content:
 @dataclass
 class Schema:
     """What a schema file states; a type's number is its place in `blocks`; the root types are in
-    the order of the file."""
+    the order of the file. Where a file was read, the place of each TYPE."""
 
     tags: int = 0
     blocks: list = field(default_factory=list)
     roots: tuple = (0,)
+    places: list = field(default_factory=list, compare=False)
 
 
 RANGES = {
@@ -146,6 +147,7 @@ class Reader:
             [schema.tags] = operands
         elif self.command == TYPE:
             schema.blocks.append(Block(*operands))
+            schema.places.append(self.at)
             self.text, self.in_text = [], Counter()
         elif self.command == FINAL:
             schema.blocks[-1].accepting.append(operands[0])

@@ -444,6 +444,15 @@ def random_schema(rng, shapes, mend=0.5):
         return None
 
 
+def is_listed(file):
+    """Can the file be judged, its listing not being too long?"""
+    try:
+        judge(file)
+    except TooMany:
+        return False
+    return True
+
+
 def is_contested(meaning):
     """Do two types of one tag stand in the words of some reached type?"""
     words = [meaning.types_in_words(a) for a in meaning.reached()]

@@ -51,6 +51,7 @@ NO_ROOM = 20
 CANNOT_FOLLOW = 21
 TOO_MANY_USES = 22
 TOO_MANY_BRACKETS = 23
+UNUSED_TYPE = 24
 
 
 # The schema file.
@@ -104,7 +105,10 @@ COMMAND_QUESTIONS = (
 )
 # After DONE, of the file and then of its schema; the method gives the place, or None for yes.
 FILE_QUESTIONS = ((TYPE_NOT_GIVEN, "named_but_not_given"),)
-SCHEMA_QUESTIONS = ((NO_TREE, "roots_without_tree"), (COMPETITION, "competition_place"))
+SCHEMA_QUESTIONS = ((NO_TREE, "roots_without_tree"), (UNUSED_TYPE, "unused_type_place"),
+                    (COMPETITION, "competition_place"))
+# Of a stored file and of a schema value: the same without 24.
+STORED_QUESTIONS = tuple(asked for asked in SCHEMA_QUESTIONS if asked[0] != UNUSED_TYPE)
 
 
 # Events and calls.

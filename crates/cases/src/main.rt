@@ -14,13 +14,14 @@ mod schema_files;
 mod schema_values;
 mod show;
 mod states;
+mod written_files;
 
 use crate::buffer::fill;
 use crate::buffer::two;
 use crate::show::text;
 
 // The most cases.
-const CASES: u32 = 0x10000;
+const CASES: u32 = 0x20000;
 
 // The longest string of a case and the longest buffer.
 const LONGEST: usize = 0xffff;
@@ -37,6 +38,7 @@ fn answer(kind: u8, first: &[u8], second: &[u8], out: &mut [u8]) -> bool {
     fill(out);
     match kind {
         b'S' => schema_files::run(first, out),
+        b'W' => written_files::run(first, out),
         b'V' => schema_values::run(first, second, out),
         b'C' => call_lists::run(first, second),
         b'E' => event_files::run(first, second, out),

@@ -8,7 +8,7 @@ abbrev Inv-loop : tie.InvT-loop
 Inv-loop case₀ case = Unit {0}
 
 abbrev μ-loop : tie.MeasureT-loop
-μ-loop case₀ case = 2 ^ 16 - case
+μ-loop case₀ case = 2 ^ 17 - case
 
 loop-holds : tie.Need-loop-holds Inv-loop μ-loop
 loop-holds c = search needs
