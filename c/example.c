@@ -1,6 +1,7 @@
 /*
  * Types a document: example SCHEMA EVENTS prints what the program `typestock` prints of a schema file and an event file. Where two roots compete
- * it says so in words, in place of the line `type 255 gives J or K after 0`.
+ * it says so in words, in place of the line `type 255 gives J or K after 0`. A schema that is refused for a type that no valid document uses is
+ * written anew without such types, and the events are typed under that.
  */
 #include <inttypes.h>
 #include <stdio.h>
@@ -80,12 +81,9 @@ static void print_typed(struct bytes events, struct typestock_document d, const 
         printf("refused %" PRIu8 " at %zu\n", d.number, d.place);
 }
 
-int main(int count, char **words)
+/* Types the events under the schema and prints what comes of it. The schema's number. */
+static uint8_t print_document(struct bytes schema, struct bytes events)
 {
-    if (count != 3)
-        stop("is given", "SCHEMA EVENTS");
-    struct bytes schema = file(words[1]);
-    struct bytes events = file(words[2]);
     struct bytes witness = buffer(TYPESTOCK_WITNESS);
     struct bytes types = buffer(events.length / 2);
     struct typestock_document d = typestock_type_document(
@@ -94,9 +92,35 @@ int main(int count, char **words)
         print_typed(events, d, types.at);
     else
         print_refused(d.schema_number, d.schema_place, witness.at);
-    free(schema.at);
-    free(events.at);
     free(witness.at);
     free(types.at);
+    return d.schema_number;
+}
+
+/* Writes a schema without the types that no valid document uses, and types the events under that. */
+static void print_written_anew(struct bytes schema, struct bytes events)
+{
+    struct bytes out = buffer(schema.length + TYPESTOCK_MOST_GAINED);
+    struct typestock_written w = typestock_write_reduced(schema.at, schema.length, out.at, out.length);
+    if (w.number == TYPESTOCK_WRITTEN) {
+        out.length = w.length;
+        printf("written anew, %zu bytes for %zu\n", out.length, schema.length);
+        print_document(out, events);
+    } else {
+        printf("not written anew: %" PRIu8 "\n", w.number);
+    }
+    free(out.at);
+}
+
+int main(int count, char **words)
+{
+    if (count != 3)
+        stop("is given", "SCHEMA EVENTS");
+    struct bytes schema = file(words[1]);
+    struct bytes events = file(words[2]);
+    if (print_document(schema, events) == TYPESTOCK_UNUSED_TYPE)
+        print_written_anew(schema, events);
+    free(schema.at);
+    free(events.at);
     return 0;
 }

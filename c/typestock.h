@@ -12,7 +12,7 @@
  *   - A run of bytes goes over as two arguments, a pointer and the number of bytes behind it. The number is true: that many bytes may be
  *     read there, and written where the pointer is not to const. It is at most PTRDIFF_MAX.
  *   - A pointer is never NULL. For no bytes pass any pointer that is not NULL, and the length 0.
- *   - A buffer (`witness`, `types`) shares no byte with a file or with the other buffer. `schema` and `events` may be the same bytes.
+ *   - A buffer (`witness`, `types`, `out`) shares no byte with a file or with another buffer. `schema` and `events` may be the same bytes.
  *   - The bytes are initialised, the buffers' too, and until the call returns no other thread writes any of them or reads a buffer.
  */
 #ifndef TYPESTOCK_H
@@ -37,6 +37,12 @@ extern "C" {
  * bytes for each, one with NIL by a byte for each, and one with expressions too: an expression has no largest length.
  */
 #define TYPESTOCK_LONGEST_SCHEMA 8389
+
+/*
+ * The most bytes by which a written schema file can be longer than the one that it is written of: for blocks that are written by their states, a FINAL for
+ * each of 32 states of 64 types, and 1,024 STEPs. That is counted, and not proved.
+ */
+#define TYPESTOCK_MOST_GAINED 8192
 
 /* The most levels that may be open in a document. */
 #define TYPESTOCK_LEVELS 64
@@ -69,7 +75,7 @@ extern "C" {
 
 /*
  * The answers to a schema file: the number of the first question that is answered no, with the place of the command in question. Each command
- * in turn is asked 2, 3, 4, 21, 22, 23, 5 and 6, in this order; after the last come 7, 8 and 9.
+ * in turn is asked 2, 3, 4, 21, 22, 23, 5 and 6, in this order; after the last come 7, 8, 24 and 9.
  *
  * The content of a type is given by states, with FINAL and STEP, or, after a TYPE with state count 0, by an expression: 32 and a type is a use of
  * that type, what stands side by side comes in that order, 33 divides what is chosen from, 30 and 31 are brackets, 34 repeats the use or
@@ -98,6 +104,8 @@ extern "C" {
                                        a bracket open */
 #define TYPESTOCK_TOO_MANY_USES 22  /* a 32nd use in one expression */
 #define TYPESTOCK_TOO_MANY_BRACKETS 23 /* a 17th bracket open in an expression */
+#define TYPESTOCK_UNUSED_TYPE 24    /* no valid document has an element of a type; the place of the first such TYPE. typestock_write_reduced
+                                       writes the file without such types */
 
 /*
  * The answers to an event file: the number of the first question that is answered no, with the place of the event in question.
@@ -115,9 +123,16 @@ extern "C" {
 #define TYPESTOCK_NO_EVENT 19         /* none of the four events, or its tag runs past the end; no finish: at the file's length */
 #define TYPESTOCK_NO_ROOM 20          /* an opening for whose type the buffer has no byte left */
 
+/*
+ * The answers of typestock_write_reduced: of those to a schema file TYPESTOCK_NO_COMMAND to TYPESTOCK_COMPETITION and TYPESTOCK_CANNOT_FOLLOW to
+ * TYPESTOCK_TOO_MANY_BRACKETS, and then TYPESTOCK_NO_ROOM. There is no witness buffer and no question about unused types: neither
+ * TYPESTOCK_SHORT_WITNESS nor TYPESTOCK_UNUSED_TYPE is answered.
+ */
+#define TYPESTOCK_WRITTEN 0 /* the file is written */
+
 /* A schema file's answer. */
 struct typestock_schema {
-    uint8_t number; /* TYPESTOCK_ACCEPTED to TYPESTOCK_COMPETITION, or TYPESTOCK_CANNOT_FOLLOW to TYPESTOCK_TOO_MANY_BRACKETS */
+    uint8_t number; /* TYPESTOCK_ACCEPTED to TYPESTOCK_COMPETITION, or TYPESTOCK_CANNOT_FOLLOW to TYPESTOCK_UNUSED_TYPE */
     size_t place;   /* where a refused file is refused; 0 for an accepted one */
 };
 
@@ -129,6 +144,12 @@ struct typestock_document {
     size_t place;   /* the refused event's; the file's length where it is taken */
     size_t count;   /* the openings taken: that many types were written */
     /* where the schema is refused no event is read: number and place are the schema's once more, and count is 0 */
+};
+
+/* The answer of a call that writes a file. */
+struct typestock_written {
+    uint8_t number; /* TYPESTOCK_WRITTEN, or why nothing is written */
+    size_t length;  /* the bytes written; 0 where nothing is */
 };
 
 /* The next opening of an event file, and where to look on from. Two bytes before `at` it begins, with TYPESTOCK_OPEN or TYPESTOCK_OPEN_NIL. */
@@ -166,6 +187,20 @@ struct typestock_document typestock_type_document(
     const uint8_t *events, size_t events_length,
     uint8_t *witness, size_t witness_length,
     uint8_t *types, size_t types_length);
+
+/*
+ * Writes a schema file without the types that no valid document uses: for files that were stored before such types were refused. The types that
+ * stay are numbered anew in their order. The block of a type that goes is left out, and so are STEPs by it and its ROOT; all other commands keep
+ * their order. A type that stays, and whose expression names one that goes, is written by its states: a TYPE with all of them, FINALs rising, and
+ * STEPs rising by from, type and to. The written file is accepted, the same documents are valid under it, and each gets the same types, renumbered. A
+ * file with nothing to leave out comes back byte for byte.
+ *
+ * schema    the file's bytes.
+ * out       a buffer: where the file is written its first `length` bytes get the file, and the rest is unchanged; on every other number all of
+ *           it is. It may have length 0. The written file is longer than the schema file only where expressions are written by states, and
+ *           a buffer of schema_length + TYPESTOCK_MOST_GAINED bytes is enough.
+ */
+struct typestock_written typestock_write_reduced(const uint8_t *schema, size_t schema_length, uint8_t *out, size_t out_length);
 
 /*
  * Finds the first opening, plain or nil, of the event file from the place `at` on, where `level` elements are open. It passes over closings and

@@ -1,7 +1,8 @@
-//! The proved engine's calls: those on values in libengine_bench.a, and the schema file's in
-//! libtypestock_c.a. The values lie in memory as the plain implementation has them.
+//! The proved engine's calls: those on values in libengine_bench.a, and the schema file's and the writer's
+//! in libtypestock_c.a. The values lie in memory as the plain implementation has them.
 use plain::kinds::KindsOf;
 use plain::limits::{MOST_STEPS, MOST_TYPES, Tag, Type, WITNESS};
+use plain::questions::{NONE, Number};
 use plain::rows::{Entry, ROWS};
 use plain::{Answer, Answered, EventAnswer, Reading, Rows, Schema, SchemaAnswer, States};
 use std::mem::{offset_of, size_of};
@@ -13,6 +14,13 @@ pub struct Trimmed {
     pub live: [States; MOST_TYPES],
     pub ways: KindsOf,
     pub reached: [bool; MOST_TYPES],
+}
+
+/// The number and the length of a file that is written.
+#[repr(C)]
+struct Written {
+    number: Number,
+    length: usize,
 }
 
 /// The tables that a call lays rows in.
@@ -32,6 +40,7 @@ const _: () = {
     assert!(size_of::<Answer>() == 2 && size_of::<Answered>() == 328);
     assert!(offset_of!(Answered, reading) == 4);
     assert!(size_of::<SchemaAnswer>() == 16 && size_of::<EventAnswer>() == 24);
+    assert!(size_of::<Written>() == 16 && offset_of!(Written, length) == 8);
 };
 
 // A slice goes over as its pointer and its length. Those that are safe take plain values or references, and the engine is proved to hand back a
@@ -64,6 +73,12 @@ unsafe extern "C" {
         witness: *mut u8,
         room: usize,
     ) -> SchemaAnswer;
+    fn typestock_write_reduced(
+        file: *const u8,
+        length: usize,
+        out: *mut u8,
+        room: usize,
+    ) -> Written;
 }
 
 /// The trimming's tables; its rows go to `rows`.
@@ -89,4 +104,14 @@ pub fn check_schema(file: &[u8], witness: &mut [u8]) -> SchemaAnswer {
     let (room, witness) = (witness.len(), witness.as_mut_ptr());
     // SAFETY: as above.
     unsafe { typestock_check_schema(file.as_ptr(), file.len(), witness, room) }
+}
+
+pub fn write_reduced(file: &[u8], out: &mut [u8]) -> Result<usize, Number> {
+    let (room, out) = (out.len(), out.as_mut_ptr());
+    // SAFETY: as above.
+    let told = unsafe { typestock_write_reduced(file.as_ptr(), file.len(), out, room) };
+    match told.number {
+        NONE => Ok(told.length),
+        number => Err(number),
+    }
 }

@@ -3,6 +3,7 @@
 mod documents;
 mod engine;
 mod expressions;
+mod longest;
 mod made_up;
 mod measure;
 mod plot;
@@ -13,6 +14,7 @@ mod schema;
 mod schema_file;
 mod schemas;
 mod witness;
+mod writer;
 
 use std::path::{Path, PathBuf};
 use std::process::ExitCode;
@@ -20,9 +22,10 @@ use std::process::ExitCode;
 /// A part's name, and what runs it: whether all answers agree.
 type Part = (&'static str, fn() -> bool);
 
-const PARTS: [Part; 4] = [
+const PARTS: [Part; 5] = [
     ("schema", schema::run),
     ("schema_file", schema_file::run),
+    ("writer", writer::run),
     ("reading", reading::run),
     ("relaxng", relaxng::run),
 ];

@@ -1,11 +1,12 @@
 //! The schema file's call beside plain Rust of the same questions.
 use crate::engine;
 use crate::expressions;
+use crate::longest::{in_any_order, longest, longest_spread, one_of_each_tag, shuffled};
 use crate::measure::{Asked, agree, heading, in_turn, row};
 use crate::random::Random;
 use crate::schemas::{
-    STEPS_GROW, chain, chain_back, competing_roots, eight_lists, eight_roots, full, layered,
-    longest, mixed, nillable, samples, schema_file, shuffled, single, small, wide,
+    STEPS_GROW, chain, chain_back, competing_roots, eight_lists, eight_roots, full, layered, mixed,
+    mixed_leaves, nillable, samples, schema_file, single, small, wide, wide_over_leaves,
 };
 use crate::witness::is_left_right;
 use plain::codes::{CLOSE_BRACKET, END, NIL, OPEN_BRACKET, REPEAT, ROOT, STEP, TYPE, USE};
@@ -75,24 +76,43 @@ fn one_within(what: &str, schema: &Schema, leads: Leads, microseconds: f64) -> b
     report(what, &[schema_file(schema)], leads, Some(microseconds))
 }
 
-/// The longest files of one ROOT, in two orders of their steps. Questions 1 to 7 cannot be called alone: the root type with no step leaves 8
-/// and 9 little to ask, and a last step that gets 7 leaves them nothing.
+/// The longest files of one ROOT: accepted ones, and those of which less is asked, in two orders of their steps. Questions 1 to 7 cannot be called
+/// alone: where the root type has no step all others get 24, which leaves 8 and 9 little to ask, and a last step that gets 7 leaves them nothing.
 fn longest_files() -> bool {
+    let accepted = [
+        ("of 16 steps each", longest_spread()),
+        (
+            "1,024 steps in order, all the root's",
+            longest(64, one_of_each_tag(), 0),
+        ),
+        (
+            "1,024 steps shuffled, all the root's",
+            longest(64, in_any_order(one_of_each_tag()), 0),
+        ),
+    ];
     let mut same = true;
+    for (steps, schema) in &accepted {
+        assert_answer(schema, 0);
+        same &= one_within(&format!("64 types, {steps}"), schema, Leads::Bytes, 1e3);
+    }
     for (order, steps) in [("in order", full(32, 32, 1)), ("shuffled", shuffled())] {
         let schema = longest(64, steps.clone(), 63);
-        assert_eq!(schema_file(&schema).len(), 8389);
-        let what = format!("64 types, 1,024 steps {order}, a root with none");
+        assert_answer(&schema, 24);
+        let what = format!("64 types, 1,024 steps {order}, 63 types get 24");
         same &= one_within(&what, &schema, Leads::Bytes, 1e3);
         let mut unknown = steps;
         unknown[1023][1] = 63;
         let what = format!("63 types, the last of 1,024 steps {order} gets 7");
         same &= one_within(&what, &longest(63, unknown, 0), Leads::Bytes, 1e3);
     }
-    same & one(
-        "64 types, 1,024 steps in order, all the root's",
-        &longest(64, full(32, 32, 1), 0),
-    )
+    same
+}
+
+/// Sees that a longest file is one, with this answer.
+fn assert_answer(schema: &Schema, number: u8) {
+    let file = schema_file(schema);
+    assert_eq!(file.len(), 8389);
+    assert_eq!(check_schema(&file, &mut [0; WITNESS]).number, number);
 }
 
 /// A row for a file with expressions: beside plain Rust the proved call on the file that states the same schema by states.
@@ -141,7 +161,7 @@ fn expression_files() -> bool {
 }
 
 /// One more than the highest number of a schema file.
-const NUMBERS: usize = 24;
+const NUMBERS: usize = 25;
 
 /// Files with a command more, bytes changed or an end cut off, most of them refused, to both readers. How many got each number.
 fn spoiled() -> Option<[u32; NUMBERS]> {
@@ -222,7 +242,13 @@ pub fn run() -> bool {
         Leads::Search,
         None,
     );
-    same &= one_within("the same, 32 leaves", &wide(32), Leads::Search, 1.5e3);
+    let over_leaves = wide_over_leaves();
+    same &= one_within(
+        "31 such types, and a root over 31 leaves too",
+        &over_leaves,
+        Leads::Search,
+        1.5e3,
+    );
     for types in [1, 2, 4, 8, 16, 32, 64] {
         same &= one(
             &format!("types grow: {types}, 16 steps each"),
@@ -231,7 +257,8 @@ pub fn run() -> bool {
     }
     for (states, targets) in STEPS_GROW {
         let steps = u32::from(states) * u32::from(targets);
-        let what = format!("steps grow: {steps} by 31 types, in one of {states} states");
+        let leaves = mixed_leaves(targets);
+        let what = format!("steps grow: {steps} by {leaves} types, in one of {states} states");
         same &= one(&what, &mixed(states, targets));
     }
     same &= one("8 roots, 64 types of 16 steps", &eight_roots());
@@ -241,7 +268,7 @@ pub fn run() -> bool {
     same &= expression_files();
     match spoiled() {
         Some(numbers) => println!(
-            "{} spoiled files: the same answers, and witnesses that are. Numbers 0 to 9: {:?}; 21 to 23: {:?}",
+            "{} spoiled files: the same answers, and witnesses that are. Numbers 0 to 9: {:?}; 21 to 24: {:?}",
             numbers.iter().sum::<u32>(),
             &numbers[..10],
             &numbers[21..]

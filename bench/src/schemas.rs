@@ -1,5 +1,4 @@
 //! The schemas that are timed, and the file that states a schema.
-use crate::random::Random;
 use plain::codes::{DONE, FINAL, NIL, ROOT, STEP, TAGS, TYPE};
 use plain::{Schema, States};
 
@@ -19,7 +18,7 @@ pub fn leaf(tag: u8) -> Type {
     }
 }
 
-fn typed<const N: usize>(tag: u8, states: u8, accepting: u32, steps: [[u8; 3]; N]) -> Type {
+pub fn typed<const N: usize>(tag: u8, states: u8, accepting: u32, steps: [[u8; 3]; N]) -> Type {
     Type {
         tag,
         states,
@@ -176,11 +175,17 @@ pub fn dense() -> Schema {
     schema(32, 0, &types)
 }
 
-/// Type 0 steps from each of its states to each of the first `targets`, by 31 leaves of different tags in turn; all its states are accepting.
+/// How many leaves `mixed` has: 31, or one for each step from a state that is reached where these are fewer.
+pub fn mixed_leaves(targets: u8) -> u8 {
+    31.min(u16::from(targets) * u16::from(targets)) as u8
+}
+
+/// Type 0 steps from each of its states to each of the first `targets`, by leaves of different tags in turn; all its states are accepting.
 pub fn mixed(states: u8, targets: u8) -> Schema {
+    let leaves = mixed_leaves(targets);
     let mut steps = full(states, targets, 1);
     for (i, step) in steps.iter_mut().enumerate() {
-        step[1] = (1 + i * 7 % 31) as u8;
+        step[1] = (1 + i * 7 % usize::from(leaves)) as u8;
     }
     let mut types = vec![Type {
         tag: 0,
@@ -188,7 +193,7 @@ pub fn mixed(states: u8, targets: u8) -> Schema {
         accepting: u32::MAX >> (32 - states),
         steps,
     }];
-    types.extend((1..32).map(leaf));
+    types.extend((1..=leaves).map(leaf));
     schema(32, 0, &types)
 }
 
@@ -289,21 +294,26 @@ pub fn wide(leaves: u8) -> Schema {
     schema(32, 31, &types)
 }
 
-/// Types of 32 states, all accepting, and the steps in the first: with 64 types and 1,024 steps a longest schema file.
-pub fn longest(types: u8, steps: Vec<[u8; 3]>, root: u8) -> Schema {
-    let mut all: Vec<Type> = (0..types).map(|_| typed(0, 32, u32::MAX, [])).collect();
-    all[0].steps = steps;
-    schema(32, root, &all)
-}
-
-/// From two states by sixteen types to each state, shuffled: no processor foresees which earlier steps are from the same state as the next.
-pub fn shuffled() -> Vec<[u8; 3]> {
-    let mut steps: Vec<_> = (0..1024u16)
-        .map(|n| [(n % 2) as u8, (n / 2 % 16) as u8, (n / 32) as u8])
+/// 31 such types below a root that holds the last of them and 31 leaves: all 1,024 steps, and every type is used.
+pub fn wide_over_leaves() -> Schema {
+    let mut types: Vec<Type> = (0..31)
+        .map(|a: u8| Type {
+            tag: a,
+            states: 32,
+            accepting: 1 << 31 | u32::from(a == 0),
+            steps: looped(a.saturating_sub(1)),
+        })
         .collect();
-    let mut random = Random(88_172_645_463_325_252);
-    for i in (1..steps.len()).rev() {
-        steps.swap(i, random.below(i as u64 + 1) as usize);
-    }
-    steps
+    types.push(Type {
+        tag: 31,
+        states: 1,
+        accepting: 1,
+        steps: [30]
+            .into_iter()
+            .chain(32..63)
+            .map(|by| [0, by, 0])
+            .collect(),
+    });
+    types.extend((0..32).filter(|&tag| tag != 30).map(leaf));
+    schema(32, 31, &types)
 }

@@ -3,7 +3,8 @@ use super::calls::Events;
 use crate::documents::document;
 use crate::random::Random;
 use crate::schemas::{
-    STEPS_GROW, dense, eight_lists, eight_roots, layered, mixed, nesting, nillable, small,
+    STEPS_GROW, dense, eight_lists, eight_roots, layered, mixed, mixed_leaves, nesting, nillable,
+    small,
 };
 use plain::codes::{CLOSE, FINISH, OPEN, OPEN_NIL};
 use plain::limits::MOST_OPEN;
@@ -104,7 +105,8 @@ pub fn file_cases() -> Vec<FileCase> {
 pub fn steps_grow() -> impl Iterator<Item = FileCase> {
     STEPS_GROW.into_iter().map(|(states, targets)| {
         let steps = u32::from(states) * u32::from(targets);
-        let name = format!("steps grow: {steps} by 31 types, in one of {states} states");
+        let leaves = mixed_leaves(targets);
+        let name = format!("steps grow: {steps} by {leaves} types, in one of {states} states");
         case(name, mixed(states, targets), LONGEST, [1, 2])
     })
 }

@@ -48,7 +48,7 @@ pub fn schema(chance: &mut Chance, file: &mut Vec<u8>) {
 }
 
 /// The offsets of the commands of a file that was not damaged, and its length.
-fn offsets(file: &[u8]) -> Vec<usize> {
+pub fn offsets(file: &[u8]) -> Vec<usize> {
     let mut offsets = vec![0];
     let mut place = 0;
     while place < file.len() {

@@ -1,4 +1,4 @@
-//! One input: the two files and the lengths of the two lent buffers.
+//! One input: the two files and the lengths of the three lent buffers.
 
 use std::fmt;
 
@@ -6,6 +6,7 @@ use crate::chance::Chance;
 use crate::guide::Guide;
 use crate::{damage, documents, schemas};
 use plain::limits::WITNESS;
+use typestock::MOST_GAINED;
 
 #[derive(Debug, Clone, PartialEq, Eq)]
 pub struct Input {
@@ -15,6 +16,8 @@ pub struct Input {
     pub witness: usize,
     /// The length of the buffer of types.
     pub types: usize,
+    /// The length of the writer's output.
+    pub out: usize,
 }
 
 impl Input {
@@ -37,12 +40,27 @@ impl Input {
             2..5 => most,
             _ => most + chance.below(40),
         };
+        let out = room(chance, &schema);
         Input {
             schema,
             events,
             witness,
             types,
+            out,
         }
+    }
+}
+
+/// The length of an output for the file: what is written to it fits, or does not.
+fn room(chance: &mut Chance, schema: &[u8]) -> usize {
+    let mut out = vec![0; schema.len() + MOST_GAINED];
+    let needed = plain::write_reduced(schema, &mut out).unwrap_or(schema.len());
+    match chance.below(20) {
+        0 => 0,
+        1 => chance.below(needed + 1),
+        2..4 => needed.saturating_sub(1),
+        4..12 => needed,
+        _ => needed + chance.within(1..=60),
     }
 }
 
@@ -78,6 +96,7 @@ impl fmt::Display for Input {
         writeln!(out, "schema:{}", Hex(&self.schema))?;
         writeln!(out, "events:{}", Hex(&self.events))?;
         writeln!(out, "witness buffer: {} bytes", self.witness)?;
-        writeln!(out, "types buffer: {} bytes", self.types)
+        writeln!(out, "types buffer: {} bytes", self.types)?;
+        writeln!(out, "writer's output: {} bytes", self.out)
     }
 }

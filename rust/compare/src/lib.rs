@@ -10,12 +10,16 @@ mod expressions;
 mod far_words;
 mod guide;
 mod input;
+mod lent;
 mod model;
 mod nil;
 mod roots;
 mod schemas;
 mod side_by_side;
 mod tally;
+mod tally_written;
+mod unused;
+mod written;
 
 pub use chance::Chance;
 pub use input::Input;

@@ -108,6 +108,15 @@ impl Type {
     }
 }
 
+/// The types that an expression uses, as they stand.
+pub fn uses(text: &mut [u8]) -> impl Iterator<Item = &mut u8> {
+    let mut rest = text.iter_mut();
+    std::iter::from_fn(move || {
+        rest.find(|sign| **sign == USE)?;
+        rest.next()
+    })
+}
+
 impl Model {
     /// Gives the types other numbers, and where there is no expression the states other than the
     /// start as well.
@@ -127,13 +136,8 @@ impl Model {
         }
         for block in &mut self.types {
             if let Some(mut text) = block.content.take() {
-                let mut place = 0;
-                while place < text.len() {
-                    if text[place] == USE {
-                        place += 1;
-                        text[place] = numbers[usize::from(text[place])];
-                    }
-                    place += 1;
+                for of in uses(&mut text) {
+                    *of = numbers[usize::from(*of)];
                 }
                 block.set_content(text);
                 continue;

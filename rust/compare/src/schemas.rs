@@ -1,4 +1,4 @@
-//! Random schemas: many that are accepted, many that compete, some that bear no tree.
+//! Random schemas: many that are accepted, many that compete, some that bear no tree, some with types that no document uses.
 
 use crate::chance::Chance;
 use crate::expressions;
@@ -7,6 +7,7 @@ use crate::guide::{Guide, NEVER};
 use crate::model::{Model, Step, Type};
 use crate::nil;
 use crate::roots;
+use crate::unused;
 use plain::limits::{MOST_STATES, MOST_STEPS, MOST_TAGS, MOST_TYPES};
 
 /// The most that a random schema has of each.
@@ -60,6 +61,13 @@ pub fn schema(chance: &mut Chance) -> Model {
     }
     if chance.percent(45) {
         nil::add(chance, &mut model);
+    }
+    let by_expressions = model.types.iter().any(|block| block.content.is_some());
+    if chance.percent(if by_expressions { 60 } else { 20 }) {
+        unused::add(chance, &mut model);
+    }
+    if chance.percent(if by_expressions { 50 } else { 80 }) {
+        unused::leave_out(&mut model);
     }
     if !chance.once_in(8) {
         model.renumber(chance);

@@ -3,6 +3,8 @@
 use crate::calls;
 use crate::chance::Chance;
 use crate::input::Input;
+use crate::lent::Part;
+use crate::written;
 use plain::limits::NO_PARENT;
 use plain::questions::{COMPETITION, NONE};
 use plain::{Job, Witness};
@@ -15,6 +17,8 @@ pub struct Answers {
     pub job: Job,
     /// On 9, what the schema fixes of the witness.
     pub witness: Option<Fixed>,
+    /// The length of the file that is written without unused types, or why none is.
+    pub written: Result<usize, u8>,
 }
 
 /// The type in which two compete, `NO_PARENT` if they are roots, and the length of the word: five bytes
@@ -26,15 +30,16 @@ pub struct Fixed {
 }
 
 /// The functions that both crates have.
-trait Implementation {
+pub trait Implementation {
     const NAME: &str;
     fn check_schema(schema: &[u8], witness: &mut [u8]) -> (u8, usize);
     fn type_document(schema: &[u8], events: &[u8], witness: &mut [u8], types: &mut [u8]) -> Job;
+    fn write_reduced(schema: &[u8], out: &mut [u8]) -> Result<usize, u8>;
 }
 
 macro_rules! implementation {
-    ($name:ident, $library:ident) => {
-        struct $name;
+    ($name:ident, $library:ident, $number:expr) => {
+        pub struct $name;
 
         impl Implementation for $name {
             const NAME: &str = stringify!($library);
@@ -65,18 +70,24 @@ macro_rules! implementation {
                     },
                 }
             }
+
+            fn write_reduced(schema: &[u8], out: &mut [u8]) -> Result<usize, u8> {
+                $library::write_reduced(schema, out).map_err($number)
+            }
         }
     };
 }
 
-implementation!(Engine, typestock);
-implementation!(Plain, plain);
+implementation!(Engine, typestock, |refused: typestock::NotWritten| refused
+    .number);
+implementation!(Plain, plain, |number| number);
 
 /// Runs both on the input. The answers if nothing differs, else what differs.
 pub fn compare(input: &Input, chance: &mut Chance) -> Result<Answers, String> {
     let lent = Lent::random(input, chance);
-    let (engine, engine_types) = run::<Engine>(&lent)?;
-    let (plain, plain_types) = run::<Plain>(&lent)?;
+    let written = written::compare(input, chance)?;
+    let (engine, engine_types) = run::<Engine>(&lent, written)?;
+    let (plain, plain_types) = run::<Plain>(&lent, written)?;
     if engine != plain {
         return Err(format!("answers differ: {engine:?} and {plain:?}"));
     }
@@ -92,53 +103,6 @@ pub fn compare(input: &Input, chance: &mut Chance) -> Result<Answers, String> {
     }
     calls::compare(input, &plain.job, &plain_types)?;
     Ok(plain)
-}
-
-/// Bytes that are lent: the inner part of a larger array, with a random pattern around it.
-#[derive(Clone, PartialEq, Eq)]
-struct Part {
-    array: Vec<u8>,
-    start: usize,
-    end: usize,
-}
-
-/// The fewest bytes before and past a part.
-const GUARD: usize = 24;
-
-impl Part {
-    fn random(length: usize, chance: &mut Chance) -> Self {
-        let start = GUARD + chance.below(8);
-        let words = (start + length + GUARD).div_ceil(8);
-        let array = (0..words)
-            .flat_map(|_| chance.draw().to_le_bytes())
-            .collect();
-        Part {
-            array,
-            start,
-            end: start + length,
-        }
-    }
-
-    fn holding(bytes: &[u8], chance: &mut Chance) -> Self {
-        let mut part = Part::random(bytes.len(), chance);
-        part.inner_mut().copy_from_slice(bytes);
-        part
-    }
-
-    fn inner(&self) -> &[u8] {
-        &self.array[self.start..self.end]
-    }
-
-    fn inner_mut(&mut self) -> &mut [u8] {
-        &mut self.array[self.start..self.end]
-    }
-
-    /// Is nothing changed but the first `written` bytes of the part?
-    fn unchanged_but(&self, written: usize, before: &Part) -> bool {
-        let past = self.start + written;
-        self.array[..self.start] == before.array[..self.start]
-            && self.array[past..] == before.array[past..]
-    }
 }
 
 /// All that a call is lent.
@@ -161,8 +125,12 @@ impl Lent {
     }
 }
 
-/// The answers of one implementation and the types that it gave, if all it wrote is as promised.
-fn run<I: Implementation>(before: &Lent) -> Result<(Answers, Vec<u8>), String> {
+/// The answers of one implementation, beside that of the writer, and the types that it gave, if all it
+/// wrote is as promised.
+fn run<I: Implementation>(
+    before: &Lent,
+    written: Result<usize, u8>,
+) -> Result<(Answers, Vec<u8>), String> {
     let mut after = before.clone();
     let schema = I::check_schema(after.schema.inner(), after.witness.inner_mut());
     let witness_alone = check_written::<I>(schema.0, 0, before, &after)?;
@@ -200,6 +168,7 @@ fn run<I: Implementation>(before: &Lent) -> Result<(Answers, Vec<u8>), String> {
         schema,
         job,
         witness,
+        written,
     };
     Ok((answers, after.types.inner()[..count].to_vec()))
 }

@@ -4,13 +4,14 @@ use std::fmt;
 
 use crate::input::Input;
 use crate::side_by_side::Answers;
+use crate::tally_written::Written;
 use plain::event_file::{Event, event};
 use plain::limits::NO_PARENT;
-use plain::questions::{CANNOT_FOLLOW, COMPETITION, FINISHED, NO_ROOM, NONE, TOO_MANY_BRACKETS};
+use plain::questions::{CANNOT_FOLLOW, COMPETITION, FINISHED, NO_ROOM, NONE, UNUSED_TYPE};
 use plain::{Job, Kind, Schema, Trimming, competition, schema_file};
 
 /// One more than the highest number that a schema file and an event file are answered with.
-const SCHEMAS: usize = TOO_MANY_BRACKETS as usize + 1;
+const SCHEMAS: usize = UNUSED_TYPE as usize + 1;
 const EVENTS: usize = NO_ROOM as usize + 1;
 
 #[derive(Debug, Clone, Default)]
@@ -34,6 +35,8 @@ pub struct Tally {
     competing_nil: u64,
     /// Openings as nil that were taken.
     nil_openings: u64,
+    /// The writer's answers.
+    pub written: Written,
 }
 
 /// The schema that a file states, if it passes the questions up to 7.
@@ -79,6 +82,8 @@ impl Tally {
         self.inputs += 1;
         self.schemas[usize::from(answers.schema.0)] += 1;
         self.longest_events = self.longest_events.max(input.events.len());
+        let written = &mut self.written;
+        written.count(input, answers.written, || stated(&input.schema));
         if let Job::EventsRead { number, count, .. } = answers.job {
             self.events[usize::from(number)] += 1;
             self.most_openings = self.most_openings.max(count);
@@ -112,6 +117,7 @@ impl Tally {
         for (sum, more) in pairs.zip(other.schemas.iter().chain(&other.events)) {
             *sum += more;
         }
+        self.written.add(&other.written);
         for (sum, more) in [
             (&mut self.inputs, other.inputs),
             (&mut self.several_roots, other.several_roots),
@@ -135,12 +141,13 @@ impl Tally {
         }
     }
 
-    /// The answers of schema files and event files, with how often each came up.
+    /// The answers of schema files, event files and the writer, with how often each came up.
     pub fn numbers(&self) -> impl Iterator<Item = (&'static str, usize, u64)> {
         let schemas = (0..=usize::from(COMPETITION)).chain(usize::from(CANNOT_FOLLOW)..SCHEMAS);
         let schemas = schemas.map(|number| ("schema", number, self.schemas[number]));
         let events = std::iter::once(usize::from(NONE)).chain(usize::from(FINISHED)..EVENTS);
-        schemas.chain(events.map(|number| ("events", number, self.events[number])))
+        let events = events.map(|number| ("events", number, self.events[number]));
+        schemas.chain(events).chain(self.written.numbers())
     }
 
     /// The longest word of a witness.
@@ -211,6 +218,7 @@ impl fmt::Display for Tally {
             self.nillable, self.kinds_apart
         )?;
         writeln!(out, "schemas that compete as nil: {}", self.competing_nil)?;
-        writeln!(out, "openings as nil taken: {}", self.nil_openings)
+        writeln!(out, "openings as nil taken: {}", self.nil_openings)?;
+        write!(out, "{}", self.written)
     }
 }

@@ -130,9 +130,19 @@ fn over_leaves(text: &[u8]) -> Vec<u8> {
     schema
 }
 
+/// The same below a root, type 32, that holds each of them, so that all are used whatever the expression.
+fn over_used_leaves(text: &[u8]) -> Vec<u8> {
+    let mut schema = over_leaves(text);
+    schema.truncate(schema.len() - 3);
+    schema.extend([0x11, 0, 1, 0x12, 0]);
+    schema.extend((0..32).flat_map(|by| [0x13, 0, by, 0]));
+    schema.extend([0x14, 32, 0x1F]);
+    schema
+}
+
 /// Number and place of type 0 by this expression, which may be wrong.
 fn expression(text: &[u8]) -> (u8, usize) {
-    both(&over_leaves(text), &[], WITNESS, 0).schema
+    both(&over_used_leaves(text), &[], WITNESS, 0).schema
 }
 
 #[test]
@@ -156,7 +166,7 @@ fn expressions_cut_at_every_byte() {
         0x30, 0x30, 0x32, 1, 0x33, 0x32, 2, 0x31, 0x34, 0x30, 0x32, 3, 0x33, 0x31, 0x31, 0x34,
         0x32, 4,
     ];
-    let schema = over_leaves(&text);
+    let schema = over_used_leaves(&text);
     for end in 0..schema.len() {
         assert_eq!(both(&schema[..end], &[], WITNESS, 0).schema.0, 2);
     }
@@ -183,12 +193,13 @@ fn steps_of_expressions_at_their_limit() {
     for steps in 30..35 {
         let mut schema = over_leaves(&any);
         schema.truncate(schema.len() - 3);
+        let unused = schema.len();
         schema.extend([0x11, 0, 32]);
         schema.extend((0..steps.min(32)).flat_map(|to| [0x13, 0, 0, to]));
         schema.extend([0x11, 0, 0, 0x32, 1]);
         let place = schema.len();
         schema.extend([0x3F, 0x14, 0, 0x1F]);
-        let expected = if steps < 32 { (0, 0) } else { (5, place) };
+        let expected = if steps < 32 { (24, unused) } else { (5, place) };
         assert_eq!(both(&schema, &[], WITNESS, 0).schema, expected);
     }
 }
@@ -325,16 +336,19 @@ fn roots_at_their_limit() {
     };
     for count in 1..=MOST_ROOTS {
         let roots: Vec<u8> = (0..count as u8).map(|n| 31 - 3 * n).collect();
-        assert_eq!(number(&roots), (0, 0));
-        let given = roots_given(&leaves_and_roots(&tags, &roots).0, 32);
-        for (tag, of) in (0..).zip(given) {
-            assert_eq!(of, roots.contains(&(31 - tag)).then_some(31 - tag));
+        // The other leaves are not used; those that are rise in their order.
+        assert_eq!(number(&roots), (24, 0));
+        let schema = typestock::reduced(&leaves_and_roots(&tags, &roots).0);
+        let used: Vec<u8> = roots.iter().rev().copied().collect();
+        for (tag, of) in (0..).zip(roots_given(&schema.unwrap(), 32)) {
+            let number = used.iter().position(|&root| root == 31 - tag);
+            assert_eq!(of.map(usize::from), number);
         }
         // One more: new, given, and of a type that there is not.
         let past = 2 * count;
         let with = |more: u8| number(&[&roots[..], &[more]].concat());
         let full = count == MOST_ROOTS;
-        assert_eq!(with(0), if full { (5, past) } else { (0, 0) });
+        assert_eq!(with(0), if full { (5, past) } else { (24, 0) });
         for again in [roots[0], roots[count - 1]] {
             assert_eq!(with(again), (if full { 5 } else { 6 }, past));
         }
@@ -411,14 +425,14 @@ fn every_pair_of_roots_that_compete() {
 
 #[test]
 fn roots_compete_before_types() {
-    // Types 1 and 2 compete in type 0. Types 3 and 4 have one tag, and so has type 5, which bears no
-    // tree.
+    // Types 1 and 2 compete in type 0. Type 3 and 4, which need not be there, have one tag.
     let mut types = vec![0x10, 4, 0x11, 0, 2, 0x12, 1, 0x13, 0, 1, 1, 0x13, 0, 2, 1];
     types.extend([0x11, 1, 1, 0x12, 0].repeat(2));
-    types.extend([0x11, 2, 1, 0x12, 0, 0x11, 2, 1, 0x12, 0, 0x11, 2, 1]);
-    let fixed = |roots: &[u8]| {
-        let roots = roots.iter().flat_map(|&root| [0x14, root]);
-        let schema: Vec<u8> = types.iter().copied().chain(roots).chain([0x1F]).collect();
+    types.extend([0x11, 2, 1, 0x12, 0].repeat(2));
+    let fixed = |count: usize, roots: &[u8]| {
+        let mut schema = types[..15 + 5 * (count - 1)].to_vec();
+        schema.extend(roots.iter().flat_map(|&root| [0x14, root]));
+        schema.push(0x1F);
         both(&schema, &[OPEN, 2, CLOSE, 2, FINISH], WITNESS, 1).witness
     };
     let length = 0;
@@ -427,16 +441,18 @@ fn roots_compete_before_types() {
         within: NO_PARENT,
         length,
     });
-    assert_eq!(fixed(&[3]), None);
-    assert_eq!(fixed(&[3, 0]), in_type);
-    assert_eq!(fixed(&[0, 1, 3]), in_type);
-    assert_eq!(fixed(&[3, 4]), of_roots);
-    assert_eq!(fixed(&[0, 3, 4]), of_roots);
-    assert_eq!(fixed(&[4, 1, 3, 0]), of_roots);
-    assert_eq!(fixed(&[2, 0, 1]), of_roots);
-    assert_eq!(fixed(&[5, 3]), None);
-    assert_eq!(fixed(&[5, 3, 0]), in_type);
-    assert_eq!(fixed(&[5, 3, 4]), of_roots);
+    assert_eq!(fixed(3, &[0]), in_type);
+    assert_eq!(fixed(3, &[0, 1]), in_type);
+    assert_eq!(fixed(4, &[3, 0]), in_type);
+    assert_eq!(fixed(4, &[0, 1, 3]), in_type);
+    assert_eq!(fixed(3, &[2, 0, 1]), of_roots);
+    assert_eq!(fixed(4, &[2, 3, 0, 1]), of_roots);
+    assert_eq!(fixed(5, &[0, 3, 4]), of_roots);
+    assert_eq!(fixed(5, &[4, 1, 3, 0]), of_roots);
+    // Unused types are looked for before.
+    assert_eq!(fixed(4, &[0, 1, 2]), None);
+    assert_eq!(fixed(5, &[0, 3]), None);
+    assert_eq!(fixed(5, &[3, 4]), None);
 }
 
 #[test]
@@ -452,9 +468,10 @@ fn roots_without_trees() {
             schema.extend(roots.flatten());
             schema.push(0x1F);
             let number = both(&schema, &[], WITNESS, 0).schema;
-            assert_eq!(number, (if bearing == 8 { 8 } else { 0 }, 0));
+            assert_eq!(number, if bearing == 8 { (8, 0) } else { (24, 2) });
             if bearing < 8 {
-                assert_eq!(roots_given(&schema, 2), [None, Some(8)]);
+                let schema = typestock::reduced(&schema).unwrap();
+                assert_eq!(roots_given(&schema, 2), [None, Some(0)]);
             }
         }
     }

@@ -101,17 +101,34 @@ fn two_of_a_tag(tag: u8, types: [[bool; 2]; 2], roots: &[u8]) -> Vec<u8> {
     schema
 }
 
+/// What a schema with two such types of one tag is answered: 24 at the one without trees.
+fn compared([one, other]: [[bool; 2]; 2]) -> (u8, usize) {
+    match [one, other].map(|kinds| kinds == [false; 2]) {
+        [true, true] => (8, 0),
+        [true, false] => (24, 15),
+        [false, true] => (24, 15 + childless(0, one[0], one[1]).len()),
+        _ if (0..2).any(|kind| one[kind] && other[kind]) => (9, 0),
+        _ => (0, 0),
+    }
+}
+
 /// Two types with these trees, of this tag, compete if they share a kind; else an opening of a kind is taken if
 /// one of them has a tree of it.
 fn compete_by_kinds(tag: u8, [one, other]: [[bool; 2]; 2]) {
-    let shared = (0..2).any(|kind| one[kind] && other[kind]);
-    let none = one == [false; 2] && other == [false; 2];
-    let number = if none { 8 } else { 9 * u8::from(shared) };
-    for (within, roots) in [(0, &[0][..]), (NO_PARENT, &[1, 2]), (NO_PARENT, &[2, 1])] {
-        let schema = two_of_a_tag(tag, [one, other], roots);
+    let answer = compared([one, other]);
+    for (within, roots) in [
+        (0, &[0][..]),
+        (NO_PARENT, &[1, 0, 2]),
+        (NO_PARENT, &[2, 1, 0]),
+    ] {
+        let mut schema = two_of_a_tag(tag, [one, other], roots);
         let answers = both(&schema, &[], WITNESS, 0);
+        let shared = answer.0 == 9;
         let fixed = shared.then_some(Fixed { within, length: 0 });
-        assert_eq!((answers.schema, answers.witness), ((number, 0), fixed));
+        assert_eq!((answers.schema, answers.witness), (answer, fixed));
+        if answer.0 == 24 {
+            schema = typestock::reduced(&schema).unwrap();
+        }
         let around: [&[u8]; 2] = match within {
             0 => [&[OPEN, 0], &[CLOSE, 0]],
             _ => [&[], &[]],
@@ -122,7 +139,8 @@ fn compete_by_kinds(tag: u8, [one, other]: [[bool; 2]; 2]) {
                 Job::EventsRead { number, .. } => Some(number == 0),
                 Job::SchemaRefused { .. } => None,
             };
-            assert_eq!(taken, (number == 0).then_some(one[kind] || other[kind]));
+            let read = matches!(answer.0, 0 | 24);
+            assert_eq!(taken, read.then_some(one[kind] || other[kind]));
         }
     }
 }
@@ -252,24 +270,29 @@ fn nil_openings_of_every_tag_and_type() {
         plain[place] = OPEN;
         let answer = typed(&sixty_four_types(0), &plain);
         assert_eq!(answer, (13, place, types[..of].to_vec()));
-        // As a root.
+        // As the one root it is the one type that is used.
         let tag = of as u8 % 32;
         let alone = over_nil([OPEN_NIL, tag], std::iter::empty());
         let schema = sixty_four_types(of as u8);
-        assert_eq!(typed(&schema, &alone), (0, 5, vec![of as u8]));
+        assert_eq!(both(&schema, &[], WITNESS, 0).schema, (24, 2));
+        let schema = typestock::reduced(&schema).unwrap();
+        assert_eq!(typed(&schema, &alone), (0, 5, vec![0]));
         let inside = [OPEN_NIL, tag, OPEN_NIL, tag];
-        assert_eq!(typed(&schema, &inside), (13, 2, vec![of as u8]));
+        assert_eq!(typed(&schema, &inside), (13, 2, vec![0]));
     }
 }
 
-/// Type 63, of tag 31, holds 31 of type 62, of tag 30, which has nil trees alone: a state after each.
+/// Type 63, of tag 31, holds 31 of type 62, of tag 30, which has nil trees alone: a state after each. Then it holds
+/// the others, of the other tags, in any number: of each tag one type that is plain and one that is nil.
 #[test]
 fn nil_openings_from_every_state() {
     let mut schema = vec![0x10, 32];
-    schema.extend(childless(0, false, false).repeat(62));
+    let tag = |of: u8| if of < 60 { of / 2 } else { 31 };
+    schema.extend((0..62).flat_map(|of| childless(tag(of), of % 2 == 0, of % 2 == 1)));
     schema.extend(childless(30, false, true));
     schema.extend([0x11, 31, 32, 0x12, 31]);
     schema.extend((0..31).flat_map(|from| [0x13, from, 62, from + 1]));
+    schema.extend((0..62).flat_map(|by| [0x13, 31, by, 31]));
     schema.extend([0x14, 63, 0x1F]);
     for children in 0..=32 {
         let events = over_nil([OPEN, 31], std::iter::repeat_n(30, children));

@@ -30,4 +30,9 @@ fn nothing_differs_and_each_number_comes_up() {
     assert!(tally.kinds_apart() > INPUTS / 100, "{tally}");
     assert!(tally.competing_nil() > INPUTS / 100, "{tally}");
     assert!(tally.nil_openings() > INPUTS / 10, "{tally}");
+    assert!(tally.written.reduced > INPUTS / 20, "{tally}");
+    assert!(tally.written.lost_roots > INPUTS / 100, "{tally}");
+    assert!(tally.written.by_states > INPUTS / 200, "{tally}");
+    assert!(tally.written.longer > INPUTS / 1000, "{tally}");
+    assert!(tally.written.most_dropped > 40, "{tally}");
 }

@@ -1,8 +1,9 @@
 //! Typing of tagged documents as they open, in plain Rust.
 //!
 //! A schema file states tags, types and a content automaton for each type, or an expression that
-//! becomes one, which types may be empty on purpose, and the root types. If no two types compete, each
-//! element of a document gets its type at its opening tag.
+//! becomes one, which types may be empty on purpose, and the root types. If each type is used and no two
+//! compete, each element of a document gets its type at its opening tag. A file with types that no
+//! document uses is written anew without them.
 //! This crate is written from the documents that describe the files and answers, and shares no code
 //! with the engine: it is what the engine is compared with, and what its time is measured against.
 #![forbid(unsafe_code)]
@@ -17,6 +18,7 @@ pub mod limits;
 mod program;
 pub mod questions;
 mod reading;
+mod reduced_file;
 pub mod rows;
 pub mod schema;
 pub mod schema_file;
@@ -31,14 +33,15 @@ pub use event_file::{EventAnswer, Opening, openings};
 pub use kinds::Kind;
 pub use program::print;
 pub use reading::{Answer, Answered, Reading};
+pub use reduced_file::write_reduced;
 pub use rows::Rows;
 pub use schema::Schema;
 pub use states::States;
 pub use trimming::Trimming;
 pub use witness::Witness;
 
-use limits::WITNESS;
-use questions::{COMPETITION, NO_TREE, NONE, Number, SHORT_WITNESS};
+use limits::{Type, WITNESS};
+use questions::{COMPETITION, NO_TREE, NONE, Number, SHORT_WITNESS, UNUSED_TYPE};
 use schema_file::Refusal;
 
 /// What a schema file is answered: number 0 and place 0 if it is accepted.
@@ -107,7 +110,12 @@ fn has_documents(schema: &Schema, trimming: &Trimming) -> bool {
     roots.any(|&root| trimming.bears(root))
 }
 
-/// Questions 1 to 9 and 21 to 23: reads the schema that the file states into a blank one, if it is accepted.
+/// Question 24: the first type that no valid document uses, if there is one.
+fn first_unused(schema: &Schema, trimming: &Trimming) -> Option<Type> {
+    (0..schema.types).find(|&of| !trimming.is_used(of))
+}
+
+/// Questions 1 to 9 and 21 to 24: reads the schema that the file states into a blank one, if it is accepted.
 fn accept(file: &[u8], witness: &mut [u8], schema: &mut Schema) -> Result<(), Refusal> {
     let at_start = |number| Refusal { number, place: 0 };
     if witness.len() < WITNESS {
@@ -117,6 +125,12 @@ fn accept(file: &[u8], witness: &mut [u8], schema: &mut Schema) -> Result<(), Re
     let trimming = Trimming::of(schema);
     if !has_documents(schema, &trimming) {
         return Err(at_start(NO_TREE));
+    }
+    if let Some(unused) = first_unused(schema, &trimming) {
+        return Err(Refusal {
+            number: UNUSED_TYPE,
+            place: schema_file::place_of_type(file, unused),
+        });
     }
     match competition::find(schema, &trimming) {
         None => Ok(()),

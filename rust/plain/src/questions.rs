@@ -1,4 +1,4 @@
-//! The numbers of document 01's questions and of document 02's 21 to 23. A refusal answers that of the first question answered no.
+//! The numbers of document 01's questions and of document 02's 21 to 24. A refusal answers that of the first question answered no.
 
 /// A question's number.
 pub type Number = u8;
@@ -36,6 +36,9 @@ pub const NO_ROOM: Number = 20;
 pub const CANNOT_FOLLOW: Number = 21;
 pub const TOO_MANY_USES: Number = 22;
 pub const TOO_MANY_BRACKETS: Number = 23;
+
+// A schema file's, between NO_TREE and COMPETITION.
+pub const UNUSED_TYPE: Number = 24;
 
 /// The question's number if the answer is no.
 #[inline]

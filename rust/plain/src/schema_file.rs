@@ -54,6 +54,21 @@ pub(crate) fn is_command(bytes: &[u8]) -> bool {
     command(bytes).is_some()
 }
 
+/// The place of a type's TYPE, in a file that states a schema with this type.
+pub fn place_of_type(file: &[u8], of: Type) -> usize {
+    let mut place = 0;
+    let mut left = of;
+    loop {
+        let (command, length) = command(&file[place..]).expect("a command that was read");
+        match command {
+            Command::Type { .. } if left == 0 => return place,
+            Command::Type { .. } => left -= 1,
+            _ => {}
+        }
+        place += length;
+    }
+}
+
 /// Reads the schema that a file states into a blank one.
 pub fn read(file: &[u8], schema: &mut Schema) -> Result<(), Refusal> {
     let mut draft = Draft {

@@ -3,6 +3,7 @@
 mod expressions;
 mod made_up;
 mod nil;
+mod reduced;
 mod roots;
 mod rows;
 mod shortest;
@@ -11,8 +12,8 @@ use crate::codes::{CLOSE, FINISH, OPEN, OPEN_NIL};
 use crate::competition::pair_number;
 use crate::limits::WITNESS;
 use crate::{
-    Job, Kind, Opening, Schema, SchemaAnswer, Witness, check_schema, competes, openings, print,
-    schema_file, type_document,
+    Job, Kind, Opening, Schema, SchemaAnswer, Trimming, Witness, check_schema, competes,
+    competition, has_documents, openings, print, schema_file, type_document, write_reduced,
 };
 
 /// A byte that no answer writes.
@@ -105,6 +106,36 @@ fn accepted(schema: &[u8]) {
     refused(schema, 0, 0);
 }
 
+/// The answer to a file that states a schema, with question 24 left out.
+fn searched(file: &[u8]) -> (u8, usize, Vec<u8>) {
+    let schema = stated(file);
+    let trimming = Trimming::of(&schema);
+    if !has_documents(&schema, &trimming) {
+        return (8, 0, vec![]);
+    }
+    let Some(found) = competition::find(&schema, &trimming) else {
+        return (0, 0, vec![]);
+    };
+    let mut witness = vec![UNTOUCHED; found.witness().length()];
+    found.witness().store(&mut witness);
+    (9, 0, witness)
+}
+
+/// It would be accepted but for question 24, which is answered at a place.
+fn unused(file: &[u8], place: usize) {
+    assert_eq!(searched(file), (0, 0, vec![]));
+    refused(file, 24, place);
+}
+
+/// The file without its unused types, which is accepted.
+fn reduced(file: &[u8]) -> Vec<u8> {
+    let mut out = vec![UNTOUCHED; 10_000];
+    let length = write_reduced(file, &mut out).unwrap();
+    out.truncate(length);
+    accepted(&out);
+    out
+}
+
 /// The number and place of an event file under an accepted schema, and the types given.
 fn read(schema: &[u8], events: &[u8]) -> (u8, usize, Vec<u8>) {
     read_into(schema, events, 100)
@@ -194,9 +225,10 @@ fn two_readings_compete() {
 #[test]
 fn a_type_without_trees_does_not_compete() {
     let schema = two_readings((3, 1, &[], &[]));
-    accepted(&schema);
+    unused(&schema, 24);
+    let schema = reduced(&schema);
     let events = hex("21 00 21 01 21 02 22 02 22 01 22 00 2F");
-    assert_eq!(read(&schema, &events), (0, 13, vec![0, 1, 3]));
+    assert_eq!(read(&schema, &events), (0, 13, vec![0, 1, 2]));
     assert_eq!(
         read(&schema, &hex("21 00 21 01 21 03")),
         (13, 4, vec![0, 1])
@@ -276,9 +308,10 @@ fn sixty_four_levels() {
 
 #[test]
 fn at_the_sixty_fifth_level() {
-    let pair = file(2, &[(0, 1, &[0], &[(0, 0, 0)]), leaf(1)], 0);
+    // No type has tag 1.
+    let schema = file(2, &[(0, 1, &[0], &[(0, 0, 0)])], 0);
     let down = [OPEN, 0].repeat(64);
-    let then = |tag| read(&pair, &[&down[..], &[OPEN, tag]].concat()).0;
+    let then = |tag| read(&schema, &[&down[..], &[OPEN, tag]].concat()).0;
     assert_eq!((then(2), then(1), then(0)), (12, 13, 14));
 }
 
@@ -395,7 +428,7 @@ fn repeated_commands() {
         6,
         9,
     );
-    accepted(&hex("10 01 11 00 01 12 00 11 00 01 12 00 14 01 1F"));
+    unused(&hex("10 01 11 00 01 12 00 11 00 01 12 00 14 01 1F"), 2);
 }
 
 #[test]
@@ -413,7 +446,7 @@ fn types_never_given() {
 #[test]
 fn sixty_four_types() {
     let types = |count: usize| [hex("10 01"), hex("11 00 01 12 00").repeat(count)].concat();
-    accepted(&[types(64), hex("14 3F 1F")].concat());
+    unused(&[types(64), hex("14 3F 1F")].concat(), 2);
     refused(&[types(64), hex("11 00 01")].concat(), 5, 322);
     refused(&[types(64), hex("11 01 01")].concat(), 4, 322);
     refused(&[types(64), hex("14 40")].concat(), 4, 322);
@@ -433,13 +466,15 @@ fn a_thousand_and_twenty_four_steps() {
     refused(&then("11 00 01 13 00 00 00"), 5, bytes.len() + 3);
 }
 
-/// As many old commands as a file can have, with these roots.
+/// As many old commands as a file can have, with these roots. Each type holds those after it, one from each
+/// state.
 fn longest_file(roots: impl Iterator<Item = u8>) -> Vec<u8> {
     let mut bytes = hex("10 20");
     for number in 0..64 {
         bytes.extend([0x11, number / 2, 32]);
         bytes.extend((0..32).flat_map(|state| [0x12, state]));
-        bytes.extend((0..16).flat_map(|from| [0x13, from, number, from + 1]));
+        let next = |from| (number + 1 + from) % 64;
+        bytes.extend((0..16).flat_map(|from| [0x13, from, next(from), from + 1]));
     }
     bytes.extend(roots.flat_map(|of| [0x14, of]));
     bytes.push(0x1F);
@@ -459,10 +494,11 @@ fn the_smallest_type_that_has_competition() {
     let bad: Block = (1, 2, &[1], &[(0, 3, 1), (0, 4, 1)]);
     // Type 1 is never reached, so type 2 is the smallest.
     let schema = file(3, &[chain, bad, bad, leaf(2), leaf(2)], 0);
-    assert_eq!(check(&schema), (9, 0, hex("02 03 04 00 00")));
+    assert_eq!(searched(&schema), (9, 0, hex("02 03 04 00 00")));
     assert!(!confirmed(&schema, 1, 3, 4, &[]));
+    refused(&schema, 24, 11);
     // Without it there is none.
-    accepted(&file(3, &[leaf(0), bad, bad, leaf(2), leaf(2)], 0));
+    unused(&file(3, &[leaf(0), bad, bad, leaf(2), leaf(2)], 0), 7);
 }
 
 #[test]

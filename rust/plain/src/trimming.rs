@@ -50,6 +50,11 @@ impl Trimming {
     pub fn bears(&self, of: Type) -> bool {
         !self.opened[usize::from(of)].is_empty()
     }
+
+    /// Does some typing of some valid document give an element this type?
+    pub fn is_used(&self, of: Type) -> bool {
+        self.reached[usize::from(of)] && self.bears(of)
+    }
 }
 
 /// The live states and the kinds of the trees; and fills empty rows with the steps that count.

@@ -16,6 +16,12 @@ pub struct Document {
     pub count: usize,
 }
 
+#[repr(C)]
+pub struct Written {
+    pub number: u8,
+    pub length: usize,
+}
+
 /// `found` is C's bool as the byte that it is: a byte that is neither 0 nor 1 would be no `bool` of Rust's.
 #[repr(C)]
 pub struct Opening {
@@ -37,6 +43,9 @@ const _: () = {
     assert!(offset_of!(Document, number) == 16);
     assert!(offset_of!(Document, place) == 24);
     assert!(offset_of!(Document, count) == 32);
+    assert!(size_of::<Written>() == 16 && align_of::<Written>() == 8);
+    assert!(offset_of!(Written, number) == 0);
+    assert!(offset_of!(Written, length) == 8);
     assert!(size_of::<Opening>() == 24 && align_of::<Opening>() == 8);
     assert!(offset_of!(Opening, found) == 0);
     assert!(offset_of!(Opening, tag) == 1);
@@ -62,6 +71,12 @@ extern "C" {
         types: *mut u8,
         types_length: usize,
     ) -> Document;
+    fn typestock_write_reduced(
+        schema: *const u8,
+        schema_length: usize,
+        out: *mut u8,
+        out_length: usize,
+    ) -> Written;
     fn typestock_next_opening(
         events: *const u8,
         events_length: usize,
@@ -104,6 +119,11 @@ pub fn type_document(
             types.len(),
         )
     }
+}
+
+pub fn write_reduced(schema: &[u8], out: &mut [u8]) -> Written {
+    // SAFETY: as above.
+    unsafe { typestock_write_reduced(schema.as_ptr(), schema.len(), out.as_mut_ptr(), out.len()) }
 }
 
 pub fn next_opening(events: &[u8], at: usize, level: usize) -> Opening {

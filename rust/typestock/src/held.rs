@@ -1,15 +1,15 @@
-//! What is tested of each answer before it is handed on: that it is one of document 01's, or of document 02's 21 to 23, for what was asked.
+//! What is tested of each answer before it is handed on: that it is one of document 01's, or of document 02's 21 to 24, for what was asked.
 use crate::event::{OPEN, OPEN_NIL};
 use crate::{foreign, witness, WITNESS};
 
 /// Types are below this.
 pub const TYPES: u8 = 64;
 
-/// A schema file's: 0 to 9 or 21 to 23; 1 exactly with a short buffer; the place inside the file, at its end for 2 alone, 0 where no command
+/// A schema file's: 0 to 9 or 21 to 24; 1 exactly with a short buffer; the place inside the file, at its end for 2 alone, 0 where no command
 /// is in question; on 9 a witness, of two types in a type or of two roots.
 pub fn schema(number: u8, place: usize, length: usize, buffer: &[u8]) {
     assert!(
-        matches!(number, 0..=9 | 21..=23),
+        matches!(number, 0..=9 | 21..=24),
         "typestock: no schema's answer is {number}"
     );
     assert!(
@@ -19,7 +19,7 @@ pub fn schema(number: u8, place: usize, length: usize, buffer: &[u8]) {
     );
     let fits = match number {
         2 => place <= length,
-        3..=7 | 21..=23 => place < length,
+        3..=7 | 21..=24 => place < length,
         _ => place == 0,
     };
     assert!(
@@ -64,6 +64,19 @@ pub fn events(number: u8, place: usize, count: usize, length: usize, types: &[u8
     assert!(
         types[..count].iter().all(|&a| a < TYPES),
         "typestock: an opening was given a type of {TYPES} or more"
+    );
+}
+
+/// A written schema file's: 0 and a length of at least one byte within the buffer; or 2 to 9 or 20 to 23 and no length.
+pub fn written(number: u8, length: usize, room: usize) {
+    let fits = match number {
+        0 => (1..=room).contains(&length),
+        2..=9 | 20..=23 => length == 0,
+        _ => false,
+    };
+    assert!(
+        fits,
+        "typestock: a writer was answered {number} and {length} bytes, with {room} bytes for the file"
     );
 }
 
@@ -130,6 +143,7 @@ mod tests {
         schema(9, 0, 10, &roots);
         schema(21, 9, 10, &buffer);
         schema(23, 0, 10, &buffer);
+        schema(24, 2, 10, &buffer);
         for (number, place) in [
             (0, 1),
             (2, 11),
@@ -141,7 +155,8 @@ mod tests {
             (20, 0),
             (21, 10),
             (23, 10),
-            (24, 0),
+            (24, 10),
+            (25, 0),
             (255, 0),
         ] {
             breach(move || schema(number, place, 10, &competing));
@@ -197,6 +212,22 @@ mod tests {
         breach(move || events(0, 10, 3, 10, &types[..2]));
         breach(move || events(13, 5, 3, 10, &[0; 3]));
         breach(move || events(0, 10, 3, 10, &types));
+    }
+
+    #[test]
+    fn written_files() {
+        written(0, 8, 8);
+        written(0, 1, 8);
+        for number in (2..=9).chain(20..=23) {
+            written(number, 0, 8);
+            written(number, 0, 0);
+            breach(move || written(number, 1, 8));
+        }
+        breach(|| written(0, 9, 8));
+        breach(|| written(0, 0, 8));
+        for number in [1, 10, 11, 19, 24, 25, 255] {
+            breach(move || written(number, 0, 8));
+        }
     }
 
     #[test]

@@ -1,4 +1,5 @@
-//! The typing engine typestock for Rust: a schema file is accepted or refused, an event file is typed under it.
+//! The typing engine typestock for Rust: a schema file is accepted or refused, an event file is typed under it, and a stored schema file is written
+//! anew without types that no valid document uses.
 //!
 //! The functions of the library are proved: for all bytes and lengths they answer as docs/FORMATS.md says, and leave each byte of a lent buffer
 //! as it says. What C's calling convention does not carry over (that the library linked is that one, with these declarations) is tested here
@@ -44,6 +45,18 @@
 //! assert_eq!(job(&[OPEN_NIL, 0, CLOSE, 0, FINISH]), typestock::Job::EventsRead { number: 0, place: 5, count: 1 });
 //! assert_eq!(job(&[OPEN, 0, CLOSE, 0, FINISH]), typestock::Job::EventsRead { number: 17, place: 2, count: 1 });
 //! ```
+//!
+//! A schema with a type that no valid document uses is refused. [`write_reduced`] and [`reduced`] write a file that was stored with such types
+//! without them:
+//!
+//! ```
+//! let stored = b"\x10\x02\x11\x01\x01\x12\x00\x11\x00\x01\x12\x00\x14\x01\x1f"; // type 1 is the root, and holds no type 0
+//! let answer = |schema: &[u8]| typestock::check_schema(schema, &mut [0; typestock::WITNESS]);
+//! assert_eq!(answer(stored), typestock::SchemaAnswer { number: 24, place: 2 });
+//! let schema = typestock::reduced(stored).unwrap();
+//! assert_eq!(schema, b"\x10\x02\x11\x00\x01\x12\x00\x14\x00\x1f");
+//! assert_eq!(answer(&schema), typestock::SchemaAnswer { number: 0, place: 0 });
+//! ```
 #[cfg(not(all(target_arch = "x86_64", target_os = "linux")))]
 compile_error!("libtypestock_c.a is for x86-64 Linux");
 
@@ -56,8 +69,13 @@ pub use codes::{command, event};
 /// The least length of a witness buffer: with fewer bytes every schema is refused with 1.
 pub const WITNESS: usize = 532;
 
-/// A schema file's answer: 0 and 0 for an accepted one, else the number of the first question answered no, 1 to 9 or 21 to 23, and its place.
-/// 21 to 23 are of content written as an expression: a command that cannot follow there, a 32nd use, a 17th bracket. docs/FORMATS.md has them all.
+/// The most bytes by which a written schema file can be longer than the one that it is written of: a FINAL for each of 32 states of 64 types, and 1,024
+/// STEPs. That is counted, and not proved.
+pub const MOST_GAINED: usize = 8192;
+
+/// A schema file's answer: 0 and 0 for an accepted one, else the number of the first question answered no, 1 to 9 or 21 to 24, and its place.
+/// 21 to 23 are of content written as an expression: a command that cannot follow there, a 32nd use, a 17th bracket. 24, asked between 8 and 9, is
+/// of a type that no valid document uses, at the first such TYPE. docs/FORMATS.md has them all.
 #[derive(Debug, Clone, Copy, PartialEq, Eq)]
 pub struct SchemaAnswer {
     pub number: u8,
@@ -75,7 +93,7 @@ pub fn check_schema(schema: &[u8], witness: &mut [u8]) -> SchemaAnswer {
     }
 }
 
-/// What a schema file and an event file get: the schema's refusal, 1 to 9 or 21 to 23; or the event file's number, 0 for taken or 11 to 20,
+/// What a schema file and an event file get: the schema's refusal, 1 to 9 or 21 to 24; or the event file's number, 0 for taken or 11 to 20,
 /// the place of the refused event or the file's length, and the count of openings taken.
 #[derive(Debug, Clone, Copy, PartialEq, Eq)]
 pub enum Job {
@@ -109,6 +127,41 @@ pub fn type_document(schema: &[u8], events: &[u8], witness: &mut [u8], types: &m
         place: told.place,
         count: told.count,
     }
+}
+
+/// Why a file is not written: the number of the first question answered no.
+#[derive(Debug, Clone, Copy, PartialEq, Eq)]
+pub struct NotWritten {
+    pub number: u8,
+}
+
+impl std::fmt::Display for NotWritten {
+    fn fmt(&self, f: &mut std::fmt::Formatter<'_>) -> std::fmt::Result {
+        write!(f, "not written: {}", self.number)
+    }
+}
+
+impl std::error::Error for NotWritten {}
+
+/// Writes the schema file without the types that no valid document uses to the first bytes of `out`, and gives their number; the rest is unchanged.
+/// Where it is refused, with 2 to 9 or 21 to 23 as [`check_schema`] refuses it but for 24, or last with 20 for an `out` that is too short, all of it
+/// is. The written file is accepted, the same documents are valid under it, and their types are the old ones, numbered anew in their order. A file
+/// with no such type comes back byte for byte. A buffer of [`MOST_GAINED`] bytes more than the file has is enough.
+pub fn write_reduced(schema: &[u8], out: &mut [u8]) -> Result<usize, NotWritten> {
+    let told = foreign::write_reduced(schema, out);
+    held::written(told.number, told.length, out.len());
+    match told.number {
+        0 => Ok(told.length),
+        number => Err(NotWritten { number }),
+    }
+}
+
+/// The file that [`write_reduced`] writes, into a buffer that is long enough.
+pub fn reduced(schema: &[u8]) -> Result<Vec<u8>, NotWritten> {
+    let mut out = vec![0; schema.len() + MOST_GAINED];
+    let length = write_reduced(schema, &mut out)?;
+    out.truncate(length);
+    Ok(out)
 }
 
 /// An opening of an event file, plain or as nil: its level, the root's being 1, and its tag.

@@ -2,7 +2,7 @@
 // (the wrapper tests that of each).
 mod common;
 use common::{
-    checked, hex, read, refused, typed, LISTS, R, R_BY_EXPRESSIONS, R_EVENTS, STOCK, WALL,
+    checked, hex, read, refused, typed, written, LISTS, R, R_BY_EXPRESSIONS, R_EVENTS, STOCK, WALL,
     WALL_EVENTS,
 };
 use typestock::{check_schema, openings, witness, Job, SchemaAnswer, Witness, WITNESS};
@@ -309,7 +309,8 @@ fn deepest() -> Vec<u8> {
 fn small_threads() {
     let work = || {
         let (competing, deepest) = (long_witness(), deepest());
-        let roots = hex(&format!("{LISTS} 14 02 14 03 1F"));
+        let roots = hex(&format!("{LISTS} 14 02 14 00 14 03 14 01 1F"));
+        let stored = hex(&format!("{LISTS} 14 01 1F"));
         let (wall, wall_events) = (hex(WALL), hex(WALL_EVENTS));
         let (schema, events) = (hex(R), hex(R_EVENTS));
         for _ in 0..200 {
@@ -317,6 +318,9 @@ fn small_threads() {
             assert_eq!(check_schema(&competing, &mut buffer).number, 9);
             assert_eq!(check_schema(&deepest, &mut buffer).number, 0);
             assert_eq!(check_schema(&roots, &mut buffer).number, 9);
+            assert_eq!(check_schema(&stored, &mut buffer).number, 24);
+            assert_eq!(written(&stored, 100).0, Ok(19));
+            assert_eq!(written(&deepest, deepest.len()).0, Ok(deepest.len()));
             let (job, _, types) = typed(&schema, &events, WITNESS, 4);
             assert_eq!((job, types), (read(0, 17, 4), vec![0, 1, 2, 3]));
             let (job, _, types) = typed(&wall, &wall_events, WITNESS, 5);

@@ -68,7 +68,8 @@ fn a_gives_b1_or_b2() {
 
 #[test]
 fn d_without_an_accepting_state() {
-    schema_gets(&format!("{CHOICE} 11 03 01 14 00 1F"), 0, 0, "");
+    // b2, type 2, at 24, and d are not used
+    schema_gets(&format!("{CHOICE} 11 03 01 14 00 1F"), 24, 24, "");
 }
 
 #[test]
@@ -245,7 +246,9 @@ fn price_lists_and_stock_lists() {
         events_get(&schema, "21 00 21 01", 13, 2, &[0]);
         events_get(&schema, "21 02", 13, 0, &[]);
     }
-    events_get(&format!("{LISTS} 14 00 1F"), STOCK, 13, 0, &[]);
+    // with one root the types of the other kind of list are not used
+    schema_gets(&format!("{LISTS} 14 00 1F"), 24, 11, "");
+    schema_gets(&format!("{LISTS} 14 01 1F"), 24, 2, "");
 }
 
 #[test]
@@ -277,9 +280,13 @@ fn roots_of_one_tag() {
 // Type 0 gives 1 or 2 at once; types 3 and 4 are of one tag.
 #[test]
 fn roots_are_looked_at_first() {
-    let types = "10 03  11 00 02 12 01 13 00 01 01 13 00 02 01  11 01 01 12 00  11 01 01 12 00  11 02 01 12 00  11 02 01 12 00";
-    schema_gets(&format!("{types} 14 00 1F"), 9, 0, "00 01 02 00 00");
-    schema_gets(&format!("{types} 14 03 14 00 1F"), 9, 0, "00 01 02 00 00");
+    let owner = "10 03  11 00 02 12 01 13 00 01 01 13 00 02 01  11 01 01 12 00  11 01 01 12 00";
+    schema_gets(&format!("{owner} 14 00 1F"), 9, 0, "00 01 02 00 00");
+    let types = format!("{owner}  11 02 01 12 00  11 02 01 12 00");
+    // a type that no document uses is looked for before both
+    schema_gets(&format!("{types} 14 00 1F"), 24, 25, "");
+    schema_gets(&format!("{types} 14 03 14 00 1F"), 24, 30, "");
+    schema_gets(&format!("{types} 14 04 14 03 1F"), 24, 2, "");
     schema_gets(
         &format!("{types} 14 00 14 04 14 03 1F"),
         9,
@@ -295,21 +302,23 @@ fn roots_that_bear_no_tree() {
     let schema = |types_of_roots: &[u8]| format!("{types} {}", roots(types_of_roots));
     schema_gets(&schema(&[0]), 8, 0, "");
     schema_gets(&schema(&[1, 0]), 8, 0, "");
-    events_get(&schema(&[0, 1, 3]), "21 01 22 01 2F", 0, 5, &[3]);
-    events_get(&schema(&[0, 1, 3]), "21 00", 13, 0, &[]);
-    events_get(&schema(&[0, 2, 1]), "21 00 22 00 2F", 0, 5, &[2]);
+    schema_gets(&schema(&[0, 1, 3]), 24, 2, "");
+    schema_gets(&schema(&[0, 2, 1]), 24, 2, "");
 }
 
-// Nine types with no children, each of a tag of its own: 47 bytes, then ROOTs.
+// Eight or nine types with no children, each of a tag of its own: 42 or 47 bytes, then ROOTs.
 #[test]
 fn roots_8_and_9() {
     let types: String = (0..9).map(|a| format!("11 {a:02X} 01 12 00 ")).collect();
     let schema = |of: &[u8]| format!("10 09 {types} {}", roots(of));
-    let eight = schema(&[8, 1, 2, 3, 7, 5, 6, 4]);
-    for a in 1..9 {
+    let eight = &types[..types.len() * 8 / 9];
+    let eight = format!("10 09 {eight} {}", roots(&[0, 1, 2, 3, 7, 5, 6, 4]));
+    for a in 0..8 {
         events_get(&eight, &format!("21 {a:02X} 22 {a:02X} 2F"), 0, 5, &[a]);
     }
-    events_get(&eight, "21 00", 13, 0, &[]);
+    events_get(&eight, "21 08", 13, 0, &[]);
+    schema_gets(&schema(&[8, 1, 2, 3, 7, 5, 6, 4]), 24, 2, "");
+    schema_gets(&schema(&[7, 1, 2, 3, 0, 5, 6, 4]), 24, 42, "");
     schema_gets(&schema(&[]), 3, 47, "");
     schema_gets(&schema(&[8, 1, 2, 3, 7, 5, 6, 4, 0]), 5, 63, "");
     // a ninth that was given, or whose type was not
@@ -413,13 +422,13 @@ fn kinds_of_openings_compete_apart() {
     };
     for [one, other] in [[plain, plain], [nil, nil], [both, plain], [nil, both]] {
         schema_gets(&schema(one, other, "14 00"), 9, 0, "00 01 02 00 00");
-        let roots = schema(one, other, "14 01 14 02");
+        let roots = schema(one, other, "14 01 14 00 14 02");
         schema_gets(&roots, 9, 0, "FF 01 02 00 00");
     }
     let apart = schema(plain, nil, "14 00");
     events_get(&apart, "21 00 21 01 22 01 22 00 2F", 0, 9, &[0, 1]);
     events_get(&apart, "21 00 23 01 22 01 22 00 2F", 0, 9, &[0, 2]);
-    let roots = schema(nil, plain, "14 01 14 02");
+    let roots = schema(nil, plain, "14 01 14 00 14 02");
     events_get(&roots, "21 01 22 01 2F", 0, 5, &[2]);
     events_get(&roots, "23 01 22 01 2F", 0, 5, &[1]);
 }

@@ -1,6 +1,6 @@
 //! Content written as expressions.
 
-use super::{accepted, boots, check, hex, read, refused, row, stated};
+use super::{accepted, boots, check, hex, read, refused, row, stated, unused};
 use crate::schema::Step;
 
 /// The bytes of an expression: types in decimal, brackets, | between sequences, * after what is
@@ -158,7 +158,7 @@ fn other_commands_inside_and_outside() {
     refused(&begun("", "3F 13 00 00 00"), 3, 6);
     refused(&begun("", "3F 1F"), 3, 6);
     accepted(&begun("", "3F 14 00 1F"));
-    accepted(&begun("", "3F 11 00 01 14 00 1F"));
+    unused(&begun("", "3F 11 00 01 14 00 1F"), 6);
 }
 
 #[test]
@@ -202,8 +202,8 @@ fn steps_of_expressions() {
         ([file, more, hex("14 00 1F")].concat(), place)
     };
     let one = block(0, "1");
-    let (file, _) = with([block(0, &"1 ".repeat(31)), one.clone()].concat());
-    accepted(&file);
+    let (file, place) = with([block(0, &"1 ".repeat(31)), one.clone()].concat());
+    unused(&file, place);
     let (file, place) = with([block(0, &"1 ".repeat(31)), one.clone(), one.clone()].concat());
     refused(&file, 5, place + 66 + 6 + 5);
     let mut steps = hex("11 00 20");
@@ -213,7 +213,8 @@ fn steps_of_expressions() {
     // A bracket that is open comes before.
     let (file, place) = with([steps.clone(), hex("11 00 00 30 32 01 3F")].concat());
     refused(&file, 21, place + steps.len() + 6);
-    accepted(&with([steps, block(0, "()")].concat()).0);
+    let (file, place) = with([steps, block(0, "()")].concat());
+    unused(&file, place);
 }
 
 #[test]

@@ -2,7 +2,7 @@
 
 use super::{
     Block, CLOSE, FINISH, OPEN, accepted, boots, check, confirmed, file_of_roots, hex, leaf,
-    longest_file, print, read, refused, row, stated,
+    longest_file, print, read, reduced, refused, row, searched, stated, unused,
 };
 use crate::Trimming;
 
@@ -38,7 +38,7 @@ fn a_document_may_have_any_root() {
         assert_eq!(read(&schema, &[OPEN, 2]), (13, 0, vec![]));
         assert_eq!(read(&schema, &[OPEN, 3]), (12, 0, vec![]));
     }
-    assert_eq!(read(&lists(&[1]), &row(0, &[])), (13, 0, vec![]));
+    assert_eq!(read(&reduced(&lists(&[1])), &row(0, &[])), (13, 0, vec![]));
     assert_eq!(
         print(&lists(&[0, 1]), &row(1, &[2])),
         b"depth tag type\n1 1 1\n2 2 3\naccepted 2\n"
@@ -67,7 +67,8 @@ fn eight_roots() {
     for count in 1..=8 {
         let roots: Vec<u8> = (0..count).rev().collect();
         let schema = nine_leaves(&roots);
-        accepted(&schema);
+        unused(&schema, 2 + 5 * usize::from(count));
+        let schema = reduced(&schema);
         for tag in 0..9 {
             let (number, at, types) = read(&schema, &row(tag, &[]));
             let expected = if tag < count { (0, 5) } else { (13, 0) };
@@ -138,12 +139,13 @@ fn a_root_that_bears_a_tree() {
     refused(&file(&[0]), 8, 0);
     refused(&file(&[0, 1]), 8, 0);
     // Two roots of one tag that bear no tree do not compete, and one of them with one that does.
-    accepted(&file(&[0, 2]));
-    accepted(&file(&[2, 1, 0]));
-    assert_eq!(read(&file(&[1, 2]), &row(1, &[])), (0, 5, vec![2]));
-    assert_eq!(read(&file(&[1, 2]), &row(0, &[])), (13, 0, vec![]));
-    let one_bears = file_of_roots(1, &[BARREN, leaf(0)], &[0, 1]);
-    assert_eq!(read(&one_bears, &row(0, &[])), (0, 5, vec![1]));
+    unused(&file(&[0, 2]), 2);
+    unused(&file(&[2, 1, 0]), 2);
+    let left = reduced(&file(&[1, 2]));
+    assert_eq!(read(&left, &row(1, &[])), (0, 5, vec![0]));
+    assert_eq!(read(&left, &row(0, &[])), (13, 0, vec![]));
+    let one_bears = reduced(&file_of_roots(1, &[BARREN, leaf(0)], &[0, 1]));
+    assert_eq!(read(&one_bears, &row(0, &[])), (0, 5, vec![0]));
 }
 
 #[test]
@@ -157,9 +159,9 @@ fn roots_of_one_tag_compete() {
     // J is less than K in whichever order they are given.
     let blocks = [leaf(0), leaf(1), leaf(2), leaf(1)];
     let turned = file_of_roots(3, &blocks, &[3, 0, 1]);
-    assert_eq!(check(&turned), (9, 0, hex("FF 01 03 00 00")));
+    assert_eq!(searched(&turned), (9, 0, hex("FF 01 03 00 00")));
     // Only one of them is a root.
-    accepted(&file_of_roots(3, &blocks, &[3, 0]));
+    unused(&file_of_roots(3, &blocks, &[3, 0]), 7);
     // They compete whatever stands in them.
     let empty: Block = (0, 1, &[0], &[]);
     let full: Block = (0, 2, &[1], &[(0, 1, 1)]);
@@ -190,8 +192,8 @@ fn roots_are_looked_at_first() {
     let within: Block = (0, 2, &[1], &[(0, 3, 1), (0, 4, 1)]);
     let blocks = [within, leaf(1), leaf(1), leaf(2), leaf(2)];
     let file = |roots: &[u8]| file_of_roots(3, &blocks, roots);
-    assert_eq!(check(&file(&[0])), (9, 0, hex("00 03 04 00 00")));
-    assert_eq!(check(&file(&[0, 1])), (9, 0, hex("00 03 04 00 00")));
+    assert_eq!(searched(&file(&[0])), (9, 0, hex("00 03 04 00 00")));
+    assert_eq!(searched(&file(&[0, 1])), (9, 0, hex("00 03 04 00 00")));
     assert_eq!(check(&file(&[0, 2, 1])), (9, 0, hex("FF 01 02 00 00")));
     assert!(confirmed(&file(&[0, 1]), 0, 3, 4, &[]));
     assert!(!confirmed(&file(&[0, 2, 1]), 0, 3, 4, &[]));
@@ -208,7 +210,7 @@ fn each_root_is_reached() {
     let bad: Block = (1, 2, &[1], &[(0, 2, 1), (0, 3, 1)]);
     let leaves = [leaf(2), leaf(2)];
     let blocks = [&[leaf(0), bad][..], &leaves].concat();
-    accepted(&file_of_roots(3, &blocks, &[0]));
+    unused(&file_of_roots(3, &blocks, &[0]), 7);
     assert_eq!(
         check(&file_of_roots(3, &blocks, &[0, 1])),
         (9, 0, hex("01 02 03 00 00"))
@@ -217,7 +219,7 @@ fn each_root_is_reached() {
     let above: Block = (0, 2, &[1], &[(0, 1, 1)]);
     let beside: Block = (2, 2, &[1], &[(0, 2, 1), (0, 3, 1)]);
     let blocks = [&[above, bad][..], &leaves, &[beside]].concat();
-    let within = |roots: &[u8]| check(&file_of_roots(3, &blocks, roots)).2[0];
+    let within = |roots: &[u8]| searched(&file_of_roots(3, &blocks, roots)).2[0];
     assert_eq!((within(&[4]), within(&[4, 0]), within(&[0, 4])), (4, 1, 1));
 }
 

@@ -2,7 +2,7 @@
 
 use std::collections::BTreeSet;
 
-use super::{Block, check, confirmed, file, hex, leaf};
+use super::{Block, confirmed, file, hex, leaf, searched};
 use crate::limits::WITNESS;
 
 type Step = (u8, u8, u8);
@@ -23,12 +23,15 @@ const RIVALS: [Step; 2] = [(6, 1, 7), (6, 2, 7)];
 fn a_short_way_beside_a_long_one() {
     for ways in [[&LONG[..], &SHORT].concat(), [&SHORT[..], &LONG].concat()] {
         let schema = over_leaves(8, 7, &[&ways[..], &RIVALS].concat());
-        assert_eq!(check(&schema), (9, 0, hex("00 01 02 02 00 04 04")));
+        assert_eq!(searched(&schema), (9, 0, hex("00 01 02 02 00 04 04")));
         assert!(confirmed(&schema, 0, 1, 2, &[4, 4]));
         assert!(!confirmed(&schema, 0, 1, 2, &[3; 5]));
     }
     let schema = over_leaves(8, 7, &[&LONG[..], &RIVALS].concat());
-    assert_eq!(check(&schema), (9, 0, hex("00 01 02 05 00 03 03 03 03 03")));
+    assert_eq!(
+        searched(&schema),
+        (9, 0, hex("00 01 02 05 00 03 03 03 03 03"))
+    );
     assert!(confirmed(&schema, 0, 1, 2, &[3; 5]));
 }
 
@@ -39,7 +42,7 @@ fn at_once_and_later() {
         2,
         &[(0, 3, 1), (1, 1, 2), (1, 2, 2), (0, 1, 2), (0, 2, 2)],
     );
-    assert_eq!(check(&schema), (9, 0, hex("00 01 02 00 00")));
+    assert_eq!(searched(&schema), (9, 0, hex("00 01 02 00 00")));
     assert!(!confirmed(&schema, 0, 1, 2, &[3]));
 }
 
@@ -59,7 +62,7 @@ fn two_shortest_words() {
     assert!(confirmed(&schema, 0, 1, 2, &[5]));
     assert!(confirmed(&schema, 0, 3, 4, &[6]));
     assert!(!confirmed(&schema, 0, 1, 2, &[6]));
-    assert_eq!(check(&schema).2.len(), 6);
+    assert_eq!(searched(&schema).2.len(), 6);
 }
 
 #[test]
@@ -69,12 +72,12 @@ fn by_one_path_or_by_two_at_once() {
     let two = [(0, 4, 3), (0, 4, 4), (3, 4, 5), (4, 4, 6)];
     let on = [(5, 4, 7), (6, 4, 8), (7, 1, 9), (8, 2, 9)];
     let schema = over_leaves(10, 9, &[one, two, on].concat());
-    assert_eq!(check(&schema), (9, 0, hex("00 01 02 02 00 03 03")));
+    assert_eq!(searched(&schema), (9, 0, hex("00 01 02 02 00 03 03")));
     assert!(!confirmed(&schema, 0, 1, 2, &[4; 3]));
     // Three types by one path, two by two paths.
     let one = [(0, 3, 1), (1, 3, 2), (2, 3, 7), (7, 1, 9), (7, 2, 9)];
     let schema = over_leaves(10, 9, &[&one[..], &two, &[(5, 1, 9), (6, 2, 9)]].concat());
-    assert_eq!(check(&schema), (9, 0, hex("00 01 02 02 00 04 04")));
+    assert_eq!(searched(&schema), (9, 0, hex("00 01 02 02 00 04 04")));
     assert!(!confirmed(&schema, 0, 1, 2, &[3; 3]));
 }
 
@@ -85,10 +88,10 @@ fn a_shorter_word_in_a_larger_type() {
     let at_once: Block = (2, 2, &[1], &[(0, 3, 1), (0, 4, 1)]);
     let leaves = [leaf(3), leaf(3), leaf(4)];
     let schema = file(5, &[&[root, after_two, at_once][..], &leaves].concat(), 0);
-    assert_eq!(check(&schema), (9, 0, hex("01 03 04 02 00 05 05")));
+    assert_eq!(searched(&schema), (9, 0, hex("01 03 04 02 00 05 05")));
     assert!(!confirmed(&schema, 2, 3, 4, &[]));
     let schema = file(5, &[&[root, at_once, after_two][..], &leaves].concat(), 0);
-    assert_eq!(check(&schema), (9, 0, hex("01 03 04 00 00")));
+    assert_eq!(searched(&schema), (9, 0, hex("01 03 04 00 00")));
     assert!(!confirmed(&schema, 2, 3, 4, &[5, 5]));
 }
 
@@ -117,7 +120,7 @@ fn one_type_on(steps: &[Step], pairs: &BTreeSet<(u8, u8)>) -> BTreeSet<(u8, u8)>
 /// In a type with these steps J and K, which lead from state 0 and from state 31, compete after 527
 /// types: no word of fewer types leads to both states.
 fn after_527(schema: &[u8], steps: &[Step], j: u8, k: u8) {
-    let (number, place, bytes) = check(schema);
+    let (number, place, bytes) = searched(schema);
     assert_eq!((number, place, bytes.len()), (9, 0, WITNESS));
     assert_eq!(bytes[..5], [0, j, k, 0x0F, 0x02]);
     assert!(confirmed(schema, 0, j, k, &bytes[5..]));

@@ -1,7 +1,7 @@
 // What the tests share: bytes from hexadecimal text, document 01's schema R, by states and by expressions, one with two roots, one with a nillable
 // type, and calls on buffers that are watched.
 #![allow(dead_code)]
-use typestock::{check_schema, type_document, Job, SchemaAnswer};
+use typestock::{check_schema, type_document, write_reduced, Job, NotWritten, SchemaAnswer};
 
 pub fn hex(text: &str) -> Vec<u8> {
     text.split_whitespace()
@@ -109,6 +109,18 @@ pub fn typed(
         };
         let filled = filled(number, witness.lend());
         (job, witness.written(filled), types.written(count))
+    };
+    let (first, second) = (once(0), once(0xff));
+    assert_eq!(first, second);
+    first
+}
+
+// What the writer answers with an output of the length, and the file that is written; nothing else of the output or around it is written.
+pub fn written(schema: &[u8], room: usize) -> (Result<usize, NotWritten>, Vec<u8>) {
+    let once = |turned| {
+        let mut out = Lent::new(room, turned);
+        let answer = write_reduced(schema, out.lend());
+        (answer, out.written(answer.unwrap_or(0)))
     };
     let (first, second) = (once(0), once(0xff));
     assert_eq!(first, second);

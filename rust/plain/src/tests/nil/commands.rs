@@ -1,6 +1,6 @@
 //! The command NIL.
 
-use super::super::{accepted, file_of_bytes, hex, leaf, longest_file, refused, stated};
+use super::super::{accepted, file_of_bytes, hex, leaf, longest_file, refused, stated, unused};
 use super::{nil, plain};
 use crate::Schema;
 
@@ -35,7 +35,7 @@ fn after_an_expression() {
         let then = |more: &str| hex(&format!("{before} {more}"));
         assert!(stated(&then("15 14 00 1F")).nillable[0]);
         accepted(&then("15 14 00 1F"));
-        accepted(&then("15 11 00 01 15 14 00 1F"));
+        unused(&then("15 11 00 01 15 14 00 1F"), place + 1);
         refused(&then("15 15"), 6, place + 1);
         for other in ["12 00", "13 00 00 00", "32 00", "3F", "1F", "10 01"] {
             refused(&then(other), 3, place);

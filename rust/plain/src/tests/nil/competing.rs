@@ -2,7 +2,7 @@
 
 use super::super::{
     Block, CLOSE, FINISH, OPEN, accepted, check, code, confirmed, file_of_bytes, hex, leaf, read,
-    refused, stated,
+    reduced, refused, searched, stated, unused,
 };
 use super::{SOME_KINDS, childless, nil, over_one, plain};
 use crate::kinds::Kinds;
@@ -67,9 +67,11 @@ fn compared([one, other]: [&[Kind]; 2]) -> u8 {
     }
 }
 
-/// Which of two such types an opening gets.
+/// Which of two such types an opening gets, by their numbers where one without trees is left out.
 fn given(types: [&[Kind]; 2], kind: Kind) -> Option<u8> {
-    (0..2).find(|&n| types[usize::from(n)].contains(&kind))
+    let mut used = types.iter().filter(|kinds| !kinds.is_empty());
+    let number = used.position(|kinds| kinds.contains(&kind))?;
+    Some(number as u8)
 }
 
 #[test]
@@ -80,9 +82,13 @@ fn children_by_kind() {
         let schema = file_of_bytes(2, &[plain(owner), one, other], &[0]);
         let number = compared(types);
         let witness = if number == 9 { "00 01 02 00 00" } else { "" };
-        assert_eq!(check(&schema), (number, 0, hex(witness)));
+        assert_eq!(searched(&schema), (number, 0, hex(witness)));
         assert_eq!(confirmed(&schema, 0, 1, 2, &[]), number == 9);
-        for kind in Kind::ALL.into_iter().filter(|_| number == 0) {
+        if number > 0 {
+            continue;
+        }
+        let schema = reduced(&schema);
+        for kind in Kind::ALL {
             let expected = match given(types, kind) {
                 Some(n) => (0, 9, vec![0, 1 + n]),
                 None => (13, 2, vec![0]),
@@ -100,9 +106,13 @@ fn roots_by_kind() {
         let schema = file_of_bytes(1, &blocks, &roots);
         let number = compared(types);
         let witness = if number == 9 { "FF 00 01 00 00" } else { "" };
-        assert_eq!(check(&schema), (number, 0, hex(witness)));
+        assert_eq!(searched(&schema), (number, 0, hex(witness)));
         assert_eq!(confirmed(&schema, 255, 0, 1, &[]), number == 9);
-        for kind in Kind::ALL.into_iter().filter(|_| number == 0) {
+        if number > 0 {
+            continue;
+        }
+        let schema = reduced(&schema);
+        for kind in Kind::ALL {
             let expected = match given(types, kind) {
                 Some(n) => (0, 5, vec![n]),
                 None => (13, 0, vec![]),
@@ -121,7 +131,7 @@ fn compete(steps: &[(u8, u8, u8)]) -> Vec<(u8, u8)> {
     let kinds: [&[Kind]; 4] = [&[Kind::Plain], &[Kind::Nil], &Kind::ALL, &[]];
     blocks.extend(kinds.map(|kinds| childless(1, kinds)));
     let schema = file_of_bytes(2, &blocks, &[0]);
-    let bytes = check(&schema).2;
+    let bytes = searched(&schema).2;
     let pairs = (1..5).flat_map(|one| (one + 1..5).map(move |other| (one, other)));
     let found: Vec<_> = pairs
         .filter(|&(one, other)| confirmed(&schema, 0, one, other, &[]))
@@ -157,8 +167,11 @@ fn roots_are_looked_at_first() {
     let file = |roots: &[u8]| file_of_bytes(3, &blocks, roots);
     assert_eq!(check(&file(&[0, 3, 4])), (9, 0, hex("00 01 02 00 00")));
     assert!(!confirmed(&file(&[0, 3, 4]), 255, 3, 4, &[]));
-    accepted(&file(&[4, 3]));
-    assert_eq!(check(&file(&[4, 2, 0, 1])), (9, 0, hex("FF 01 02 00 00")));
+    unused(&file(&[4, 3]), 2);
+    assert_eq!(
+        searched(&file(&[4, 2, 0, 1])),
+        (9, 0, hex("FF 01 02 00 00"))
+    );
     assert!(!confirmed(&file(&[4, 2, 0, 1]), 0, 1, 2, &[]));
 }
 
@@ -178,8 +191,8 @@ fn words_through_nil_elements() {
         assert_eq!(check(&schema), (9, 0, hex("00 01 02 01 00 03")));
         assert!(!confirmed(&schema, 0, 1, 2, &[4, 4]));
         let schema = file(&[], kind, kind);
-        assert_eq!(check(&schema), (9, 0, hex("00 01 02 02 00 04 04")));
-        accepted(&file(by_nil, kind, &[]));
+        assert_eq!(searched(&schema), (9, 0, hex("00 01 02 02 00 04 04")));
+        assert_eq!(searched(&file(by_nil, kind, &[])), (0, 0, vec![]));
     }
     accepted(&file(by_nil, by_nil, by_plain));
     assert_eq!(
@@ -236,9 +249,11 @@ fn competition_inside_a_nillable_type() {
         file_of_bytes(3, &blocks, &[0])
     };
     // No element of type 1 has children that end in state 1.
-    accepted(&within(&[]));
-    accepted(&within(&[2]));
-    accepted(&within(&[0, 2]));
+    let place = 2 + 9;
+    for accepting in [&[][..], &[2], &[0, 2]] {
+        let schema = within(accepting);
+        unused(&schema, place + 3 + 2 * accepting.len() + 8 + 1);
+    }
     assert_eq!(check(&within(&[1])), (9, 0, hex("01 02 03 00 00")));
 }
 

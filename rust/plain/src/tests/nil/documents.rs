@@ -1,8 +1,8 @@
 //! Event files with openings as nil.
 
 use super::super::{
-    Block, CLOSE, FINISH, OPEN, OPEN_NIL, accepted, file_of_bytes, hex, leaf, print, read,
-    read_into, refused, stated,
+    Block, CLOSE, FINISH, OPEN, OPEN_NIL, accepted, file_of_bytes, hex, print, read, read_into,
+    refused, stated,
 };
 use super::{childless, nil, over_one, plain, wall};
 use crate::{Kind, Opening, event_file, event_file_by_steps, openings};
@@ -80,9 +80,9 @@ fn a_nil_root() {
 
 #[test]
 fn at_the_sixty_fifth_level() {
-    // Type 0 holds itself without end and may be nil; type 1 is a leaf that it does not hold.
+    // Type 0 holds itself without end and may be nil; no type has tag 1.
     let nested: Block = (0, 1, &[0], &[(0, 0, 0)]);
-    let schema = file_of_bytes(2, &[nil(nested), plain(leaf(1))], &[0]);
+    let schema = file_of_bytes(2, &[nil(nested)], &[0]);
     let then = |levels: usize, more: &[u8]| {
         let (number, at, types) = read(&schema, &[&[OPEN, 0].repeat(levels), more].concat());
         assert_eq!(types, vec![0; at / 2]);
