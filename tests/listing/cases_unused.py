@@ -3,7 +3,7 @@
 
 import random
 
-from . import damage, samples, schemas, unused
+from . import damage, samples, unused
 from .case import event_case, job_case, schema_case
 from .cases_calls import starter, walked
 from .cases_events import PLENTY
@@ -107,13 +107,8 @@ def under(rng, start, file):
 
 def damaged_cases(count=300):
     """Random files with something wrong, or nothing."""
-    rng = random.Random("unused types, damaged")
-    while count:
-        made = unused.random_schema(rng)
-        file = damage.damaged_file(rng, made[0]) if made else None
-        if file is not None and schemas.is_listed(file):
-            count -= 1
-            yield schema_case("unused, damaged", file, ROOM)
+    for _, file in unused.damaged_files("unused types, damaged", count):
+        yield schema_case("unused, damaged", file, ROOM)
 
 
 CASES = (hand_cases, room_cases, longest_cases, limit_cases, text_cases, damaged_cases)

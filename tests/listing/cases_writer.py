@@ -165,13 +165,8 @@ def second_random_cases():
 
 def damaged_cases(count=900):
     """Random files with something wrong, or nothing."""
-    rng = random.Random("files written, damaged")
-    while count:
-        made = unused.random_schema(rng)
-        file = damage.damaged_file(rng, made[0]) if made else None
-        if file is not None and schemas.is_listed(file):
-            count -= 1
-            yield writer_case("damaged", file, near(file, count))
+    for left, file in unused.damaged_files("files written, damaged", count):
+        yield writer_case("damaged", file, near(file, left))
 
 
 CASES = (hand_cases, number_cases, same_cases, limit_cases, text_cases, cut_cases, after_cases)

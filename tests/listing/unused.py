@@ -1,10 +1,11 @@
 """Schemas with types that no valid document uses: by hand with the place of 24 and the file that
 is written, over expressions with every set of types dropped, at the limits, and at random."""
 
+import random
 from dataclasses import replace
 from itertools import chain, combinations
 
-from . import expressions, nil, roots, samples, schemas
+from . import damage, expressions, nil, roots, samples, schemas
 from .expressions import content, text
 from .judged import judge
 from .meaning import TooMany
@@ -305,3 +306,14 @@ def random_schema(rng):
         return file, judge(file)
     except TooMany:
         return None
+
+
+def damaged_files(seed, count):
+    """So many random files with something wrong, or nothing, each after how many are still to come."""
+    rng = random.Random(seed)
+    while count:
+        made = random_schema(rng)
+        file = damage.damaged_file(rng, made[0]) if made else None
+        if file is not None and schemas.is_listed(file):
+            count -= 1
+            yield count, file
