@@ -20,13 +20,14 @@ use Rattle.schema.specs.States.{member, insert}
 use Rattle.schema.proofs.Bits.{member-insert}
 use Rattle.expression.specs.Expression.{Expression as Exp}
 use Rattle.expression.specs.Automaton.{uses, typeOfUse}
-use Rattle.expression.specs.Tests.{leads, ofEach, stepsBy, stepsFrom, allSteps}
+use Rattle.sdtd.specs.Lists.{ofEach}
+use Rattle.expression.specs.Tests.{leads, stepsBy, stepsFrom, allSteps}
 use Rattle.expression.specs.Answer.{setOf}
 use Rattle.expression.proofs.SetLaws.{member-or, without-own, without-other}
 use Rattle.expression.proofs.TestLaws.{leads-below}
 use Rattle.expression.proofs.TestSets.{member-set}
 use Rattle.commands.specs.Laying.{Grouped, ofMembers, laidBy, laidFrom, laidSteps}
-use Rattle.expression.proofs.EachLaws.{each-last, each-same}
+use Rattle.sdtd.proofs.EachLaws.{each-last, each-same}
 use Rattle.commands.proofs.LayingLaws.{members-none}
 
 -- one use more in the set of its type

@@ -15,8 +15,8 @@ use Rattle.sdtd.proofs.Basics.{is-true}
 use Rattle.schema.specs.States.{member}
 use Rattle.schema.specs.Putting.{putAll}
 use Rattle.schema.proofs.PuttingLaws.{put-append}
-use Rattle.expression.specs.Tests.{ofEach}
-use Rattle.expression.proofs.EachLaws.{each-none, each-same}
+use Rattle.sdtd.specs.Lists.{ofEach}
+use Rattle.sdtd.proofs.EachLaws.{each-none, each-same}
 use Rattle.expression.proofs.SetLaws.{member-zero, smallest-member, none-smaller, smallest-out, without-own, without-other}
 use Rattle.commands.specs.Laying.{ofMembers, PutAs, LaidAs, namesFrom}
 use Rattle.commands.specs.Progress.{placesWith, boundWith}

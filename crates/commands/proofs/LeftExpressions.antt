@@ -22,7 +22,7 @@ use Rattle.expression.specs.Automaton.{uses, named, Before}
 use Rattle.expression.specs.Tests.{accepts, allSteps}
 use Rattle.expression.specs.Content.{Name}
 use Rattle.expression.specs.Answer.{setOf}
-use Rattle.expression.proofs.EachLaws.{Sorted}
+use Rattle.sdtd.proofs.EachLaws.{Sorted}
 use Rattle.expression.proofs.TestSets.{set-below, member-set}
 use Rattle.expression.proofs.TestLaws.{accepts-below}
 use Rattle.expression.proofs.UseTypes.{named-uses, relabelExpression}

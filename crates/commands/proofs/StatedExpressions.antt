@@ -14,7 +14,8 @@ use Rattle.sdtd.proofs.Basics.{is-false, same-test, getD-member}
 use Rattle.schema.specs.States.{member, members, membersBelow, noStates}
 use Rattle.expression.specs.Expression.{Expression as Exp}
 use Rattle.expression.specs.Automaton.{uses, named, AutomatonOf}
-use Rattle.expression.specs.Tests.{accepts, ofEach, allSteps, automaton}
+use Rattle.sdtd.specs.Lists.{ofEach}
+use Rattle.expression.specs.Tests.{accepts, allSteps, automaton}
 use Rattle.expression.specs.Content.{Name, whole, contentAt}
 use Rattle.expression.specs.Answer.{setOf}
 use Rattle.expression.proofs.TestSets.{member-set}
@@ -37,7 +38,7 @@ use Rattle.commands.proofs.TypePlaces.{type-place-stated}
 use Rattle.expression.proofs.UseTypes.{named-uses}
 use Rattle.commands.specs.File.{Draft, Stated, current, withFinal, withStep, withNil, inCurrent, after, withAutomaton, afterExpression}
 use Rattle.commands.specs.File.{states, commands, blockBy, schemaBy, StatesSchema}
-use Rattle.expression.proofs.EachLaws.{each-last, each-same}
+use Rattle.sdtd.proofs.EachLaws.{each-last, each-same}
 
 -- where nothing is made of the numbers from a on, the first a make all
 each-below : {A : Type 0} (f : ℕ → List A) (a n : ℕ) → a ≤ n → ((k : ℕ) → a ≤ k → f k ≡ []) → ofEach f 0 n ≡ ofEach f 0 a

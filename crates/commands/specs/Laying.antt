@@ -11,7 +11,7 @@ use Rattle.sdtd.specs.declared.Verdict.{Verdict}
 use Rattle.sdtd.specs.declared.Verdict.the-variants.{Fine, RefusedAt}
 use Rattle.schema.specs.States.{member}
 use Rattle.schema.specs.Putting.{putAll}
-use Rattle.expression.specs.Tests.{ofEach}
+use Rattle.sdtd.specs.Lists.{ofEach}
 use Rattle.expression.specs.Content.{Name}
 
 -- what f gives of each member of the set that is below k, rising

@@ -14,7 +14,7 @@ use Rattle.expression.specs.Tests.{leads, accepts, stepsBy, stepsFrom, a
 use Rattle.expression.proofs.Chains.{Chain, ends, goes, Chained, empty, begins, chain-last, chained-none}
 use Rattle.expression.proofs.UseWords.{can, word-chained, chained-word}
 use Rattle.expression.proofs.UseTypes.{Image, image-map, word-types}
-use Rattle.expression.proofs.EachLaws.{mem-cond, Sorted, sorted-of-each, sorted-cond, sorted-rising, rising-same}
+use Rattle.sdtd.proofs.EachLaws.{mem-cond, Sorted, sorted-of-each, sorted-cond, sorted-rising, rising-same}
 use Rattle.expression.proofs.TestLaws.{comes-first, comes-last, follows, empty-word, leads-means, accepts-means, leads-below}
 use Rattle.expression.proofs.AutomatonLimits.{use-named, stepIf, mem-step-if, mem-steps-by, mem-steps-from, mem-steps, endIf, mem-accepting}
 

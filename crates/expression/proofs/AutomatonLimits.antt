@@ -14,7 +14,7 @@ use Rattle.expression.specs.Expression.{Expression}
 use Rattle.expression.specs.Automaton.{named, uses, typeOfUse}
 use Rattle.expression.specs.Tests.{leads, accepts, stepsBy, stepsFrom, allSteps, automaton}
 use Rattle.expression.proofs.UseTypes.{named-uses}
-use Rattle.expression.proofs.EachLaws.{mem-of-each, mem-cond}
+use Rattle.sdtd.proofs.EachLaws.{mem-of-each, mem-cond}
 use Rattle.expression.proofs.TestLaws.{leads-below, accepts-below}
 
 -- the type of a use is one that the expression names

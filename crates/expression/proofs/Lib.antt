@@ -2,7 +2,6 @@
 pub mod Chains
 pub mod UseWords
 pub mod UseTypes
-pub mod EachLaws
 pub mod TestLaws
 pub mod AutomatonLimits
 pub mod AutomatonLaws

@@ -14,10 +14,11 @@ use Rattle.sdtd.specs.Reduced.{newNumber, relabelStep, stepsLeft, blockLeft}
 use Rattle.sdtd.proofs.Basics.{is-true}
 use Rattle.expression.specs.Expression.{Expression, emptyWord, single, sequence, choice, repeat}
 use Rattle.expression.specs.Automaton.{named, uses, typeOfUse, Before}
-use Rattle.expression.specs.Tests.{nullable, first, last, follow, leads, accepts, ofEach, allSteps, automaton}
+use Rattle.sdtd.specs.Lists.{ofEach}
+use Rattle.expression.specs.Tests.{nullable, first, last, follow, leads, accepts, allSteps, automaton}
 use Rattle.expression.specs.Answer.{setOf}
 use Rattle.expression.proofs.UseTypes.{relabelExpression, named-uses}
-use Rattle.expression.proofs.EachLaws.{each-same, Sorted, sorted-rising, rising-same}
+use Rattle.sdtd.proofs.EachLaws.{each-same, Sorted, sorted-rising, rising-same}
 use Rattle.expression.proofs.TestLaws.{leads-below}
 use Rattle.expression.proofs.AutomatonLimits.{use-named, mem-steps, steps-inside, endIf}
 use Rattle.expression.proofs.AutomatonLaws.{steps-sorted, before-trans, before-strict}

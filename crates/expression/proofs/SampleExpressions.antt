@@ -11,7 +11,8 @@ use Rattle.sdtd.proofs.Tests.{Means, means-iff, not-means, lt-means, every, eve
 use Rattle.sdtd.proofs.Decide.{acceptsb, accepts-means}
 use Rattle.expression.specs.Expression.{Expression, emptyWord, single, sequence, choice, repeat, Denotes}
 use Rattle.expression.specs.Automaton.{named, uses}
-use Rattle.expression.specs.Tests.{ofEach, automaton}
+use Rattle.sdtd.specs.Lists.{ofEach}
+use Rattle.expression.specs.Tests.{automaton}
 use Rattle.expression.proofs.AutomatonLaws.{automaton-of}
 
 pub record Sample : Type 0 where

@@ -4,6 +4,7 @@ use mathlib.Core.Logic.{_↔_, _⊎_}
 use mathlib.Core.List.{List, [], _∷_, _++_, List·Memᴰ}
 use Prim.Native.Nat.{ℕ, zero, suc, _+_, _<_, pred}
 use lib.ListN.{getD}
+use Rattle.sdtd.specs.Lists.{Rising}
 use Rattle.sdtd.specs.Schema.{Step, Block, Word}
 use Rattle.expression.specs.Expression.{Expression, emptyWord, single, sequence, choice, repeat, Denotes}
 
@@ -70,15 +71,6 @@ abbrev pub Before : Step → Step → Type 0
 Before s t =
     (s .from < t .from)
     ⊎ ((s .from ≡ t .from) × ((s .by < t .by) ⊎ ((s .by ≡ t .by) × (s .to < t .to))))
-
--- each comes before the next, so none stands twice
-abbrev pub RisingFrom : {A : Type 0} → (A → A → Type 0) → A → List A → Type 0
-RisingFrom R x [] = Unit
-RisingFrom R x (y ∷ ys) = R x y × RisingFrom R y ys
-
-abbrev pub Rising : {A : Type 0} → (A → A → Type 0) → List A → Type 0
-Rising R [] = Unit
-Rising R (x ∷ xs) = RisingFrom R x xs
 
 -- "It becomes an automaton whose words are exactly the expression's: state 0, then one state for each 32 in order, with a step to a use from
 -- each use that it can directly follow, and from 0 if it can come first; a use accepts if it can come last, and 0 if the empty word is one."

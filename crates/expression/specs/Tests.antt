@@ -1,10 +1,11 @@
 -- The automaton of an expression, computed: by tests of what can come first, last and next. `AutomatonOf` says what it is
 -- (`automaton-of`).
 use mathlib.Core.Bool.{Bool, true, false, cond, _&&_, _||_}
-use mathlib.Core.List.{List, [], _∷_, _++_}
+use mathlib.Core.List.{List, [], _∷_}
 use Prim.Native.Nat.{ℕ, zero, suc, _+_}
 use lib.Dec.{eqb}
 use Rattle.sdtd.specs.Limits.{mostTypes}
+use Rattle.sdtd.specs.Lists.{ofEach}
 use Rattle.sdtd.specs.Schema.{Step, step, Block}
 use Rattle.expression.specs.Expression.{Expression, emptyWord, single, sequence, choice, repeat}
 use Rattle.expression.specs.Automaton.{uses, typeOfUse}
@@ -47,11 +48,6 @@ leads e (suc p) q = follow 1 e (suc p) q
 abbrev pub accepts : Expression → ℕ → Bool
 accepts e zero = nullable e
 accepts e (suc q) = last 1 e (suc q)
-
--- what f gives of each of the n numbers from s on, in order
-unfoldable pub ofEach : {A : Type 0} → (ℕ → List A) → ℕ → ℕ → List A
-ofEach f s zero = []
-ofEach f s (suc n) = f s ++ ofEach f (suc s) n
 
 -- the steps from the state p by the type j, and all steps from p
 abbrev pub stepsBy : Expression → ℕ → ℕ → List Step

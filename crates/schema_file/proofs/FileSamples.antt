@@ -20,7 +20,7 @@ use Rattle.sdtd.proofs.SampleUses.{everyUsedR, everyUsedChoice, everyUsedTwoWay
 use Rattle.sdtd.proofs.SampleUses.{everyUsedRacks, beforeB2, b2Unused}
 use Rattle.schema.specs.States.{insert, membersBelow}
 use Rattle.command.specs.Command.{addedCommand, commandOf}
-use Rattle.expression.specs.Tests.{ofEach}
+use Rattle.sdtd.specs.Lists.{ofEach}
 use Rattle.expression.specs.Content.{afterPart, contentFrom, contentAt}
 use Rattle.expression.specs.Answer.{setOf}
 use Rattle.commands.specs.File.{Stated, nothingStated, Commands, stopped, states, after, byContent, commandsFrom, commands, schemaBy, StatesSchema}

@@ -15,7 +15,8 @@ use Rattle.sdtd.proofs.NewNumbers.{new-rises}
 use Rattle.command.specs.Command.{commandAt}
 use Rattle.command.specs.Cases.{onType}
 use Rattle.command.specs.declared.Command.the-variants.{TypeBlock}
-use Rattle.expression.specs.Automaton.{Before, RisingFrom, Rising}
+use Rattle.sdtd.specs.Lists.{RisingFrom, Rising}
+use Rattle.expression.specs.Automaton.{Before}
 use Rattle.expression.proofs.AutomatonLaws.{before-trans}
 use Rattle.commands.specs.File.{StatesSchema}
 use Rattle.commands.specs.TypePlaces.{placeOfType}

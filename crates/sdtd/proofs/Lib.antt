@@ -1,5 +1,6 @@
 -- The theory, from the bottom up.
 pub mod Basics
+pub mod EachLaws
 pub mod Verdicts
 pub mod Automata
 pub mod Bearing

@@ -1,6 +1,7 @@
 -- What is meant, in the order of document 01. The theorems about it are in `proofs/`.
 pub mod Limits
 pub mod Numbered
+pub mod Lists
 pub mod Schema
 pub mod Tree
 pub mod Document

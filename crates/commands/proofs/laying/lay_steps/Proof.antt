@@ -4,10 +4,10 @@ use Prim.Native.Nat.{ℕ, suc, _+_, _-_, _≤_}
 use native.Mathlib.Omega.{arith}
 use lib.ListN.{length, getD}
 use Rattle.sdtd.specs.Limits.{mostTypes}
-use Rattle.expression.specs.Tests.{ofEach}
+use Rattle.sdtd.specs.Lists.{ofEach}
 use Rattle.commands.specs.Laying.{laidFrom, LaidAs}
 use Rattle.commands.proofs.Drafts.{zeros-empty}
-use Rattle.expression.proofs.EachLaws.{each-more}
+use Rattle.sdtd.proofs.EachLaws.{each-more}
 use Rattle.commands.proofs.LayingLaws.{laid-nothing, laid-both, laid-most}
 use Rattle.commands.proofs.laying.lay_steps.Statement.{statement}
 use Rattle.commands.proofs.laying.lay_steps.Tie as tie

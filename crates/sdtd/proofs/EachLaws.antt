@@ -9,8 +9,7 @@ use Prim.Native.Nat.{ℕ, zero, suc, _+_, _≤_, _<_}
 use native.Mathlib.Decide.{ℕ-discrete}
 use native.Mathlib.Omega.{arith}
 use lib.Dec.{T}
-use Rattle.expression.specs.Automaton.{Rising, RisingFrom}
-use Rattle.expression.specs.Tests.{ofEach}
+use Rattle.sdtd.specs.Lists.{ofEach, Rising, RisingFrom}
 
 -- one number more, at the end
 pub each-last : {A : Type 0} (f : ℕ → List A) (s n : ℕ) → ofEach f s (suc n) ≡ ofEach f s n ++ f (s + n)
