@@ -1,6 +1,8 @@
 // Entry points of the benchmark: the calls on schemas, readings and event files, on what C and Rust can hand over and take back.
 use competition::Searched;
 use competition::competition;
+use expected::Expected;
+use expected::expect_next;
 use reading::EventAnswer;
 use reading::EventFile;
 use reading::Next;
@@ -24,6 +26,7 @@ ghost use Rattle.schema.specs.Value.{meaning};
 ghost use Rattle.schema.specs.Trimming.{TrimMeans, RowsLent};
 ghost use Rattle.competition.specs.Search.{numberFor};
 ghost use Rattle.reading.specs.EventFile.{EventsMean};
+ghost use Rattle.expected.specs.Expected.{ExpectedMeans};
 ghost use Rattle.engine_bench.specs.Handed.{kindOf, numberOf, numbersOf, answeredOf, Handed, HandedLent, SearchNumber};
 
 // Is the schema inside the limits?
@@ -195,4 +198,12 @@ pub extern "C" fn bench_events(schema: Schema, events: &[u8], out: &mut [u8]) ->
     ensures { λ r. ⌜ EventsMean (meaning schema) (now (events .entry)) (now (out .entry)) (now (out .exit)) r ⌝ }
 {
     read_events(own(schema), events, out)
+}
+
+// Where the event file is refused, and what would have been taken there.
+#[no_mangle]
+pub extern "C" fn bench_expected(schema: Schema, events: &[u8]) -> Expected
+    ensures { λ r. ⌜ ExpectedMeans (meaning schema) (now (events .entry)) r ⌝ }
+{
+    expect_next(own(schema), events)
 }

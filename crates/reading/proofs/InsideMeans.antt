@@ -31,6 +31,7 @@ use Rattle.reading.specs.Levels.{Within, innerType, innerSet}
 use Rattle.reading.specs.Questions.{LeadsTo, CanOpen}
 use Rattle.reading.specs.Coming.{Least, noneYet, Move, move, joins, comingOf, comingBy, opensIn, entryMoves, rowMoves, stepTaken, stepMoves}
 use Rattle.reading.specs.Steps.{innerByRows, innerBySteps}
+use Rattle.reading.specs.Asking.{Somewhere}
 use Rattle.reading.proofs.LevelLaws.{inner-below}
 use Rattle.reading.proofs.ComingMeans.{ComesNext, ComingMeans}
 use Rattle.reading.proofs.ComingLaws.{Smallest, smallest-same, joins-smallest, gathered-mem, where-mem}
@@ -238,3 +239,20 @@ module _ {v : Schema} {r : Reading} (fits : Fits v) (within : Within (meaning v)
     -- inside an element its type's own steps come to what a call asks for
     pub steps-mean : ComingMeans (meaning v) r κ g (comingBy (innerBySteps v live ways r κ g))
     steps-mean = moves-means (within .schema) r κ g (innerBySteps v live ways r κ g) inside (λ j q. (step-opens j q, opens-step j q))
+
+    -- a type can be opened so under the tag exactly if one of those steps is taken
+    pub some-step : ((j : ℕ) × CanOpen (meaning v) r κ g j)
+        ↔ Somewhere (λ i. isTaken (stepAt (v .from) (v .by) (v .to) i)) (start v r) (start v r + count v r)
+    some-step = (
+      λ c.
+          let (q, l) = c .1 .some-open inside in
+          let x = step (l .from) (c .0) q in
+          let p = step-place x .0 (l .step) in
+          let t = opens-taken x (l .step) (l .kept) (c .1 .bears) (l .live) (c .1 .tag) in
+          record { place = p .place; least = p .least; most = p .most; holds = subst (λ (y : Step). T (isTaken y)) (p .is) t },
+      λ w.
+          let x = stepAt (v .from) (v .by) (v .to) (w .place) in
+          let given = step-place x .1 (record { place = w .place; least = w .least; most = w .most; is = refl }) in
+          let o = taken-opens x given (w .holds) in
+          (x .by, record { bears = o .bears; tag = o .tag; some-open = λ d. (x .to, o .leads); none-open = λ z. absurd (omega arith) }),
+    )

@@ -1,14 +1,14 @@
 -- The types' buffer laid on a walk over an event file: each turn leaves in it the types of the openings taken, and the walk that has stopped
 -- answers.
 use mathlib.Core.Path.{_≡_, refl, sym, ap, subst, _∙_}
-use mathlib.Core.Bool.{Bool, true, false, false≢true}
+use mathlib.Core.Bool.{Bool, true, false, true≢false, false≢true}
 use mathlib.Core.Logic.{inl}
 use mathlib.Core.List.{List, [], _∷_, _++_, map, append-assoc, append-nil, map-append}
 use Prim.Native.Nat.{ℕ, suc, _+_, _≤_, _<_}
 use native.Mathlib.Decide.{decLe}
 use native.Mathlib.Omega.{arith}
 use borrow.Author.Tests.{lt-ltb, le-ltb}
-use lib.ListN.{length, getD, take, drop, set, length-append, length-drop, length-map}
+use lib.ListN.{length, getD, take, drop, set, length-append, length-map, length-set}
 use lib.Seq.{drop-cons, set-append-seam, take-at}
 use Rattle.sdtd.specs.Schema.{Schema as Meaning}
 use Rattle.sdtd.specs.Schema.{WithinLimits}
@@ -34,19 +34,22 @@ pub record Written (was ts : List ℕ) (n : ℕ) (is : List ℕ) : Type 0 where
   pub count : n ≡ length ts
   pub room : length ts ≤ length was
 
--- What is known of a walk with the buffer laid on it: it has taken the calls, and the types that these give stand in the buffer.
-pub record LaidSound (S : Meaning) (file was : List ℕ) (w : Walked) (n : ℕ) (is : List ℕ) : Type 0 where
+-- What is known of a walk with the buffer laid on it: it has taken the calls, and where the buffer bounds it, the types that these give stand there.
+-- The buffer keeps its length.
+pub record LaidSound (bounded : Bool) (S : Meaning) (file was : List ℕ) (w : Walked) (n : ℕ) (is : List ℕ) : Type 0 where
   pub calls : List TakenCall
-  pub written : Written was (typesIn calls) n is
+  pub long : length is ≡ length was
+  pub written : bounded ≡ true → Written was (typesIn calls) n is
   pub sound : WalkSound S file calls w
 
-pub first-laid : {S : Meaning} → WithinLimits S → (file was : List ℕ) (n : ℕ) → LaidSound S file was (firstWalk n) 0 was
+pub first-laid : {bounded : Bool} {S : Meaning} → WithinLimits S → (file was : List ℕ) (n : ℕ) → LaidSound bounded S file was (firstWalk n) 0 was
 first-laid within file was n =
-    record { calls = []; written = record { buffer = refl; count = refl; room = omega arith }; sound = first-sound within file n }
-
--- the buffer keeps its length
-pub out-long : {S : Meaning} {file was is : List ℕ} {w : Walked} {n : ℕ} → LaidSound S file was w n is → length is ≡ length was
-out-long k = rw (k .written .buffer, length-append, length-drop) (let r = k .written .room in omega arith)
+    record {
+      calls = [];
+      long = refl;
+      written = λ b. record { buffer = refl; count = refl; room = omega arith };
+      sound = first-sound within file n;
+    }
 
 -- what a passage with the buffer laid on it answers
 passage-means : {S : Meaning} {file was is ts : List ℕ} {n : ℕ} (p : Passage Reading) → WholePasses S file p → typesWith (length was) p ≡ ts
@@ -66,13 +69,14 @@ passage-means {was = was} p f types w r number place count =
     }
 
 -- A walk that has stopped answers: each type has its byte, so the buffer changes nothing.
-pub last-means : {S : Meaning} {file was is : List ℕ} {w : Walked} {n : ℕ} → LaidSound S file was w n is → w .going ≡ false → (r : EventFile)
-    → r .number ≡ w .number → r .place ≡ w .at → r .count ≡ n → EventsMean S file was is r
-last-means {file = file} {was} {w = w} k done r number place count =
+pub last-means : {bounded : Bool} {S : Meaning} {file was is : List ℕ} {w : Walked} {n : ℕ} → LaidSound bounded S file was w n is → bounded ≡ true
+    → w .going ≡ false → (r : EventFile) → r .number ≡ w .number → r .place ≡ w .at → r .count ≡ n → EventsMean S file was is r
+last-means {file = file} {was} {w = w} k bounds done r number place count =
     let s = k .sound .stopped done in
     let p : Passage Reading = record { verdict = s .verdict; calls = k .calls; last = w .reading } in
-    let (v, types) = laid-enough (length was) p (k .written .room) in
-    passage-means p (s .passes) types (k .written) r (number ∙ s .number ∙ ap numberOf (sym v)) (place ∙ s .place ∙ ap (placeOf (length file)) (sym v)) count
+    let written = k .written bounds in
+    let (v, types) = laid-enough (length was) p (written .room) in
+    passage-means p (s .passes) types written r (number ∙ s .number ∙ ap numberOf (sym v)) (place ∙ s .place ∙ ap (placeOf (length file)) (sym v)) count
 
 -- one type more in the buffer
 put-type : (ts was : List ℕ) (j : ℕ) → length ts < length was
@@ -100,24 +104,24 @@ some-passage {S} {file} {cs} {w} k = by (w .going) refl
     by false e = let s = k .stopped e in (_, s .passes, [], sym (append-nil cs))
 
 -- A turn at the walk w comes to the walk v, with more calls.
-module _ {S : Meaning} {file was is : List ℕ} {w : Walked} {n : ℕ} (k : LaidSound S file was w n is) {v : Walked} (more : List TakenCall)
-    (sound : WalkSound S file (k .calls ++ more) v) where
+module _ {bounded : Bool} {S : Meaning} {file was is : List ℕ} {w : Walked} {n : ℕ} (k : LaidSound bounded S file was w n is) {v : Walked}
+    (more : List TakenCall) (sound : WalkSound S file (k .calls ++ more) v) where
   types-append : typesIn (k .calls ++ more) ≡ typesIn (k .calls) ++ typesIn more
   types-append =
       ap (map (λ (t : GivenType). t .type)) (given-append (k .calls) more)
       ∙ map-append (λ (t : GivenType). t .type) (typesGiven (k .calls)) (typesGiven more)
 
   -- the buffer has a byte for each type
-  fits : (ts : List ℕ) → typesIn more ≡ ts → (m : ℕ) (out : List ℕ) → Written was (typesIn (k .calls) ++ ts) m out
-      → LaidSound S file was v m out
-  fits ts e m out f =
+  fits : (ts : List ℕ) → typesIn more ≡ ts → (m : ℕ) (out : List ℕ) → length out ≡ length was
+      → (bounded ≡ true → Written was (typesIn (k .calls) ++ ts) m out) → LaidSound bounded S file was v m out
+  fits ts e m out long f =
       let same : typesIn (k .calls) ++ ts ≡ typesIn (k .calls ++ more) = sym (types-append ∙ ap (λ (us : List ℕ). typesIn (k .calls) ++ us) e) in
-      record { calls = k .calls ++ more; written = subst (λ (us : List ℕ). Written was us m out) same f; sound = sound }
+      record { calls = k .calls ++ more; long = long; written = λ b. subst (λ (us : List ℕ). Written was us m out) same (f b); sound = sound }
 
   -- no byte is left for the type t: whatever the walk goes on to, it is answered 20 at the place of t
-  full : (t : GivenType) → typesGiven more ≡ t ∷ [] → length (typesIn (k .calls)) ≡ length was → (r : EventFile) → r .number ≡ 20
-      → r .place ≡ t .place → r .count ≡ n → EventsMean S file was is r
-  full t e h r number place count =
+  full : (t : GivenType) → typesGiven more ≡ t ∷ [] → Written was (typesIn (k .calls)) n is → length (typesIn (k .calls)) ≡ length was
+      → (r : EventFile) → r .number ≡ 20 → r .place ≡ t .place → r .count ≡ n → EventsMean S file was is r
+  full t e written h r number place count =
       let (p, f, rest, q) = some-passage sound in
       let first = typesGiven (k .calls) in
       let given : typesGiven (p .calls) ≡ first ++ (t ∷ typesGiven rest) =
@@ -132,16 +136,21 @@ module _ {S : Meaning} {file was is : List ℕ} {w : Walked} {n : ℕ} (k : Laid
       ap (λ (ts : List GivenType). take (length was) (map (λ (s : GivenType). s .type) ts)) given
       ∙ ap (take (length was)) (map-append (λ (s : GivenType). s .type) first (t ∷ typesGiven rest))
       ∙ take-at (typesIn (k .calls)) (map (λ (s : GivenType). s .type) (t ∷ typesGiven rest)) (length was) h in
-      passage-means p f types (k .written) r (number ∙ ap numberOf (sym twenty)) (place ∙ ap (placeOf (length file)) (sym twenty)) count
+      passage-means p f types written r (number ∙ ap numberOf (sym twenty)) (place ∙ ap (placeOf (length file)) (sym twenty)) count
 
 -- After a turn, with the type at the new level laid into the buffer.
-module _ {S : Meaning} {file was is : List ℕ} {w v : Walked} {n : ℕ} (k : LaidSound S file was w n is) (turn : TurnSound S file (k .calls) w v) where
+module _ {bounded : Bool} {S : Meaning} {file was is : List ℕ} {w v : Walked} {n : ℕ} (k : LaidSound bounded S file was w n is)
+    (turn : TurnSound S file (k .calls) w v) where
   -- no level more
-  pub lay-none : v .reading .depth ≤ w .reading .depth → LaidSound S file was v n is
+  pub lay-none : v .reading .depth ≤ w .reading .depth → LaidSound bounded S file was v n is
   lay-none l =
       let e : typesGiven (turn .more) ≡ [] = turn .gave ∙ rw (le-ltb (w .reading .depth) (v .reading .depth) l) in
-      fits k (turn .more) (turn .sound) [] (ap (map (λ (t : GivenType). t .type)) e) n is
-      (subst (λ (ts : List ℕ). Written was ts n is) (sym (append-nil (typesIn (k .calls)))) (k .written))
+      fits k (turn .more) (turn .sound) [] (ap (map (λ (t : GivenType). t .type)) e) n is (k .long)
+      (λ b. subst (λ (ts : List ℕ). Written was ts n is) (sym (append-nil (typesIn (k .calls)))) (k .written b))
+
+  -- the buffer does not bound the walk
+  pub lay-past : bounded ≡ false → LaidSound bounded S file was v n is
+  lay-past e = record { calls = k .calls ++ turn .more; long = k .long; written = λ b. absurd (true≢false (sym b ∙ e)); sound = turn .sound }
 
   module _ (l : w .reading .depth < v .reading .depth) where
     -- the type at the new level
@@ -151,19 +160,21 @@ module _ {S : Meaning} {file was is : List ℕ} {w v : Walked} {n : ℕ} (k : La
     there : typesGiven (turn .more) ≡ record { place = w .at; type = typeThere } ∷ []
     there = turn .gave ∙ rw (lt-ltb (w .reading .depth) (v .reading .depth) l)
 
-    pub lay-type : n < length is → LaidSound S file was v (n + 1) (set is n typeThere)
+    pub lay-type : n < length is → LaidSound bounded S file was v (n + 1) (set is n typeThere)
     lay-type h =
-        let room : length (typesIn (k .calls)) < length was = omega (arith, out-long k, k .written .count) in
+        let room : bounded ≡ true → length (typesIn (k .calls)) < length was = λ b. omega (arith, k .long, k .written b .count) in
         fits k (turn .more) (turn .sound) (typeThere ∷ []) (ap (map (λ (t : GivenType). t .type)) there) (n + 1) (set is n typeThere)
-        (one-more typeThere (k .written) room)
+        (length-set is n typeThere ∙ k .long) (λ b. one-more typeThere (k .written b) (room b))
 
-    pub full-means : length is ≤ n → (r : EventFile) → r .number ≡ 20 → r .place ≡ w .at → r .count ≡ n → EventsMean S file was is r
-    full-means h =
-        let room : length (typesIn (k .calls)) ≡ length was = omega (arith, out-long k, k .written .count, k .written .room) in
-        full k (turn .more) (turn .sound) (record { place = w .at; type = typeThere }) there room
+    pub full-means : bounded ≡ true → length is ≤ n → (r : EventFile) → r .number ≡ 20 → r .place ≡ w .at → r .count ≡ n
+        → EventsMean S file was is r
+    full-means b h =
+        let written = k .written b in
+        let room : length (typesIn (k .calls)) ≡ length was = omega (arith, k .long, written .count, written .room) in
+        full k (turn .more) (turn .sound) (record { place = w .at; type = typeThere }) there written room
 
 -- under a schema outside the limits the first event gets 10, and stray bytes or an empty file 19
-outside-passes : {S : Meaning} → ¬ WithinLimits S → (file : List ℕ) (e : FileEvent) → Stands file 0 e
+pub outside-passes : {S : Meaning} → ¬ WithinLimits S → (file : List ℕ) (e : FileEvent) → Stands file 0 e
     → WholePasses S file (stops (refused-at (outsideNumber e) 0) fresh)
 outside-passes out file (Open g) stands = rw stands (refused 10, fresh, inl (λ w. out (w .schema), refl), refl)
 outside-passes out file (OpenNil g) stands = rw stands (refused 10, fresh, inl (λ w. out (w .schema), refl), refl)

@@ -31,6 +31,9 @@ pub mod TurnWays
 pub mod StepSound
 pub mod TurnLaws
 pub mod LayLaws
+pub mod Asking
+pub mod AskingOpens
+pub mod WalkEnds
 pub mod EventWhole
 pub mod EventTheory
 pub mod EventModel

@@ -78,7 +78,7 @@ fn with_levels(s: Stepped, types: [u8; LEVELS], sets: [u32; LEVELS]) -> Next
 }
 
 // The tag and the accepting states of the innermost type, and whether it is nillable; where none is open, any will do.
-fn inner_of<'a>(
+pub(crate) fn inner_of<'a>(
     tag: &'a [u8; TYPES],
     nillable: &'a [bool; TYPES],
     accepting: &'a [u32; TYPES],

@@ -15,9 +15,11 @@ use events::WITH_TAG;
 use events::tag_at;
 use events::walk_kind;
 use schema::BEGINS;
+use schema::LiveStates;
 use schema::STEPS;
 use schema::Schema;
 use schema::StateSet;
+use schema::TYPES;
 use schema::live_rows;
 ghost use mathlib.Core.Path.{_≡_};
 ghost use Rattle.schema.specs.Value.{meaning};
@@ -25,7 +27,7 @@ ghost use Prim.Native.Nat.{_≤_};
 ghost use Rattle.sdtd.specs.Limits.{mostTags};
 ghost use Rattle.reading.specs.Steps.{stepTables, readingOf, InnerFits};
 ghost use Rattle.events.specs.Events.{eventAt};
-ghost use Rattle.reading.specs.Turns.{standingOf, walkedOf, AfterStep, EndsHere, isNil, turnOf, outsideNumber};
+ghost use Rattle.reading.specs.Turns.{standingOf, walkedOf, AfterStep, EndsHere, isNil, turnOf, outsideNumber, endOf, Walks};
 ghost use Rattle.reading.specs.EventFile.{EventsMean};
 
 // The number of the first question answered no, 0 where the file is taken whole; the place of that event, or the file's length; how many
@@ -47,6 +49,21 @@ pub(crate) struct Walking {
     pub finished: bool,
 }
 
+// Where a walk over an event file has ended: whether the schema is inside the limits, the number and the place, how many types are in the buffer, the
+// reading, and for a schema inside the limits its live states, in which ways its types bear a tree, and its heads.
+pub(crate) struct WalkEnd {
+    pub inside: bool,
+    pub number: u8,
+    pub at: usize,
+    pub count: usize,
+    pub standing: Standing,
+    pub types: [u8; LEVELS],
+    pub sets: [u32; LEVELS],
+    pub live: [u32; TYPES],
+    pub ways: [u8; TYPES],
+    pub heads: [u32; HEADS],
+}
+
 // A walk before its first event, with a fresh reading.
 const BEGINNING: Walking = Walking {
     going: true,
@@ -56,6 +73,13 @@ const BEGINNING: Walking = Walking {
     rooted: false,
     finished: false,
 };
+
+// The levels of a fresh reading, and the heads of no schema.
+const NO_TYPE: [u8; LEVELS] = [0; LEVELS];
+
+const NO_SET: [u32; LEVELS] = [StateSet::NONE.0; LEVELS];
+
+const NO_HEAD: [u32; HEADS] = [0; HEADS];
 
 // After what an event got, with `past` the place past it.
 fn after_step(w: Walking, s: Stepped, past: usize) -> Walking
@@ -191,20 +215,82 @@ fn no_room(place: usize, count: usize) -> EventFile
     }
 }
 
-// The event file's answer. An opening was taken where the walk is one level deeper, and its type stands at that level; types go to the buffer.
-pub fn read_events(schema: Schema, events: &[u8], out: &mut [u8]) -> EventFile
-    ensures { λ r. ⌜ EventsMean (meaning schema) (now (events .entry)) (now (out .entry)) (now (out .exit)) r ⌝ }
+// Where a walk over an event file has ended, with the answer told; and the tables of the schema that it has made.
+fn ended(
+    found: LiveStates,
+    heads: [u32; HEADS],
+    types: [u8; LEVELS],
+    sets: [u32; LEVELS],
+    w: Walking,
+    told: EventFile,
+) -> WalkEnd
+    ensures { λ r. ⌜ r ≡ endOf found heads types sets (standingOf w) told ⌝ }
 {
+    let live = found.live;
+    let ways = found.ways;
+    WalkEnd {
+        inside: found.inside,
+        number: told.number,
+        at: told.place,
+        count: told.count,
+        standing: Standing {
+            depth: w.depth,
+            rooted: w.rooted,
+            finished: w.finished,
+        },
+        types,
+        sets,
+        live,
+        ways,
+        heads,
+    }
+}
+
+// The same schema, copied table by table into a value of one's own: the walk then makes one copy of it and not two.
+fn own(schema: Schema) -> Schema
+    ensures { λ r. ⌜ r ≡ schema ⌝ }
+{
+    let root = schema.root;
+    let tag = schema.tag;
+    let states = schema.states;
+    let accepting = schema.accepting;
+    let nillable = schema.nillable;
+    let steps = schema.steps;
+    let from = schema.from;
+    let by = schema.by;
+    let to = schema.to;
+    Schema {
+        tags: schema.tags,
+        types: schema.types,
+        roots: schema.roots,
+        root,
+        tag,
+        states,
+        accepting,
+        nillable,
+        steps,
+        from,
+        by,
+        to,
+    }
+}
+
+// Walks an event file. An opening was taken where the walk is one level deeper, and its type stands at that level; types go to the buffer. Where the
+// buffer bounds the walk, it ends at an opening that has no byte there.
+pub(crate) fn walk_file(given: Schema, bounded: bool, events: &[u8], out: &mut [u8]) -> WalkEnd
+    ensures { λ r. ⌜ Walks given (now (events .entry)) (now (out .entry)) (now (out .exit)) bounded r ⌝ }
+{
+    let schema = own(given);
     let mut entries = [0u32; STEPS];
     let mut begins = [0u16; BEGINS];
     let found = live_rows(schema, &mut entries, &mut begins);
     if !found.inside {
-        return outside(events);
+        return ended(found, NO_HEAD, NO_TYPE, NO_SET, BEGINNING, outside(events));
     }
     let ways = found.ways;
     let heads = heads(schema, ways);
-    let mut types = [0u8; LEVELS];
-    let mut sets = [StateSet::NONE.0; LEVELS];
+    let mut types = NO_TYPE;
+    let mut sets = NO_SET;
     let mut w = BEGINNING;
     let mut count = 0;
     while w.going {
@@ -221,16 +307,30 @@ pub fn read_events(schema: Schema, events: &[u8], out: &mut [u8]) -> EventFile
             w,
         );
         if depth < w.depth {
-            if out.len() <= count {
-                return no_room(place, count);
+            if count < out.len() {
+                out[count] = types[depth as usize];
+                count += 1;
+            } else if bounded {
+                return ended(found, heads, types, sets, w, no_room(place, count));
             }
-            out[count] = types[depth as usize];
-            count += 1;
         }
     }
-    EventFile {
+    let told = EventFile {
         number: w.number,
         place: w.at,
         count,
+    };
+    ended(found, heads, types, sets, w, told)
+}
+
+// The event file's answer.
+pub fn read_events(schema: Schema, events: &[u8], out: &mut [u8]) -> EventFile
+    ensures { λ r. ⌜ EventsMean (meaning schema) (now (events .entry)) (now (out .entry)) (now (out .exit)) r ⌝ }
+{
+    let end = walk_file(schema, true, events, out);
+    EventFile {
+        number: end.number,
+        place: end.at,
+        count: end.count,
     }
 }

@@ -7,6 +7,7 @@ mod lent;
 mod levels;
 mod own_steps;
 mod steps;
+mod stop;
 mod value;
 
 pub use calls::EventAnswer;
@@ -17,5 +18,8 @@ pub use lent::close_lent;
 pub use lent::finish_lent;
 pub use lent::open_lent;
 pub use lent::open_nil_lent;
+pub use stop::Stop;
+pub use stop::TAG_NUMBERS;
+pub use stop::pass_events;
 pub use value::LEVELS;
 pub use value::Reading;

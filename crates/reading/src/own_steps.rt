@@ -120,7 +120,7 @@ fn coming_span<'a>(
 }
 
 // The place of the first step of the type a.
-fn start_of(steps: [u16; TYPES], a: usize) -> usize
+pub(crate) fn start_of(steps: [u16; TYPES], a: usize) -> usize
     requires { ⌜ (a ≤ mostTypes) × (offset steps a ≤ mostSteps) ⌝ }
     ensures { λ r. ⌜ r ≡ offset steps a ⌝ }
 {

@@ -1,9 +1,9 @@
 -- Texts that are printed for the same files, and the texts of document 01.
 use mathlib.Core.Path.{_≡_, refl, sym, ap, subst, _∙_}
-use mathlib.Core.Logic.{_⊎_, inl, inr, ⊎-elim, _≢_}
+use mathlib.Core.Logic.{_⊎_, inl, _≢_}
 use mathlib.Core.List.{List, _++_}
 use Prim.Native.Nat.{ℕ, _≤_}
-use native.Mathlib.Decide.{decLe, ℕ-discrete}
+use native.Mathlib.Decide.{decLe}
 use native.Mathlib.Omega.{arith}
 use borrow.Author.Tests.{ne-eqb}
 use lib.ListN.{length, take, drop, replicate, length-append, length-replicate}
@@ -22,55 +22,52 @@ use Rattle.typing.specs.declared.job.Job.the-variants.{SchemaRefused, EventsRea
 use Rattle.typing.proofs.Jobs.{job-refusal, one-job, job-meets, job-lines, job-enough}
 use Rattle.typing.proofs.SamplesHold.{samples-hold}
 use Rattle.text.specs.Decimal.{decimal}
-use Rattle.report.specs.Text.{refusalLine, rivals, witnessLine, openingLine, lastLine, textOf}
-use Rattle.report.specs.Report.{mostSchema, mostEvents, typesHeld, JobPrinted, Printed}
+use Rattle.report.specs.Text.{refusalLine, rivals, witnessLine, openingLine, lastLine, schemaRefusedText, textOf}
+use Rattle.report.specs.Report.{mostSchema, mostEvents, typesHeld, JobPrinted, PrintedBy, Printed}
 use Rattle.report.specs.Samples.{PrintedSamples}
-use Rattle.report.proofs.WitnessLaws.{NineTexts, nine-texts}
+use Rattle.report.proofs.WitnessLaws.{NineTexts, from-job, one-or-nine}
 
 -- only a refusal with 9 prints of the witness
+pub other-refused : (v w : List ℕ) {n : ℕ} (p : ℕ) → n ≢ 9 → schemaRefusedText v n p ≡ schemaRefusedText w n p
+other-refused v w {n} p d = rw (ne-eqb n 9 d)
+
 by-types : (events types v w : List ℕ) (job : Job) → ((p : ℕ) → ¬ (job ≡ SchemaRefused 9 p))
     → textOf events v types job ≡ textOf events w types job
 unfolding textOf
 by-types events types v w (EventsRead e) h = refl
-by-types events types v w (SchemaRefused n p) h =
-    rw (ne-eqb n 9 (λ q. h p (ap (λ (k : ℕ). SchemaRefused k p) q)))
+by-types events types v w (SchemaRefused n p) h = other-refused v w p (λ q. h p (ap (λ (k : ℕ). SchemaRefused k p) q))
 
 -- a job that refuses the schema has the schema file's answer
 job-answer : {file events wasWitness isWitness wasTypes isTypes : List ℕ} {n p : ℕ}
     → JobMeans file events wasWitness isWitness wasTypes isTypes (SchemaRefused n p) → AnswerIs file wasWitness (RefusedAt n p)
 job-answer {file} {wasWitness = was} j = subst (AnswerIs file was) (job-refusal j) (j .schema-file .answer)
 
--- a job refuses the schema with 9, or not
-nine-or-other : (job : Job) → ((p : ℕ) × (job ≡ SchemaRefused 9 p)) ⊎ ((p : ℕ) → ¬ (job ≡ SchemaRefused 9 p))
-nine-or-other (EventsRead e) = inr (λ p q. let z : _≡_ {A = ℕ} 0 1 = cc in absurd (omega arith))
-nine-or-other (SchemaRefused n p) =
-    elim (ℕ-discrete n 9) [
-      | yes e ↦ inl (p, ap (λ (k : ℕ). SchemaRefused k p) e)
-      | no d ↦ inr (λ l q. let e : n ≡ 9 = cc in d e)
-    ]
-
 -- the texts of two jobs on the same files
 one-job-text : {file events s t : List ℕ} → JobPrinted file events s → JobPrinted file events t → (s ≡ t) ⊎ NineTexts file s t
 one-job-text {events = events} a b =
     let same = one-job (a .means) (b .means) in
-    ⊎-elim
-    (λ z. inr (nine-texts a b (job-answer (subst (JobMeans _ _ _ (a .witness) _ (a .types)) (z .1) (a .means)))))
-    (λ not-9.
-    inl
-    (a .prints
-    ∙ by-types events (a .types) (a .witness) (b .witness) (a .job) not-9
+    one-or-nine (from-job a) (from-job b)
+    (λ d.
+    a .prints
+    ∙ by-types events (a .types) (a .witness) (b .witness) (a .job)
+    (λ p q. d p (job-answer (subst (JobMeans _ _ _ (a .witness) _ (a .types)) q (a .means))))
     ∙ (λ i. textOf events (b .witness) (same .1 i) (same .0 i))
-    ∙ sym (b .prints)))
-    (nine-or-other (a .job))
+    ∙ sym (b .prints))
+
+-- two texts that a program prints for the same files, where this holds of its jobs' texts
+pub one-printed : {Prints : List ℕ → List ℕ → List ℕ → Type 0} {schema events s t : List ℕ}
+    → (Prints (take mostSchema schema) events s → Prints (take mostSchema schema) events t → (s ≡ t) ⊎ NineTexts (take mostSchema schema) s t)
+    → PrintedBy Prints schema events s → PrintedBy Prints schema events t → (s ≡ t) ⊎ NineTexts (take mostSchema schema) s t
+one-printed {events = events} one x y =
+    elim (decLe (length events) mostEvents) [
+      | yes k ↦ one (x .answered k) (y .answered k)
+      | no n ↦ inl (x .too-long (omega arith) ∙ sym (y .too-long (omega arith)))
+    ]
 
 -- Two texts that are printed for the same files are one; or the schema file is answered 9, and they differ at most in J and K.
 pub one-text : {schema events s t : List ℕ} → Printed schema events s → Printed schema events t
     → (s ≡ t) ⊎ NineTexts (take mostSchema schema) s t
-one-text {events = events} x y =
-    elim (decLe (length events) mostEvents) [
-      | yes k ↦ one-job-text (x .answered k) (y .answered k)
-      | no n ↦ inl (x .too-long (omega arith) ∙ sym (y .too-long (omega arith)))
-    ]
+one-text = one-printed one-job-text
 
 -- the types buffer holds a type for each opening that the count counts
 held : {file events wasWitness isWitness wasTypes isTypes : List ℕ} {e : EventFile}
@@ -88,11 +85,11 @@ every-line {e = e} a q =
     (length-take-le (e .count) (a .types) (held j), job-lines j)
 
 -- the job on a short schema file
-short-job : {file events text : List ℕ} → length file ≤ mostSchema → length events ≤ mostEvents → Printed file events text
-    → JobPrinted file events text
-short-job {file} short long x = rw (take-all mostSchema file short) at (x .answered long)
+pub short-job : {Prints : List ℕ → List ℕ → List ℕ → Type 0} {file events text : List ℕ} → length file ≤ mostSchema → length events ≤ mostEvents
+    → PrintedBy Prints file events text → Prints file events text
+short-job {file = file} short long x = rw (take-all mostSchema file short) at (x .answered long)
 
-long-enough : (n : ℕ) → n ≤ length (replicate {A = ℕ} n 0)
+pub long-enough : (n : ℕ) → n ≤ length (replicate {A = ℕ} n 0)
 long-enough n = omega (arith, length-replicate {A = ℕ} n 0)
 
 -- The program's buffer is enough for its events: it never prints 20.

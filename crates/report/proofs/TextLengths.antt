@@ -15,23 +15,24 @@ use Rattle.sdtd.specs.Document.{opening, closing, finish}
 use Rattle.events.specs.Events.{Events, ends, stray, event, eventsOf}
 use Rattle.reading.specs.declared.event_file.EventFile.{EventFile}
 use Rattle.events.specs.Outline.{Line, outline}
-use Rattle.typing.specs.declared.job.Job.the-variants.{SchemaRefused, EventsRead}
+use Rattle.typing.specs.declared.job.Job.the-variants.{EventsRead}
 use Rattle.report.specs.Words.{header, schemaRefused, refused, accepted}
-use Rattle.report.specs.Text.{numbered, refusalLine, rivals, witnessLine, openingLine, openingLines, lastLine, textOf}
+use Rattle.report.specs.Text.{numbered, refusalLine, rivals, witnessLine, openingLine, openingLines, lastLine, schemaRefusedText, textOf}
 use Rattle.report.specs.Report.{mostEvents, typesHeld, mostLine, mostLast, mostText}
+use Rattle.report.specs.Steps.{mostRefused}
 use Rattle.text.proofs.DecimalLaws.{decimal-long}
 use Rattle.text.specs.Line.{lineEnd}
 
 -- every byte of a list
-abbrev Bytes : List ℕ → Type 0
+abbrev pub Bytes : List ℕ → Type 0
 Bytes [] = Unit
 Bytes (b ∷ l) = (b < 256) × Bytes l
 
-bytes : (l : List ℕ) → ((i : ℕ) → getD l i 0 < 256) → Bytes l
+pub bytes : (l : List ℕ) → ((i : ℕ) → getD l i 0 < 256) → Bytes l
 bytes [] h = tt
 bytes (b ∷ l) h = (h 0, bytes l (λ i. h (suc i)))
 
-bytes-take : (n : ℕ) (l : List ℕ) → Bytes l → Bytes (take n l)
+pub bytes-take : (n : ℕ) (l : List ℕ) → Bytes l → Bytes (take n l)
 bytes-take zero l h = tt
 bytes-take (suc n) [] h = tt
 bytes-take (suc n) (b ∷ l) (k, h) = (k, bytes-take n l h)
@@ -79,7 +80,7 @@ lines-long (j ∷ js) (l ∷ ls) (h, hs) (k, g, ks) =
     let b = lines-long js ls hs ks in
     omega (arith, length-append (openingLine (l .level) (l .tag) j) (openingLines js ls))
 
-refusal-long : (words : List ℕ) (n p : ℕ) → n < 256 → p < 2 ^ 64 → length (refusalLine words n p) ≤ length words + 28
+pub refusal-long : (words : List ℕ) (n p : ℕ) → n < 256 → p < 2 ^ 64 → length (refusalLine words n p) ≤ length words + 28
 unfolding refusalLine
 refusal-long words n p h k =
     let a = decimal-long 2 n (omega arith) in
@@ -105,16 +106,15 @@ witness-long h of first second word =
     simp length-append (omega arith)
 
 -- the text of a schema that is refused with 9, from the head of the witness
-pub nine-short : (events witness types : List ℕ) {h : WitnessHead} {n p : ℕ} → h ≡ headOf witness → h .of .0 < 256
+pub nine-short : (witness : List ℕ) {h : WitnessHead} {n p : ℕ} → h ≡ headOf witness → h .of .0 < 256
     → h .first .0 < 256 → h .second .0 < 256 → h .word < 2 ^ 64 → n < 256 → p < 2 ^ 64
-    → length (textOf events witness types (SchemaRefused n p)) ≤ mostText
-unfolding textOf
-nine-short events witness types {h} {n} {p} q of first second word k l = by (eqb n 9)
+    → length (schemaRefusedText witness n p) ≤ mostRefused
+nine-short witness {h} {n} {p} q of first second word k l = by (eqb n 9)
   where
     line : length (witnessLine (headOf witness)) ≤ 53
     line = rw q at (witness-long h of first second word)
 
-    by : (c : Bool) → length (refusalLine schemaRefused n p ++ cond c (witnessLine (headOf witness)) []) ≤ mostText
+    by : (c : Bool) → length (refusalLine schemaRefused n p ++ cond c (witnessLine (headOf witness)) []) ≤ mostRefused
     by true =
         omega (
           arith,
@@ -125,10 +125,9 @@ nine-short events witness types {h} {n} {p} q of first second word k l = by (eqb
     by false = omega (arith, length-append (refusalLine schemaRefused n p) [], refusal-long schemaRefused n p k l)
 
 -- that of a schema that is refused with another number
-pub refused-short : (events witness types : List ℕ) {n p : ℕ} → ¬ (n ≡ 9) → n < 256 → p < 2 ^ 64
-    → length (textOf events witness types (SchemaRefused n p)) ≤ mostText
-unfolding textOf
-refused-short events witness types {n} {p} d k l =
+pub refused-short : (witness : List ℕ) {n p : ℕ} → ¬ (n ≡ 9) → n < 256 → p < 2 ^ 64
+    → length (schemaRefusedText witness n p) ≤ mostRefused
+refused-short witness {n} {p} d k l =
     rw (ne-eqb n 9 d) (omega (arith, length-append (refusalLine schemaRefused n p) [], refusal-long schemaRefused n p k l))
 
 pub read-short : (events witness types : List ℕ) (e : EventFile) → ((i : ℕ) → getD events i 0 < 256) → ((i : ℕ) → getD types i 0 < 256)

@@ -42,16 +42,24 @@ pub record JobPrinted (schema events text : List ℕ) : Type 0 where
   pub means : JobMeans schema events (replicate leastWitness 0) witness (replicate typesHeld 0) types job
   pub prints : text ≡ textOf events witness types job
 
--- "above 32,768 bytes of events it prints only `too long`, even where the schema would be refused."
-pub record Printed (schema events text : List ℕ) : Type 0 where
+-- "above 32,768 bytes of events it prints only `too long`, even where the schema would be refused.": of the schema's bytes that count and the
+-- events a job prints the text.
+pub record PrintedBy (Prints : List ℕ → List ℕ → List ℕ → Type 0) (schema events text : List ℕ) : Type 0 where
   pub too-long : mostEvents < length events → text ≡ tooLong
-  pub answered : length events ≤ mostEvents → JobPrinted (take mostSchema schema) events text
+  pub answered : length events ≤ mostEvents → Prints (take mostSchema schema) events text
 
--- What the report leaves: the text's first bytes, as far as they fit the buffer, and the buffer's other bytes as they were; it answers how
--- many bytes of the text are there. A buffer of `mostText` bytes takes the whole of it.
-pub record Reported (schema events was is : List ℕ) (r : ℕ) : Type 0 where
+-- What a report leaves: the text's first bytes, as far as they fit the buffer, and the buffer's other bytes as they were; it answers how
+-- many bytes of the text are there. A buffer of `most` bytes takes the whole of it.
+pub record ReportedBy (Prints : List ℕ → List ℕ → List ℕ → Type 0) (most : ℕ) (schema events was is : List ℕ) (r : ℕ) : Type 0 where
   pub text : List ℕ
-  pub printed : Printed schema events text
-  pub short : length text ≤ mostText
+  pub printed : PrintedBy Prints schema events text
+  pub short : length text ≤ most
   pub buffer : is ≡ take (length was) text ++ drop (length text) was
   pub count : r ≡ min (length text) (length was)
+
+-- of the program `typestock`
+abbrev pub Printed : List ℕ → List ℕ → List ℕ → Type 0
+Printed = PrintedBy JobPrinted
+
+abbrev pub Reported : List ℕ → List ℕ → List ℕ → List ℕ → ℕ → Type 0
+Reported = ReportedBy JobPrinted mostText

@@ -9,18 +9,21 @@ use Rattle.events.specs.declared.outline.NextOpening.the-variants.{Opening, NoO
 use Rattle.report.specs.declared.openings.Printing.{Printing}
 use Rattle.reading.specs.EventFile.{storedType}
 use Rattle.report.specs.Text.{openingLine}
-use Rattle.report.specs.Report.{mostText, JobPrinted}
 
--- A whole text, laid from the buffer's start on.
-pub record WholeLaid (was text is : List ℕ) (r : ℕ) : Type 0 where
+-- A whole text of at most so many bytes, laid from the buffer's start on.
+pub record WholeLaid (most : ℕ) (was text is : List ℕ) (r : ℕ) : Type 0 where
   pub laid : Laid was 0 text is r
-  pub short : length text ≤ mostText
+  pub short : length text ≤ most
 
--- the text of a job, laid so
-pub record AnswerLaid (schema events was is : List ℕ) (r : ℕ) : Type 0 where
+-- the text that a job prints, laid so
+pub record AnswerLaid (Prints : List ℕ → List ℕ → List ℕ → Type 0) (most : ℕ) (schema events was is : List ℕ) (r : ℕ) : Type 0 where
   pub text : List ℕ
-  pub printed : JobPrinted schema events text
-  pub whole : WholeLaid was text is r
+  pub printed : Prints schema events text
+  pub whole : WholeLaid most was text is r
+
+-- the most bytes of a refused schema's text: its line with a number of at most 3 digits and a place of at most 20, and the line of the witness
+abbrev pub mostRefused : ℕ
+mostRefused = 43 + 53
 
 -- After a turn, by the opening found: its line is put, with the next type; where there is none, no type is left.
 abbrev pub NextPut : List ℕ → NextOpening → Printing → List ℕ → List ℕ → Printing → Type 0

@@ -1,4 +1,4 @@
--- The text that the program prints: document 01, "The event file", second paragraph.
+-- The text that the program `typestock` prints: document 01, "The event file", second paragraph.
 use mathlib.Core.Bool.{cond}
 use mathlib.Core.List.{List, [], _∷_, _++_}
 use Prim.Native.Nat.{ℕ}
@@ -47,9 +47,13 @@ openingLines (j ∷ js) (l ∷ ls) = openingLine (l .level) (l .tag) j ++ openin
 unfoldable pub lastLine : EventFile → List ℕ
 lastLine e = cond (eqb (e .number) 0) (numbered accepted (e .count) ++ lineEnd) (refusalLine refused (e .number) (e .place))
 
--- "A refused schema prints only `schema refused N at P` and, for 9, a line" from the witness buffer. Under an accepted one: the first line, a
--- line for each opening taken, its type from the types buffer, and the last line.
+-- "A refused schema prints only `schema refused N at P` and, for 9, a line" from the witness buffer.
+abbrev pub schemaRefusedText : List ℕ → ℕ → ℕ → List ℕ
+schemaRefusedText witness n p = refusalLine schemaRefused n p ++ cond (eqb n 9) (witnessLine (headOf witness)) []
+
+-- The text of a refused schema; under an accepted one the first line, a line for each opening taken, its type from the types buffer, and the last
+-- line.
 unfoldable pub textOf : List ℕ → List ℕ → List ℕ → Job → List ℕ
-textOf events witness types (SchemaRefused n p) = refusalLine schemaRefused n p ++ cond (eqb n 9) (witnessLine (headOf witness)) []
+textOf events witness types (SchemaRefused n p) = schemaRefusedText witness n p
 textOf events witness types (EventsRead e) =
     header ++ (openingLines (take (e .count) (storedTypes types)) (outline 0 (eventsOf events)) ++ lastLine e)

@@ -1,4 +1,4 @@
--- The words that the program prints, as bytes.
+-- The words that the programs print, as bytes.
 use mathlib.Core.List.{List, [], _∷_}
 use Prim.Native.Nat.{ℕ}
 
@@ -45,3 +45,27 @@ tooLong = 0x74 ∷ 0x6f ∷ 0x6f ∷ 0x20 ∷ 0x6c ∷ 0x6f ∷ 0x6e ∷ 0x67 �
 -- a space
 abbrev pub space : List ℕ
 space = 0x20 ∷ []
+
+-- the line `accepted`
+abbrev pub acceptedLine : List ℕ
+acceptedLine = 0x61 ∷ 0x63 ∷ 0x63 ∷ 0x65 ∷ 0x70 ∷ 0x74 ∷ 0x65 ∷ 0x64 ∷ 0x0a ∷ []
+
+-- `inside`
+abbrev pub inside : List ℕ
+inside = 0x69 ∷ 0x6e ∷ 0x73 ∷ 0x69 ∷ 0x64 ∷ 0x65 ∷ []
+
+-- `open`, with a space after it
+abbrev pub openPlain : List ℕ
+openPlain = 0x6f ∷ 0x70 ∷ 0x65 ∷ 0x6e ∷ 0x20 ∷ []
+
+-- `open nil`, with a space after it
+abbrev pub openNil : List ℕ
+openNil = 0x6f ∷ 0x70 ∷ 0x65 ∷ 0x6e ∷ 0x20 ∷ 0x6e ∷ 0x69 ∷ 0x6c ∷ 0x20 ∷ []
+
+-- the line `close`
+abbrev pub closeLine : List ℕ
+closeLine = 0x63 ∷ 0x6c ∷ 0x6f ∷ 0x73 ∷ 0x65 ∷ 0x0a ∷ []
+
+-- the line `finish`
+abbrev pub finishLine : List ℕ
+finishLine = 0x66 ∷ 0x69 ∷ 0x6e ∷ 0x69 ∷ 0x73 ∷ 0x68 ∷ 0x0a ∷ []

@@ -11,14 +11,14 @@ ghost use mathlib.Core.Path.{_≡_};
 ghost use Rattle.text.specs.Laid.{Laid};
 ghost use Rattle.report.specs.Text.{numbered, refusalLine, rivals, witnessLine, openingLine, lastLine};
 
-fn wide(byte: u8) -> usize
+pub(crate) fn wide(byte: u8) -> usize
     ensures { λ r. ⌜ r ≡ byte ⌝ }
 {
     byte as usize
 }
 
 // Puts words and a number after them.
-fn put_numbered(out: &mut [u8], at: usize, words: &[u8], n: usize) -> usize
+pub(crate) fn put_numbered(out: &mut [u8], at: usize, words: &[u8], n: usize) -> usize
     ensures { λ r. ⌜ Laid (now (out .entry)) at (numbered (now (words .entry)) n) (now (out .exit)) r ⌝ }
 {
     let place = put_bytes(out, at, words);

@@ -13,10 +13,10 @@ ghost use mathlib.Core.Path.{_≡_};
 ghost use Prim.Native.Nat.{ℕ, _≤_, min};
 ghost use mathlib.Core.List.{List};
 ghost use lib.ListN.{length};
-ghost use Rattle.typing.specs.declared.job.Job.the-variants.{SchemaRefused, EventsRead};
-ghost use Rattle.report.specs.Text.{textOf};
-ghost use Rattle.report.specs.Report.{mostEvents, typesHeld, Reported};
-ghost use Rattle.report.specs.Steps.{WholeLaid, AnswerLaid};
+ghost use Rattle.typing.specs.declared.job.Job.the-variants.{EventsRead};
+ghost use Rattle.report.specs.Text.{schemaRefusedText, textOf};
+ghost use Rattle.report.specs.Report.{mostEvents, typesHeld, mostText, JobPrinted, Reported};
+ghost use Rattle.report.specs.Steps.{mostRefused, WholeLaid, AnswerLaid};
 
 // The schema file's bytes that count.
 pub const MOST_SCHEMA: usize = 16384;
@@ -34,7 +34,7 @@ const HEADER: usize = 15;
 const MOST_LINE: usize = 14;
 
 // The most bytes of the last line.
-const MOST_LAST: usize = 36;
+pub(crate) const MOST_LAST: usize = 36;
 
 // The longest text.
 pub const OUTPUT: usize = HEADER + MOST_LINE * TYPES_HELD + MOST_LAST;
@@ -42,21 +42,20 @@ pub const OUTPUT: usize = HEADER + MOST_LINE * TYPES_HELD + MOST_LAST;
 // The number of a schema that is refused for competition.
 const COMPETITION: u8 = 9;
 
-fn least(a: usize, b: usize) -> usize
+pub(crate) fn least(a: usize, b: usize) -> usize
     ensures { λ r. ⌜ r ≡ min a b ⌝ }
 {
     if a < b { a } else { b }
 }
 
 // The text of a refused schema.
-fn put_schema_refused(
+pub(crate) fn put_schema_refused(
     out: &mut [u8],
     witness: &[u8; LEAST_WITNESS],
     number: u8,
     place: usize,
 ) -> usize
-    ensures { λ r. ⌜ ((events types : List ℕ) → WholeLaid (now (out .entry))
-        (textOf events (now (witness .entry)) types (SchemaRefused number place)) (now (out .exit)) r) ⌝ }
+    ensures { λ r. ⌜ WholeLaid mostRefused (now (out .entry)) (schemaRefusedText (now (witness .entry)) number place) (now (out .exit)) r ⌝ }
 {
     let at = put_refusal(out, 0, b"schema refused ", number, place);
     if number == COMPETITION {
@@ -69,7 +68,7 @@ fn put_schema_refused(
 // The text under an accepted schema.
 fn put_events_read(out: &mut [u8], events: &[u8], types: &[u8], e: EventFile) -> usize
     requires { ⌜ (length (now events) ≤ mostEvents) × (length (now types) ≤ typesHeld) ⌝ }
-    ensures { λ r. ⌜ ((witness : List ℕ) → WholeLaid (now (out .entry))
+    ensures { λ r. ⌜ ((witness : List ℕ) → WholeLaid mostText (now (out .entry))
         (textOf (now (events .entry)) witness (now (types .entry)) (EventsRead e)) (now (out .exit)) r) ⌝ }
 {
     let taken = least(e.count, types.len());
@@ -87,7 +86,7 @@ fn put_job(
     job: Job,
 ) -> usize
     requires { ⌜ (length (now events) ≤ mostEvents) × (length (now types) ≤ typesHeld) ⌝ }
-    ensures { λ r. ⌜ WholeLaid (now (out .entry)) (textOf (now (events .entry)) (now (witness .entry)) (now (types .entry)) job)
+    ensures { λ r. ⌜ WholeLaid mostText (now (out .entry)) (textOf (now (events .entry)) (now (witness .entry)) (now (types .entry)) job)
         (now (out .exit)) r ⌝ }
 {
     match job {
@@ -99,7 +98,7 @@ fn put_job(
 // The job on the schema's bytes that count, and its text.
 fn put_answer(schema: &[u8], events: &[u8], out: &mut [u8]) -> usize
     requires { ⌜ length (now events) ≤ mostEvents ⌝ }
-    ensures { λ r. ⌜ AnswerLaid (now (schema .entry)) (now (events .entry)) (now (out .entry)) (now (out .exit)) r ⌝ }
+    ensures { λ r. ⌜ AnswerLaid JobPrinted mostText (now (schema .entry)) (now (events .entry)) (now (out .entry)) (now (out .exit)) r ⌝ }
 {
     let mut witness = [0u8; LEAST_WITNESS];
     let mut types = [0u8; TYPES_HELD];

@@ -2,3 +2,4 @@
 pub mod ReadBack
 pub mod ReadWritten
 pub mod ReadDocuments
+pub mod ReadExpected

@@ -7,12 +7,14 @@ use Rattle.sdtd.specs.declared.FileWritten.{FileWritten}
 use Rattle.sdtd.specs.Output.{writtenNumber, writtenLength}
 use Rattle.typing.specs.declared.job.Job.{Job}
 use Rattle.typing.specs.declared.job.Job.the-variants.{SchemaRefused, EventsRead}
+use Rattle.typing.specs.declared.expect.ExpectedJob.{ExpectedJob}
 use Rattle.events.specs.declared.outline.Cursor.{Cursor}
 use Rattle.events.specs.declared.outline.NextOpening.{NextOpening}
 use Rattle.events.specs.declared.outline.NextOpening.the-variants.{Opening, NoOpening}
 use Rattle.typestock_c.specs.declared.TypestockSchema.{TypestockSchema}
 use Rattle.typestock_c.specs.declared.TypestockWritten.{TypestockWritten}
 use Rattle.typestock_c.specs.declared.TypestockDocument.{TypestockDocument}
+use Rattle.typestock_c.specs.declared.TypestockExpected.{TypestockExpected}
 use Rattle.typestock_c.specs.declared.TypestockOpening.{TypestockOpening}
 
 -- "A refusal answers number and place". Document 01 gives an accepted schema neither: it has 0 and 0, and no refusal has the number 0.
@@ -31,6 +33,24 @@ abbrev pub documentNumbers : Job → TypestockDocument
 documentNumbers (SchemaRefused n p) = record { «schema_number» = n; «schema_place» = p; number = n; place = p; count = 0 }
 documentNumbers (EventsRead e) =
     record { «schema_number» = 0; «schema_place» = 0; number = e .number; place = e .place; count = e .count }
+
+-- The schema file's numbers, and what the job tells of the event file as it is: of a refused schema the schema's number and place, so that 0 is
+-- said of no document but one that is taken.
+abbrev pub expectedNumbers : ExpectedJob → TypestockExpected
+expectedNumbers job =
+    record {
+      «schema_number» = schemaNumbers (job .schema) .number;
+      «schema_place» = schemaNumbers (job .schema) .place;
+      number = job .expected .number;
+      place = job .expected .place;
+      depth = job .expected .depth;
+      types = job .expected .types;
+      count = job .expected .count;
+      tags = job .expected .tags;
+      nils = job .expected .nils;
+      closes = job .expected .closes;
+      finishes = job .expected .finishes;
+    }
 
 -- the cursor of a place and a level
 abbrev pub cursorAt : ℕ → ℕ → Cursor

@@ -3,16 +3,27 @@
 use events::Cursor;
 use events::NextOpening;
 use events::next_opening;
+use expected::OPENINGS;
+use reading::LEVELS;
 use schema_file::read;
 use schema_writer::write_reduced;
 use sdtd::FileWritten;
 use sdtd::Verdict;
+use typing::ExpectedJob;
 use typing::Job;
+use typing::expect_document;
 use typing::type_document;
 ghost use mathlib.Core.Path.{_≡_};
 ghost use Rattle.events.specs.Outline.{nextOpening};
-ghost use Rattle.typestock_c.specs.Numbers.{cursorAt, schemaNumbers, writtenNumbers, documentNumbers, openingNumbers};
-ghost use Rattle.typestock_c.specs.Exports.{SchemaMeans, WrittenMeans, DocumentMeans};
+ghost use Rattle.typestock_c.specs.Numbers.{
+  cursorAt,
+  schemaNumbers,
+  writtenNumbers,
+  documentNumbers,
+  expectedNumbers,
+  openingNumbers,
+};
+ghost use Rattle.typestock_c.specs.Exports.{SchemaMeans, WrittenMeans, DocumentMeans, ExpectedDocumentMeans};
 
 // A schema file's answer: a refusal's number and place; 0 and 0 for accepted.
 #[repr(C)]
@@ -36,6 +47,23 @@ pub struct TypestockDocument {
     pub number: u8,
     pub place: usize,
     pub count: usize,
+}
+
+// What would have been taken: the schema file's answer, and `expected::Expected` field by field; where the schema is refused, its number and place
+// once more, and nothing.
+#[repr(C)]
+pub struct TypestockExpected {
+    pub schema_number: u8,
+    pub schema_place: usize,
+    pub number: u8,
+    pub place: usize,
+    pub depth: usize,
+    pub types: [u8; LEVELS],
+    pub count: usize,
+    pub tags: [u8; OPENINGS],
+    pub nils: [bool; OPENINGS],
+    pub closes: bool,
+    pub finishes: bool,
 }
 
 // The next opening: whether there is one, its tag, and the cursor past it; with none, tag 0 and the cursor handed in.
@@ -89,6 +117,30 @@ fn document_numbers(job: Job) -> TypestockDocument
     }
 }
 
+fn expected_numbers(job: ExpectedJob) -> TypestockExpected
+    ensures { λ r. ⌜ r ≡ expectedNumbers job ⌝ }
+{
+    let answer = job.schema;
+    let schema = schema_numbers(answer);
+    let told = job.expected;
+    let types = told.types;
+    let tags = told.tags;
+    let nils = told.nils;
+    TypestockExpected {
+        schema_number: schema.number,
+        schema_place: schema.place,
+        number: told.number,
+        place: told.place,
+        depth: told.depth,
+        types,
+        count: told.count,
+        tags,
+        nils,
+        closes: told.closes,
+        finishes: told.finishes,
+    }
+}
+
 fn opening_numbers(from: Cursor, next: NextOpening) -> TypestockOpening
     ensures { λ r. ⌜ r ≡ openingNumbers from next ⌝ }
 {
@@ -138,6 +190,19 @@ pub extern "C" fn typestock_type_document(
         (now (types .entry)) (now (types .exit)) r ⌝ }
 {
     document_numbers(type_document(schema, events, witness, types))
+}
+
+// The schema file's answer, and under an accepted schema what would have been taken where the event file is refused: on 9 the witness goes to its
+// buffer.
+#[no_mangle]
+pub extern "C" fn typestock_expect_document(
+    schema: &[u8],
+    events: &[u8],
+    witness: &mut [u8],
+) -> TypestockExpected
+    ensures { λ r. ⌜ ExpectedDocumentMeans (now (schema .entry)) (now (events .entry)) (now (witness .entry)) (now (witness .exit)) r ⌝ }
+{
+    expected_numbers(expect_document(schema, events, witness))
 }
 
 // The first opening from the place on, where so many elements are open.

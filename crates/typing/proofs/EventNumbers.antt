@@ -17,7 +17,7 @@ use Rattle.reading.specs.declared.value.Reading.{Reading}
 use Rattle.reading.specs.declared.calls.Next.{Next}
 use Rattle.reading.specs.declared.event_file.EventFile.{EventFile}
 use Rattle.reading.specs.Levels.{fresh}
-use Rattle.reading.specs.Questions.{given, questions, TakenBy, CallMeans}
+use Rattle.reading.specs.Questions.{given, CallMeans}
 use Rattle.reading.specs.Calls.{answerOf}
 use Rattle.events.specs.Events.{Events, ends, stray, event, eventsOf}
 use Rattle.events.specs.Outline.{shallower, outline}
@@ -27,6 +27,7 @@ use Rattle.reading.specs.EventMeaning.{byDocuments, EventFileMeets}
 use Rattle.reading.proofs.Passages.{passes-each}
 use Rattle.reading.proofs.EventWalk.{answer-read}
 use Rattle.reading.proofs.RoomLaws.{room-enough, room-or-20}
+use Rattle.expected.proofs.PassageLaws.{each-answer}
 
 -- what holds of each question's refusal
 abbrev Each : {A : Type 0} → (A → Type 0) → List (Question A) → Type 0
@@ -52,18 +53,8 @@ CanAnswer least x taken = Unit
 
 -- what a call can answer under any schema
 call-answer : (S : Schema) (r : Reading) (x : Event) (n : Next) → CallMeans S r x n → CanAnswer 10 x (answerOf (n .answer))
-call-answer S r (opening κ g) n m =
-    ordered-has (λ (n : Next). CanAnswer 10 (opening κ g) (answerOf (n .answer))) (TakenBy S r (opening κ g)) (questions S r (opening κ g))
-    (omega arith, (omega arith, (omega arith, (omega arith, (omega arith, tt)))))
-    (λ t. subst (λ (n : Next). CanAnswer 10 (opening κ g) (answerOf (n .answer))) (sym (t .next)) tt) m
-call-answer S r (closing g) n m =
-    ordered-has (λ (n : Next). CanAnswer 10 (closing g) (answerOf (n .answer))) (TakenBy S r (closing g)) (questions S r (closing g))
-    (omega arith, (omega arith, (omega arith, (omega arith, (omega arith, (omega arith, tt))))))
-    (λ t. subst (λ (n : Next). CanAnswer 10 (closing g) (answerOf (n .answer))) (sym t) tt) m
-call-answer S r finish n m =
-    ordered-has (λ (n : Next). CanAnswer 10 finish (answerOf (n .answer))) (TakenBy S r finish) (questions S r finish)
-    (omega arith, (omega arith, (omega arith, tt)))
-    (λ t. subst (λ (n : Next). CanAnswer 10 finish (answerOf (n .answer))) (sym t) tt) m
+call-answer S r x n m =
+    each-answer r (λ y n. CanAnswer 10 y (answerOf (n .answer))) (λ y i l h. (l, h)) (λ κ g j kept u l. tt) (λ g u. tt) (λ o. tt) S x m
 
 -- what a right answer can be: 10 is none
 right-answer : (S : Schema) (e : List Event) (x : Event) (a : Answer) → Right S e x a → CanAnswer 11 x a
@@ -134,13 +125,23 @@ laid-range least room p small range =
 by-calls : (S : Schema) (r : Reading) (x : Event) (a : Answer) (after : Reading) → byCalls S .Answers r x a after → CanAnswer 10 x a
 by-calls S r x a after m = subst (CanAnswer 10 x) (answer-read a) (call-answer S r x (given a after) m)
 
--- Under an accepted schema the number is 0, or 11 to 20.
+-- Under any schema the number of the walk alone is 0, or 10 to 19.
+pub calls-range : (S : Schema) (file : List ℕ) (p : Passage Reading) → Passes (byCalls S) fresh 0 (eventsOf file) p
+    → Range 10 19 (numberOf (p .verdict))
+calls-range S file p = passes-range (byCalls S) 10 (omega arith) (by-calls S) fresh 0 (eventsOf file) p
+
+-- Under an accepted schema the number of the walk alone is 0, or 11 to 19,
+pub walk-range : (S : Schema) (file : List ℕ) (p : Passage (List Event)) → Passes (byDocuments S) [] 0 (eventsOf file) p
+    → Range 11 19 (numberOf (p .verdict))
+walk-range S file p =
+    passes-range (byDocuments S) 11 (omega arith) (λ e x a after r. right-answer S e x a (r .0)) [] 0 (eventsOf file) p
+
+-- and with a types' buffer 0, or 11 to 20.
 pub judged-range : {S : Schema} {room : ℕ} {file : List ℕ} {v : Verdict} {ts : List ℕ} → EventFileMeets S room file v ts
     → Range 11 20 (numberOf v)
 judged-range {S} {room} {file} m =
     subst (λ (v : Verdict). Range 11 20 (numberOf v)) (sym (m .verdict))
-    (laid-range 11 room (m .passage) (omega arith)
-    (passes-range (byDocuments S) 11 (omega arith) (λ e x a after r. right-answer S e x a (r .0)) [] 0 (eventsOf file) (m .passage) (m .judged)))
+    (laid-range 11 room (m .passage) (omega arith) (walk-range S file (m .passage) (m .judged)))
 
 -- at most half as many lines as bytes
 abbrev Half : Events → ℕ → Type 0
@@ -164,9 +165,16 @@ half-from (b ∷ (g ∷ rest)) level =
 pub half-openings : (file : List ℕ) → 2 * length (outline 0 (eventsOf file)) ≤ length file
 half-openings file = half-from file 0
 
+-- A types' buffer with a byte for every two of the event file changes no verdict, under any schema.
+pub room-for-half : (S : Schema) (file : List ℕ) (room : ℕ) (p : Passage Reading) → Passes (byCalls S) fresh 0 (eventsOf file) p
+    → length file ≤ 2 * room → verdictWith room p ≡ p .verdict
+room-for-half S file room p walk h =
+    let few = few-types (byCalls S) 10 (omega arith) (by-calls S) fresh 0 (eventsOf file) p walk 0 in
+    room-enough room (typesGiven (p .calls)) (p .verdict) (omega (arith, half-openings file))
+
 module _ {S : Schema} {file was is : List ℕ} {r : EventFile} (m : EventsMean S file was is r) where
   range : Range 10 19 (numberOf (m .passage .verdict))
-  range = passes-range (byCalls S) 10 (omega arith) (by-calls S) fresh 0 (eventsOf file) (m .passage) (m .passes)
+  range = calls-range S file (m .passage) (m .passes)
 
   -- Under any schema the number is 0, or 10 to 20.
   pub events-range : Range 10 20 (r .number)
@@ -175,7 +183,6 @@ module _ {S : Schema} {file was is : List ℕ} {r : EventFile} (m : EventsMean S
   -- A byte for every two of the event file is always enough: the answer is never 20, under any schema.
   pub always-enough : length file ≤ 2 * length was → r .number ≢ 20
   always-enough h z =
-      let few = few-types (byCalls S) 10 (omega arith) (by-calls S) fresh 0 (eventsOf file) (m .passage) (m .passes) 0 in
-      let same = room-enough (length was) (typesGiven (m .passage .calls)) (m .passage .verdict) (omega (arith, half-openings file)) in
+      let same = room-for-half S file (length was) (m .passage) (m .passes) h in
       let number : r .number ≡ numberOf (m .passage .verdict) = m .told .number ∙ ap numberOf same in
       ⊎-elim (λ q. omega arith) (λ q. omega arith) range

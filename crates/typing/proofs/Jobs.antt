@@ -75,7 +75,7 @@ job-nine {wasWitness = was} {p = p} j =
     record { was = was; read = j .file; means = j .schema-file; place = p; answer = job-refusal j }
 
 -- two values of the schema that the commands state mean one schema
-one-meaning : (k : Commands) (v w : Schema) → OfStated k (λ g. StatedValue g v) → OfStated k (λ g. StatedValue g w)
+pub one-meaning : (k : Commands) (v w : Schema) → OfStated k (λ g. StatedValue g v) → OfStated k (λ g. StatedValue g w)
     → meaning v ≡ meaning w
 one-meaning (stopped n p) v w s t = absurd s
 one-meaning (states g) v w s t = s .schema ∙ sym (t .schema)

@@ -3,3 +3,5 @@ pub mod Demands
 pub mod Reducing
 pub mod Samples
 pub mod Job
+pub mod ExpectedJob
+pub mod Expecting

@@ -1,5 +1,8 @@
 -- `report::program::put_job` meets its contract: by the job.
+use native.Mathlib.Omega.{arith}
 use borrow.Author.Needs.{needs}
+use Rattle.report.specs.Text.{textOf}
+use Rattle.report.proofs.ReportLaws.{laid-within}
 use Rattle.report.proofs.program.put_job.Statement.{statement}
 use Rattle.report.proofs.program.put_job.Tie as tie
 
@@ -19,9 +22,10 @@ same-length : tie.Need-same-length
 same-length c = search needs
 
 returns : tie.Need-returns
+unfolding textOf
 returns c =
     let w = c .before .before in
-    rw (w .before .before .before .job .given .1) (w .put-schema-refused .ensures _ _)
+    rw (w .before .before .before .job .given .1) (laid-within (omega arith) (w .put-schema-refused .ensures))
 
 same-length-2 : tie.Need-same-length-2
 same-length-2 c = search needs

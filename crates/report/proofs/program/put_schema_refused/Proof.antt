@@ -3,7 +3,6 @@ use borrow.Author.Needs.{needs}
 use native.Mathlib.Omega.{arith}
 use borrow.Author.Tests.{eq-eqb, ne-eqb}
 use mathlib.Core.List.{append-nil}
-use Rattle.report.specs.Text.{textOf}
 use Rattle.text.proofs.LaidLaws.{laid-then}
 use Rattle.report.proofs.LineLaws.{laid-witness}
 use Rattle.report.proofs.TextLengths.{refused-short, nine-short}
@@ -26,19 +25,18 @@ same-length : tie.Need-same-length
 same-length c = search needs
 
 returns : tie.Need-returns
-unfolding textOf
 returns c =
     let w = c .before .before in
     let h = w .before in
     let t = h .before .before in
     let r = t .before .before .before in
     let s = r .before .before .before .before in
-    λ events types. record {
+    record {
       laid =
           rw (eq-eqb _ 9 (t .if1 .taken))
           (laid-then (r .put-refusal .ensures) (laid-witness (h .witness-head .ensures) (w .put-witness .ensures)));
       short =
-          nine-short events (s .args .witness .now) types (h .witness-head .ensures) (omega (arith, h .witness-head .ok)) (omega (arith, h .witness-head .ok))
+          nine-short (s .args .witness .now) (h .witness-head .ensures) (omega (arith, h .witness-head .ok)) (omega (arith, h .witness-head .ok))
           (omega (arith, h .witness-head .ok)) (omega (arith, h .witness-head .ok)) (omega (arith, s .fits .number)) (omega (arith, s .fits .place));
     }
 
@@ -46,13 +44,12 @@ same-length-2 : tie.Need-same-length-2
 same-length-2 c = search needs
 
 returns-2 : tie.Need-returns-2
-unfolding textOf
 returns-2 c =
     let r = c .before .before .before in
     let s = r .before .before .before .before in
-    λ events types. record {
+    record {
       laid = rw (ne-eqb _ 9 (c .if1 .left), append-nil) (r .put-refusal .ensures);
-      short = refused-short events (s .args .witness .now) types (c .if1 .left) (omega (arith, s .fits .number)) (omega (arith, s .fits .place));
+      short = refused-short (s .args .witness .now) (c .if1 .left) (omega (arith, s .fits .number)) (omega (arith, s .fits .place));
     }
 
 pub put-schema-refused-spec : {M : Type 1} → statement M

@@ -17,7 +17,7 @@ same-length c = search needs
 returns : tie.Need-returns
 returns c =
     let p = c .before .before in
-    reported-long _ (omega (arith, p .before .before .before .if1 .taken)) (p .put-bytes .ensures)
+    reported-long _ (omega arith) (omega (arith, p .before .before .before .if1 .taken)) (p .put-bytes .ensures)
 
 least-requires : tie.Need-least-requires
 least-requires c κs = search needs
