@@ -10,14 +10,19 @@
     documents.py --stored COUNT FOLDER
         writes the writer's files by hand and about COUNT random ones, each as a folder with stored
         and, if it is written, written; else with refused, the line of its number.
+    documents.py --expected COUNT FOLDER
+        writes about COUNT random jobs of the program `whatnext`, those with known texts and those
+        at the limits, each as a folder with schema.tab, events and expected.
     documents.py --confirm SCHEMA PRINTED
         does PRINTED hold the right text for a schema refused with 9?
 
 A case in stdin is a letter, three lengths of two bytes, low byte first (a buffer's and those of
 two parts), and the two parts; seven bytes 00 end the cases. In stdout each case has a line, a job
-(J) the program's text and a line `--`; at the end a line `end`. The letters: S a schema file, C a
-list of calls, E an event file, J a whole job of the program, V a schema value made up, P a pair of
-states, Q a set of states, W a schema file to be written without its unused types.
+(J, X) the program's text and a line `--`; at the end a line `end`. The letters: S a schema file,
+C a list of calls, E an event file, J a whole job of the program, V a schema value made up, P a pair
+of states, Q a set of states, W a schema file to be written without its unused types, N an event
+file and what would have been taken where it stops, X a whole job of the program `whatnext`. In a
+case N the first length is that of puts, which make a schema value up and stand before the events.
 
 Cases are made of files as they were judged until request 06, without 24; the answer to each is the
 reader's, with 24. Those that get 24 come once more, as listing/renewed.py says.
@@ -34,7 +39,8 @@ two documents of demand 3 are built and looked at, for each kind that the two ty
 shorter words are listed, if there are not too many. Of content written as an expression the words
 are listed too, and the automaton is made from them by the request's wording
 (listing/expression.py). What the writer makes of a file is said command by command in
-listing/reduce.py, and the listed documents of both files are compared.
+listing/reduce.py, and the listed documents of both files are compared. What would have been taken
+where an event file stops is asked event by event, as listing/expected.py says.
 
 The schema fixes A and n of a witness; J, K and w are the program's choice, w among the shortest
 words. Where roots compete A is 255 and n is 0, and J and K are any two that do. With a committed
@@ -49,8 +55,9 @@ from pathlib import Path
 
 sys.dont_write_bytecode = True
 
-from listing import (cases_nil, cases_roots, cases_under_expressions, cases_under_nil,
-                     cases_under_roots, cases_writer, choices, least, pair_numbers, reduce)
+from listing import (cases_expected_jobs, cases_nil, cases_roots, cases_under_expressions,
+                     cases_under_nil, cases_under_roots, cases_writer, choices, least, pair_numbers,
+                     reduce)
 from listing.case import HEAD
 from listing.cases_jobs import damaged_cases, named_size_cases, random_cases, sample_cases
 from listing.groups import GROUPS, STORED, made
@@ -77,7 +84,7 @@ def committed_texts(path, cases):
     lines, at = Path(path).read_text().splitlines(keepends=True), 0
     for case in cases:
         end = at
-        while case.letter == "J" and lines[end:end + 1] not in ([], ["--\n"]):
+        while case.letter in choices.JOBS and lines[end:end + 1] not in ([], ["--\n"]):
             end += 1
         yield "".join(lines[at:end + 1])
         at = end + 1
@@ -136,12 +143,22 @@ def write_folders(count, folder):
                                     cases_under_nil.level_cases))):
         named += [(f"{name}-{n}", case) for n, case in enumerate(some)]
     named += [*named_size_cases(), *cases_under_expressions.named_size_cases()]
+    write_jobs(named, folder)
+
+
+def write_jobs(named, folder):
+    """Each job as a folder of its name."""
     for name, case in named:
         here = folder / name
         here.mkdir(parents=True)
         (here / "schema.tab").write_bytes(case.first)
         (here / "events").write_bytes(case.second)
         (here / "expected").write_text(case.text.removesuffix("--\n"))
+
+
+def write_expected(count, folder):
+    """Jobs as folders for tests/whatnext."""
+    write_jobs(cases_expected_jobs.folder_cases(count), folder)
 
 
 def write_stored(count, folder):
@@ -176,6 +193,8 @@ def main(arguments):
         write_folders(int(arguments[1]), Path(arguments[2]))
     elif len(arguments) == 3 and arguments[0] == "--stored":
         write_stored(int(arguments[1]), Path(arguments[2]))
+    elif len(arguments) == 3 and arguments[0] == "--expected":
+        write_expected(int(arguments[1]), Path(arguments[2]))
     elif len(arguments) == 3 and arguments[0] == "--confirm":
         confirm_text(Path(arguments[1]).read_bytes(), Path(arguments[2]).read_text())
     elif len(arguments) in (1, 2) and not arguments[0].startswith("--"):

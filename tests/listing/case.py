@@ -2,7 +2,7 @@
 
 from typing import NamedTuple
 
-from . import calls, event_file, judged, program, reduce
+from . import calls, event_file, expected, judged, program, reduce
 from .meaning import Wrong
 
 HEAD = 7        # a case's letter and three lengths of two bytes; so many bytes 00 end the cases
@@ -63,15 +63,36 @@ def job_case(name, file, events, tree=None):
 
 def value_case(name, file, puts, room):
     """A schema value made up by puts (field, number, index)."""
+    value, items = made_up(file, puts)
+    text, numbers = judged.value_line(value, room)
+    return Case("V", f"V {name}", room, file, items, text + "\n", numbers)
+
+
+def made_up(file, puts):
+    """The value beside the file's answer with these puts, and their bytes."""
     value, items = judged.read(file).value, b""
     for field, number, index in puts:
         value = value.with_entry(field, index, number)
         items += calls.put_bytes(field, index, number)
-    text, numbers = judged.value_line(value, room)
-    return Case("V", f"V {name}", room, file, items, text + "\n", numbers)
+    return value, items
 
 
 def writer_case(name, file, room):
     """The writer's case of a schema file and an output of so many bytes."""
     text, number = reduce.line(file, room)
     return Case("W", f"W {name}", room, file, b"", text + "\n", (number,))
+
+
+def expected_case(name, file, data, puts=(), tree=None):
+    """What would have been taken where the event file stops, under the file's schema or under a
+    value made up by puts."""
+    value, items = made_up(file, puts)
+    found = expected.expected(expected.MadeUp(value) if puts else judged.read(file), data, tree)
+    return Case("N", f"N {name}", len(items), file, items + data,
+                expected.line(file, found) + "\n", found.answers())
+
+
+def next_case(name, file, events, tree=None):
+    """A whole job of the program `whatnext`."""
+    text, answers = expected.answer(file, events, tree)
+    return Case("X", f"X {name}", 0, file, events, text + "--\n", answers)

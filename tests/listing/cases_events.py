@@ -156,21 +156,27 @@ def large_cases():
     tree, data = boots(16000, PROGRAM_TYPES - 16000 - 3)
     assert MOST_LENGTH - 2 == len(data + END)
     yield event_case("large", samples.R, data + END, room, tree)
-    yield from most_openings()
-
-
-def most_openings():
-    """The most openings that 32,768 bytes have: 64 levels, of which the last is closed and
-    opened on and on."""
-    down, _ = nested([0], MOST_LEVELS)
-    data = down + (closed(0) + opened(0)) * ((EVENT_BYTES - len(down)) // 4)
-    openings = count_openings(data)
-    tree = Tree(0, (Tree(0),) * (openings - MOST_LEVELS + 1))
-    for _ in range(MOST_LEVELS - 2):
-        tree = Tree(0, (tree,))
+    openings = most_openings(EVENT_BYTES)
+    data, tree = last_level(openings)
     for some, room in ((data, PROGRAM_TYPES), (data, openings - 1),
                        (data + opened(0), PROGRAM_TYPES)):
         yield event_case("large", samples.NESTED, some, room, tree)
+
+
+def most_openings(length):
+    """The most openings that so many bytes have under NESTED."""
+    down, _ = nested([0], MOST_LEVELS)
+    return MOST_LEVELS + (length - len(down)) // 4
+
+
+def last_level(openings):
+    """So many openings under NESTED: 64 levels, of which the last is closed and opened on and on;
+    and a tree whose document begins so."""
+    last = openings - MOST_LEVELS
+    data, tree = nested([0], MOST_LEVELS)[0], Tree(0, (Tree(0),) * (last + 1))
+    for _ in range(MOST_LEVELS - 2):
+        tree = Tree(0, (tree,))
+    return data + (closed(0) + opened(0)) * last, tree
 
 
 def large_schema_cases():

@@ -11,6 +11,7 @@ from .meaning import Wrong
 from .program import confirm_text
 from .tables import COMPETITION
 
+JOBS = ("J", "X")       # whole jobs of a program, each a text of its own
 WITNESS = re.compile(r"(?<=kept \| )(\d+) \d+ \d+ (\d+)(?: \d+)*")
 
 
@@ -19,7 +20,7 @@ def taken_over(case, text):
     only in a choice that is confirmed."""
     if text == case.text:
         return text
-    if case.letter == "J" and case.answers == (COMPETITION,):
+    if case.letter in JOBS and case.answers == (COMPETITION,):
         confirm_text(case.first, text.removesuffix("--\n"))
         return text
     if case.letter not in MEANINGS or without_choice(text) != without_choice(case.text):

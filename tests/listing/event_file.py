@@ -1,6 +1,6 @@
 """The event file: its events, and its answer with the types of the openings taken."""
 
-from functools import lru_cache
+from functools import cache, lru_cache
 from itertools import accumulate
 
 from .judged import read
@@ -17,6 +17,7 @@ def event_at(data, at):
     return data[at], data[at + 1] if EVENTS[data[at]] else 0
 
 
+@cache
 def event_bytes(event, tag):
     return bytes([event, tag][:1 + EVENTS[event]])
 

@@ -137,7 +137,12 @@ def joined(words, others, most=None):
     """Each word with each of the others after it, of at most so many letters."""
     if len(words) * len(others) > 10 * MOST_LISTED_WORDS:
         raise TooMany
-    found = {v + w for v in words for w in others if most is None or len(v) + len(w) <= most}
+    if most is None:
+        found = {v + w for v in words for w in others}
+    else:
+        fitting = {length: [w for w in others if length + len(w) <= most]
+                   for length in {len(v) for v in words}}
+        found = {v + w for v in words for w in fitting[len(v)]}
     if len(found) > MOST_LISTED_WORDS:
         raise TooMany
     return found
@@ -232,29 +237,38 @@ def automaton(commands):
 def check_words(expression, made):
     """The automaton's words are the expression's, up to a length at which there are not too many;
     and longer words of uses, made in any way, lead to no other automaton."""
-    uses = len(uses_of(expression))
-    for most in range(uses + 3):
+    uses = uses_of(expression)
+    most, of_uses = longest_compared(expression, len(uses) + 2)
+    type_of = {use.number: use.type for use in uses}
+    if automaton_words(made, most) != {tuple(type_of[n] for n in word) for word in of_uses}:
+        raise Wrong("an automaton has other words than its expression")
+    found = by_wording(uses, of_uses)
+    if not (set(found.steps) <= set(made.steps)
+            and set(found.accepting) <= set(made.accepting)):
+        raise Wrong("the listed words of uses are not enough for the wording")
+
+
+def longest_compared(expression, most):
+    """The greatest length, up to this one, at which there are not too many words of uses, and these
+    words, the shorter ones among them."""
+    length, found = 0, words(expression, 0, lambda use: use.number)
+    for more in range(1, most + 1):
         try:
-            of_types = words(expression, most, lambda use: use.type)
-            of_uses = words(expression, most, lambda use: use.number)
+            longer = words(expression, more, lambda use: use.number)
         except TooMany:
-            return
-        if len(of_uses) > MOST_WORDS_COMPARED:
-            return
-        if automaton_words(made, most) != of_types:
-            raise Wrong("an automaton has other words than its expression")
-        found = by_wording(uses_of(expression), of_uses)
-        if not (set(found.steps) <= set(made.steps)
-                and set(found.accepting) <= set(made.accepting)):
-            raise Wrong("the listed words of uses are not enough for the wording")
+            break
+        if len(longer) > MOST_WORDS_COMPARED:
+            break
+        length, found = more, longer
+    return length, found
 
 
 def automaton_words(made, most):
     """All words of at most so many types that lead from state 0 to an accepting state."""
     found, layer = set(), {((), 0)}
+    leaving = [[(j, q) for from_, j, q in made.steps if from_ == p] for p in range(made.states)]
     for length in range(most + 1):
         if length:
-            layer = {(word + (j,), q) for word, p in layer
-                     for from_, j, q in made.steps if from_ == p}
+            layer = {(word + (j,), q) for word, p in layer for j, q in leaving[p]}
         found |= {word for word, p in layer if p in made.accepting}
     return found

@@ -1,9 +1,10 @@
 """All cases, in the groups in which they are made.
 
 Those of files that passed until now come first; then those of them made anew that are refused with
-24, and then those of unused types and of the writer."""
+24, and then those of unused types and of the writer, and those of what would have been taken."""
 
-from . import (cases_calls, cases_events, cases_expressions, cases_jobs, cases_nil,
+from . import (cases_calls, cases_events, cases_expected, cases_expected_jobs,
+               cases_expected_random, cases_expressions, cases_jobs, cases_nil,
                cases_none_nillable, cases_roots, cases_schema, cases_under_expressions,
                cases_under_nil, cases_under_roots, cases_unused, cases_values, cases_words,
                cases_writer)
@@ -33,6 +34,12 @@ NEW = (
     cases_writer.CASES,
     cases_writer.RANDOM_CASES,
     cases_writer.MORE_RANDOM_CASES,
+    cases_expected.CASES,
+    cases_expected.OTHER_CASES,
+    cases_expected_random.CASES,
+    cases_expected_random.VALUE_CASES,
+    cases_expected_jobs.CASES,
+    cases_expected_jobs.RANDOM_CASES,
 )
 GROUPS = STORED + NEW
 

@@ -1,6 +1,6 @@
 """The schema file's answer, the value beside it, and witnesses confirmed by listing."""
 
-from functools import lru_cache
+from functools import cached_property, lru_cache
 
 from . import schema_file
 from .meaning import Meaning, Wrong
@@ -18,24 +18,26 @@ class Judged:
     meaning where it has passed 7, or a known one; the value beside the answer."""
 
     def __init__(self, file, questions=STORED_QUESTIONS, meaning=None):
-        self.meaning, self.value = meaning, NO_SCHEMA
+        self.meaning = meaning
         try:
             self.meaning = meaning or Meaning(schema_file.read(file))
             self.number, self.place = self.meaning.answer(questions)
         except schema_file.Refused as refused:
             self.number, self.place = refused.number, refused.place
         self.accepted = self.number == TAKEN
-        if self.accepted:
-            self.value = SchemaValue.of(self.meaning.schema, self.meaning)
+
+    @cached_property
+    def value(self):
+        return SchemaValue.of(self.meaning.schema, self.meaning) if self.accepted else NO_SCHEMA
 
     def text(self):
         return answer_text(self.number, self.place)
 
 
-judge = lru_cache(1000)(Judged)     # as a stored file, without 24
+judge = lru_cache(4000)(Judged)     # as a stored file, without 24
 
 
-@lru_cache(1000)
+@lru_cache(4000)
 def read(file):
     """The reader's answer, 24 among the questions; where no type is unused that of `judge`."""
     stored = judge(file)

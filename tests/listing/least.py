@@ -1,8 +1,11 @@
 """How often the cases of each name must have each answer at the least, written as documents.py
 counts; `lent` is a lent call that was taken, `nil` a nil opening by value that was taken and `nil
-lent` a lent one, each with the number after it where it was refused."""
+lent` a lent one, each with the number after it where it was refused. Of what would have been taken
+`open`, `open nil`, `close` and `finish` say that such an event is listed, `nothing` that none is,
+and `depth` how many elements are open, where none or 64 are."""
 
-TOTALS = {"S": 14000, "C": 3200, "E": 16800, "J": 34300, "V": 2800, "P": 1024, "Q": 300, "W": 7400}
+TOTALS = {"S": 14000, "C": 3200, "E": 16800, "J": 34300, "V": 2800, "P": 1024, "Q": 300, "W": 7400,
+          "N": 9000, "X": 2900}
 
 LEAST = {
     "S samples": "3 0, 1 2, 1 4, 1 8, 1 9, 1 24, 6 cases",
@@ -224,6 +227,56 @@ LEAST = {
     "W commands": "84 0, 14 2, 82 3, 7 4, 72 6, 7 7, 26 8, 10 21, 304 cases",
     "W random": "1136 0, 59 8, 114 9, 191 20, 1500 cases",
     "W damaged": "37 0, 86 2, 99 3, 110 4, 33 6, 28 7, 12 8, 13 9, 9 20, 21 21, 450 cases",
+    "N known":
+        "1 0, 1 11, 1 12, 7 13, 1 14, 1 15, 1 16, 2 17, 2 18, 2 19, 5 close, 7 depth 0, 1 depth "
+        "64, 1 finish, 2 nothing, 9 open, 4 open nil, 15 cases",
+    "N cut":
+        "34 0, 610 19, 412 close, 136 depth 0, 34 finish, 34 nothing, 367 open, 115 open nil, 644 "
+        "cases",
+    "N every event":
+        "51 11, 152 12, 132 13, 26 15, 60 16, 5 17, 30 18, 237 close, 147 depth 0, 53 finish, 51 "
+        "nothing, 221 open, 92 open nil, 455 cases",
+    "N stray bytes":
+        "2 0, 6 11, 212 12, 25 13, 1 15, 12 16, 20 18, 139 19, 253 close, 84 depth 0, 25 finish, "
+        "16 nothing, 241 open, 82 open nil, 415 cases",
+    "N after the finish": "25 11, 18 19, 42 depth 0, 42 nothing, 42 cases",
+    "N after the root": "11 12, 21 13, 11 15, 42 depth 0, 42 finish, 42 cases",
+    "N depths":
+        "16 0, 54 12, 45 13, 10 14, 6 15, 8 16, 23 17, 264 18, 385 19, 554 close, 82 depth 0, 51 "
+        "depth 64, 25 finish, 23 nothing, 708 open, 248 open nil, 808 cases",
+    "N nil depths":
+        "64 13, 128 19, 191 close, 1 depth 0, 2 depth 64, 1 finish, 32 open, 32 open nil, 192 "
+        "cases",
+    "N widest":
+        "1 11, 11 12, 23 13, 1 14, 13 18, 40 19, 60 close, 29 depth 0, 2 depth 64, 18 finish, 1 "
+        "nothing, 30 open, 24 open nil, 88 cases",
+    "N large": "1 0, 1 13, 1 14, 1 19, 3 close, 1 depth 0, 2 depth 64, 1 nothing, 1 open, 3 cases",
+    "N no schema": "25 10, 20 19, 45 depth 0, 45 nothing, 45 cases",
+    "N limits":
+        "158 10, 16 12, 92 13, 265 19, 75 close, 435 depth 0, 319 nothing, 166 open, 22 open nil, "
+        "529 cases",
+    "N made up":
+        "4 10, 2 12, 124 13, 15 17, 157 19, 74 close, 149 depth 0, 4 finish, 58 nothing, 164 "
+        "open, 52 open nil, 301 cases",
+    "N random":
+        "79 0, 26 11, 45 12, 182 13, 50 15, 40 16, 41 17, 44 18, 135 19, 232 close, 308 depth 0, "
+        "88 finish, 122 nothing, 313 open, 74 open nil, 640 cases",
+    "N random values":
+        "85 0, 5 10, 18 11, 11 12, 44 13, 27 15, 17 16, 3 17, 20 18, 102 19, 121 close, 174 depth "
+        "0, 17 finish, 124 nothing, 125 open, 57 open nil, 330 cases",
+    "X known":
+        "2 0, 1 2, 1 8, 1 9, 1 11, 1 12, 8 13, 1 14, 1 15, 1 16, 2 17, 2 18, 3 19, 1 24, 5 close, "
+        "9 depth 0, 1 depth 64, 2 finish, 3 nothing, 11 open, 4 open nil, 1 too long, 21 cases",
+    "X deep":
+        "13 0, 6 12, 23 13, 23 14, 4 17, 22 18, 35 19, 86 close, 20 depth 0, 41 depth 64, 18 "
+        "nothing, 55 open, 22 open nil, 124 cases",
+    "X sizes":
+        "1 0, 1 2, 1 3, 1 5, 1 18, 1 close, 1 depth 0, 1 nothing, 1 open, 1 too long, 4 cases",
+    "X refused": "13 8, 45 9, 60 24, 118 cases",
+    "X damaged": "33 2, 23 3, 30 4, 13 6, 5 7, 2 8, 1 9, 6 21, 13 24, 125 cases",
+    "X random":
+        "232 0, 38 11, 80 12, 321 13, 75 15, 66 16, 58 17, 60 18, 192 19, 356 close, 619 depth 0, "
+        "149 finish, 310 nothing, 477 open, 105 open nil, 1120 cases",
 }
 
 

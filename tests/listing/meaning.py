@@ -29,8 +29,9 @@ TooMany above a limit, and a schema that does so is never made a case. The listi
 which are compared with the answers beside that, end at a limit too.
 """
 
-from functools import lru_cache
+from functools import cache
 from itertools import islice, product
+from types import MethodType
 from typing import NamedTuple
 
 from .tables import (CLOSE, KINDS, MOST_BEGINNINGS, MOST_ELEMENTS, MOST_FORESTS, MOST_LAYER,
@@ -54,6 +55,19 @@ class Tree(NamedTuple):
     kind: int = OPEN
 
 
+class Remembered:
+    """A method that keeps each of its answers, for each object apart."""
+
+    def __init__(self, method):
+        self.method = method
+
+    def __get__(self, meaning, owner):
+        """The method of one object, from now on in the place of this."""
+        kept = cache(MethodType(self.method, meaning))
+        meaning.__dict__[self.method.__name__] = kept
+        return kept
+
+
 class Meaning:
     """A schema with what can be listed of it."""
 
@@ -65,9 +79,6 @@ class Meaning:
         self.accepting = [frozenset(block.accepting) for block in schema.blocks]
         self.borne_by = self.trees_by_levels()
         self.borne = self.borne_by[OPEN_NIL] | self.borne_by[OPEN]
-        for name in ("ending", "live", "is_word", "completion", "next_types", "types_in_words",
-                     "bearing_roots", "used", "first_competition", "trees", "forests"):
-            setattr(self, name, lru_cache(None)(getattr(self, name)))
 
     def tag(self, a):
         return self.schema.blocks[a].tag
@@ -102,6 +113,7 @@ class Meaning:
             known[a, word] = states
         return known[a, word]
 
+    @Remembered
     def is_word(self, a, word):
         """Is it a word of a's automaton?"""
         return any(p in self.accepting[a] for p in self.ends(a, word))
@@ -145,6 +157,7 @@ class Meaning:
             return self.is_nillable(a) and not word
         return self.is_word(a, word)
 
+    @Remembered
     def trees(self, a, size):
         """All trees of so many elements typed with a at their root."""
         plain = [Tree(a, children) for children in self.forests(a, 0, size - 1)]
@@ -154,6 +167,7 @@ class Meaning:
         """The nil tree of type a, if it bears one."""
         return [self.borne_by[OPEN_NIL][a]] if self.is_nillable(a) else []
 
+    @Remembered
     def forests(self, a, p, size):
         """All children, of so many elements in all, that lead from state p to an accepting
         state."""
@@ -164,22 +178,26 @@ class Meaning:
             for first in range(1, size + 1):
                 rests = self.forests(a, q, size - first)
                 for tree in self.trees(j, first) if rests else ():
-                    found.update(((tree,) + rest, True) for rest in rests)
+                    for rest in rests:
+                        found[(tree,) + rest] = True
                 if len(found) > MOST_FORESTS:
                     raise TooMany
         return list(found)
 
     # Beginnings of words over types that bear a tree.
 
+    @Remembered
     def ending(self, a, p):
         """A word over tree-bearing types from state p to an accepting one, or None."""
         return self.word_over(a, p, self.borne)
 
+    @Remembered
     def live(self, a):
         """The live states of a."""
         states = range(self.schema.blocks[a].states)
         return frozenset(p for p in states if self.ending(a, p) is not None)
 
+    @Remembered
     def completion(self, a, beginning):
         """Types that make the beginning a word of a over tree-bearing types, or None if it
         begins no such word."""
@@ -192,10 +210,12 @@ class Meaning:
         """Does some word of a over tree-bearing types begin so?"""
         return self.completion(a, beginning) is not None
 
+    @Remembered
     def next_types(self, a, beginning):
         """The types that may follow the beginning, the smallest first."""
         return [j for j in sorted(self.types_in_words(a)) if self.begins(a, beginning + (j,))]
 
+    @Remembered
     def types_in_words(self, a):
         """The types that stand in words of a over tree-bearing types, each with a beginning
         after which it does (fact 2)."""
@@ -235,6 +255,7 @@ class Meaning:
 
     # Reached types and competition.
 
+    @Remembered
     def bearing_roots(self, kind=None):
         """The root types that bear a tree, of this kind if one is given, the smallest first."""
         borne = self.borne_by.get(kind, self.borne)
@@ -252,6 +273,7 @@ class Meaning:
                     todo.append(j)
         return found
 
+    @Remembered
     def used(self):
         """The used types, each with a valid typed tree that has an element of it."""
         reached, found = self.reached(), {}
@@ -293,6 +315,7 @@ class Meaning:
                 return j, k, w
         return None
 
+    @Remembered
     def first_competition(self):
         """NO_PARENT, two roots that compete and no beginning; where no roots do, the smallest
         reached type in which two compete, two that do and a shortest beginning after which two
@@ -393,13 +416,15 @@ def types_of(tree):
 
 def typed_stream(meaning, tree):
     """The tree's tag stream without the finish: (event, tag, type) for each event."""
-    out, todo = [], [(tree.kind, tree)]
+    blocks, out, todo = meaning.schema.blocks, [], [(tree.kind, tree)]
     while todo:
         event, tree = todo.pop()
-        out.append((event, meaning.tag(tree.type), tree.type))
+        a, children, _ = tree
+        out.append((event, blocks[a].tag, a))
         if event != CLOSE:
             todo.append((CLOSE, tree))
-            todo += [(child.kind, child) for child in reversed(tree.children)]
+            if children:
+                todo += [(child.kind, child) for child in reversed(children)]
     return out
 
 

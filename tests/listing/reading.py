@@ -53,6 +53,9 @@ class Taken(Asked):
     def depth(self):
         return len(self.open)
 
+    def open_types(self):
+        return [element.type for element in self.open]
+
     def innermost_tag(self):
         return self.meaning.tag(self.open[-1].type) if self.open else None
 
@@ -141,6 +144,10 @@ class Reading:
 
     def depth(self):
         return self.agreed([way.depth() for way in self.ways])
+
+    def open_types(self):
+        """The types of the open elements from the root down."""
+        return self.agreed([way.open_types() for way in self.ways])
 
     def is_finished(self):
         return self.agreed([not way.is_unfinished(0) for way in self.ways])

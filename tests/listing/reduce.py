@@ -18,7 +18,6 @@ from .expression import KNOWN, automaton, enter_known
 from .judged import judge, read
 from .meaning import TooMany, Tree, Wrong
 from .schema_file import Block, Schema, commands_of
-from .schema_file import read as stated
 from .tables import (COMPETITION, DONE, END_EXPRESSION, FINAL, MOST_ELEMENTS, MOST_TREES, NO_ROOM,
                      ROOT, STEP, TAKEN, TYPE, USE)
 
@@ -106,7 +105,7 @@ def check(file, out, number):
     """The request's sentences on the file written."""
     enter_renumbered(file, number)
     old, new = judge(file), read(out)
-    if stated(out) != without_types(old.meaning.schema, number):
+    if not new.meaning or new.meaning.schema != without_types(old.meaning.schema, number):
         raise Wrong(f"another schema is written: {file.hex(' ')}, {out.hex(' ')}")
     if new.number != old.number or new.number not in (TAKEN, COMPETITION):
         raise Wrong(f"{new.text()} for a file written: {out.hex(' ')}")
@@ -150,21 +149,25 @@ def without_types(schema, number):
 def check_documents(old, new, number):
     """The typed trees of the two schemas are the same but for the types' numbers, size by size as
     far as they are listed; none has an unused type."""
-    count = 0
+    count, known = 0, {}
     for size in range(1, MOST_ELEMENTS + 1):
         try:
             before, after = ([tree for root in meaning.schema.roots
                               for tree in meaning.trees(root, size)] for meaning in (old, new))
         except TooMany:
             return
-        if {with_numbers(tree, number) for tree in before} != set(after):
+        if {with_numbers(tree, number, known) for tree in before} != set(after):
             raise Wrong("a file written has other documents or typings")
         count += len(after)
         if count > MOST_TREES:
             return
 
 
-def with_numbers(tree, number):
-    """The typed tree with the new numbers; a dropped type has none."""
-    children = tuple(with_numbers(child, number) for child in tree.children)
-    return Tree(number.get(tree.type, "dropped"), children, tree.kind)
+def with_numbers(tree, number, known=None):
+    """The typed tree with the new numbers; a dropped type has none. Listed trees share those below
+    them: `known` has what was made, by the identity of trees that are kept."""
+    known = {} if known is None else known
+    if id(tree) not in known:
+        children = tuple([with_numbers(child, number, known) for child in tree.children])
+        known[id(tree)] = Tree(number.get(tree.type, "dropped"), children, tree.kind)
+    return known[id(tree)]

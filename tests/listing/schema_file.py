@@ -71,12 +71,13 @@ class Reader:
 
     def read(self):
         """The schema that the file states, or Refused."""
+        questions = [(number, getattr(self, asks)) for number, asks in COMMAND_QUESTIONS]
         while self.at < len(self.data):
             self.command = self.data[self.at]
             count = operand_count(self.command)
             self.operands = tuple(self.data[self.at + 1:self.at + 1 + count])
-            for number, asks in COMMAND_QUESTIONS:
-                if not getattr(self, asks)():
+            for number, is_yes in questions:
+                if not is_yes():
                     raise Refused(number, self.at)
             self.enter()
         if self.last != DONE:
@@ -98,9 +99,10 @@ class Reader:
         return self.last in COMMANDS[self.command].follows
 
     def is_in_range(self):
-        kinds = COMMANDS[self.command].operands
-        return all(operand in RANGES[kind](self.schema)
-                   for kind, operand in zip(kinds, self.operands))
+        for kind, operand in zip(COMMANDS[self.command].operands, self.operands):
+            if operand not in RANGES[kind](self.schema):
+                return False
+        return True
 
     def can_follow(self):
         """May this command of an expression stand here? A bracket is closed that is open, a factor

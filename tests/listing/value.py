@@ -186,6 +186,9 @@ class ReadingValue(Asked):
     def depth(self):
         return self.held["depth"]
 
+    def open_types(self):
+        return self.held["level type"][:self.depth()]
+
     def innermost_tag(self):
         """The tag of the innermost element's type as held, or None."""
         inside = 0 < self.depth() <= MOST_LEVELS and self.innermost()[0] < MOST_TYPES
@@ -198,8 +201,10 @@ class ReadingValue(Asked):
         if meaning is None or held["depth"] > MOST_LEVELS:
             return False
         blocks = meaning.schema.blocks
-        levels = zip(held["level type"][:held["depth"]], held["level set"])
-        return all(a < len(blocks) and states < 1 << blocks[a].states for a, states in levels)
+        for a, states in zip(held["level type"][:held["depth"]], held["level set"]):
+            if not (a < len(blocks) and states < 1 << blocks[a].states):
+                return False
+        return True
 
     def is_unfinished(self, tag):
         return not self.held["finished"]

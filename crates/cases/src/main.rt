@@ -6,6 +6,8 @@ mod buffer;
 mod call_lists;
 mod changes;
 mod event_files;
+mod expected_files;
+mod expected_jobs;
 mod items;
 mod jobs;
 mod lent;
@@ -43,6 +45,8 @@ fn answer(kind: u8, first: &[u8], second: &[u8], out: &mut [u8]) -> bool {
         b'C' => call_lists::run(first, second),
         b'E' => event_files::run(first, second, out),
         b'J' => jobs::run(first, second),
+        b'N' => expected_files::run(first, second, out.len()),
+        b'X' => expected_jobs::run(first, second),
         b'P' => states::run_pair(first),
         b'Q' => states::run_set(first),
         _ => return false,

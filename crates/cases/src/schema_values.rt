@@ -31,7 +31,7 @@ use schema::trim;
 use schema::within;
 
 // The schema that a file states, with the entries put.
-fn value_of(file: &[u8], puts: &[u8]) -> Schema {
+pub(crate) fn value_of(file: &[u8], puts: &[u8]) -> Schema {
     let found = read_schema(file);
     let schema = found.schema;
     let held = make_up_all(
