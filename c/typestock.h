@@ -47,6 +47,9 @@ extern "C" {
 /* The most levels that may be open in a document. */
 #define TYPESTOCK_LEVELS 64
 
+/* The most openings that can be listed at one place: each of 32 tags plainly and as nil. */
+#define TYPESTOCK_OPENINGS 64
+
 /* The commands of a schema file, by their first bytes, each with the operands that follow it, a byte each. */
 #define TYPESTOCK_TAGS 0x10  /* count: the number of tags */
 #define TYPESTOCK_TYPE 0x11  /* tag, states: begins the next type's block; with 0 for the states an expression follows */
@@ -146,6 +149,22 @@ struct typestock_document {
     /* where the schema is refused no event is read: number and place are the schema's once more, and count is 0 */
 };
 
+/* What would have been taken where an event file is refused. Entries of `types` past `depth`, and of `tags` and `nils` past `count`, are 0. */
+struct typestock_expected {
+    uint8_t schema_number; /* the schema file's, as in struct typestock_schema */
+    size_t schema_place;
+    uint8_t number; /* the event file's: TYPESTOCK_TAKEN alone where it is taken whole, or TYPESTOCK_FINISHED to TYPESTOCK_NO_EVENT */
+    size_t place;   /* the refused event's; the file's length where it is taken */
+    size_t depth;   /* the elements that are open there */
+    uint8_t types[TYPESTOCK_LEVELS];  /* their types, `depth` of them, from the root down */
+    size_t count;                     /* the openings that would have been taken there */
+    uint8_t tags[TYPESTOCK_OPENINGS]; /* their tags, `count` of them, rising; of one tag the plain opening comes before the nil one */
+    bool nils[TYPESTOCK_OPENINGS];    /* whether each is TYPESTOCK_OPEN_NIL, else it is TYPESTOCK_OPEN */
+    bool closes;                      /* whether a TYPESTOCK_CLOSE of the innermost element's tag would have been taken there */
+    bool finishes;                    /* whether a TYPESTOCK_FINISH would have been */
+    /* where the schema is refused no event is read: number and place are the schema's once more, and the rest is 0 */
+};
+
 /* The answer of a call that writes a file. */
 struct typestock_written {
     uint8_t number; /* TYPESTOCK_WRITTEN, or why nothing is written */
@@ -187,6 +206,23 @@ struct typestock_document typestock_type_document(
     const uint8_t *events, size_t events_length,
     uint8_t *witness, size_t witness_length,
     uint8_t *types, size_t types_length);
+
+/*
+ * Answers the schema file and, where that is accepted, tells what would have been taken where the event file is refused: the types of the elements
+ * that are open there, each tag with each kind of opening, and whether a closing and a finish. Exactly those are told with which the events taken
+ * begin a valid document, of any depth, and open no 65th level; the finish where it makes them a whole one. After a finish nothing is open and
+ * nothing would be taken, and so where the file is taken whole.
+ *
+ * The file is walked with no buffer for types: TYPESTOCK_NO_ROOM is never answered, and number and place are those of typestock_type_document with a
+ * buffer that is long enough.
+ *
+ * schema, witness   as above.
+ * events            the event file's bytes.
+ */
+struct typestock_expected typestock_expect_document(
+    const uint8_t *schema, size_t schema_length,
+    const uint8_t *events, size_t events_length,
+    uint8_t *witness, size_t witness_length);
 
 /*
  * Writes a schema file without the types that no valid document uses: for files that were stored before such types were refused. The types that

@@ -4,7 +4,7 @@ use plain::kinds::KindsOf;
 use plain::limits::{MOST_STEPS, MOST_TYPES, Tag, Type, WITNESS};
 use plain::questions::{NONE, Number};
 use plain::rows::{Entry, ROWS};
-use plain::{Answer, Answered, EventAnswer, Reading, Rows, Schema, SchemaAnswer, States};
+use plain::{Answer, Answered, EventAnswer, Expected, Reading, Rows, Schema, SchemaAnswer, States};
 use std::mem::{offset_of, size_of};
 
 /// Whether a schema is inside the limits, and its trimming's tables; if it is not, they are empty.
@@ -40,6 +40,9 @@ const _: () = {
     assert!(size_of::<Answer>() == 2 && size_of::<Answered>() == 328);
     assert!(offset_of!(Answered, reading) == 4);
     assert!(size_of::<SchemaAnswer>() == 16 && size_of::<EventAnswer>() == 24);
+    assert!(size_of::<Expected>() == 232 && offset_of!(Expected, types) == 24);
+    assert!(offset_of!(Expected, count) == 88 && offset_of!(Expected, tags) == 96);
+    assert!(offset_of!(Expected, nils) == 160 && offset_of!(Expected, closes) == 224);
     assert!(size_of::<Written>() == 16 && offset_of!(Written, length) == 8);
 };
 
@@ -67,6 +70,7 @@ unsafe extern "C" {
         types: *mut Type,
         room: usize,
     ) -> EventAnswer;
+    fn bench_expected(schema: Schema, events: *const u8, length: usize) -> Expected;
     fn typestock_check_schema(
         file: *const u8,
         length: usize,
@@ -98,6 +102,11 @@ pub fn events(schema: &Schema, file: &[u8], out: &mut [Type]) -> EventAnswer {
     let (room, out) = (out.len(), out.as_mut_ptr());
     // SAFETY: each pointer and length are one slice's, which lives through the call; the buffer is lent to it alone.
     unsafe { bench_events(*schema, file.as_ptr(), file.len(), out, room) }
+}
+
+pub fn expected(schema: &Schema, file: &[u8]) -> Expected {
+    // SAFETY: as above.
+    unsafe { bench_expected(*schema, file.as_ptr(), file.len()) }
 }
 
 pub fn check_schema(file: &[u8], witness: &mut [u8]) -> SchemaAnswer {

@@ -2,6 +2,7 @@
 //! the repository's top. Exit 1 if answers differ.
 mod documents;
 mod engine;
+mod expected;
 mod expressions;
 mod longest;
 mod made_up;
@@ -22,11 +23,12 @@ use std::process::ExitCode;
 /// A part's name, and what runs it: whether all answers agree.
 type Part = (&'static str, fn() -> bool);
 
-const PARTS: [Part; 5] = [
+const PARTS: [Part; 6] = [
     ("schema", schema::run),
     ("schema_file", schema_file::run),
     ("writer", writer::run),
     ("reading", reading::run),
+    ("expected", expected::run),
     ("relaxng", relaxng::run),
 ];
 

@@ -49,7 +49,7 @@ pub fn run(path: &Path) -> bool {
     let mut same = true;
     let points: Vec<Point> = steps_grow()
         .map(|case| {
-            let (times, agreed) = time_file(&case, &READERS);
+            let (times, agreed) = time_file(&case.schema, &case.file, &READERS);
             row(
                 &case.name,
                 &case.file.len().to_string(),

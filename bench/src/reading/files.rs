@@ -8,8 +8,8 @@ use crate::schemas::{
 };
 use plain::codes::{CLOSE, FINISH, OPEN, OPEN_NIL};
 use plain::limits::MOST_OPEN;
-use plain::questions::TOO_DEEP;
-use plain::{Answer, Reading, Schema};
+use plain::questions::{NONE, TOO_DEEP};
+use plain::{Answer, Reading, Schema, event_file};
 
 /// A schema, and a file whose events are all taken.
 pub struct FileCase {
@@ -23,10 +23,13 @@ pub struct FileCase {
 const LONGEST: usize = 32 * 1024;
 
 fn case(name: impl Into<String>, schema: Schema, bytes: usize, depths: [u8; 2]) -> FileCase {
+    let (name, file) = (name.into(), document(&schema, bytes, depths, 0));
+    let answer = event_file::read(&schema, &file, &mut vec![0; bytes]);
+    assert_eq!(answer.number, NONE, "{name}");
     FileCase {
-        name: name.into(),
+        name,
         schema,
-        file: document(&schema, bytes, depths, 0),
+        file,
         longest: bytes == LONGEST,
     }
 }
@@ -115,7 +118,7 @@ const SCHEMAS: u32 = 4_000;
 const FILES: u32 = 12;
 
 /// A file of mostly taken events, some of them deep; some have a byte spoiled or are cut.
-fn random_file(random: &mut Random, schema: &Schema) -> Vec<u8> {
+pub fn random_file(random: &mut Random, schema: &Schema) -> Vec<u8> {
     let mut reading = Reading::FRESH;
     let mut file = Vec::new();
     let care = random.below(4) != 0;

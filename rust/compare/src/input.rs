@@ -1,4 +1,4 @@
-//! One input: the two files and the lengths of the three lent buffers.
+//! One input: the two files, the lengths of the three lent buffers and how far the events are walked.
 
 use std::fmt;
 
@@ -18,6 +18,8 @@ pub struct Input {
     pub types: usize,
     /// The length of the writer's output.
     pub out: usize,
+    /// Of the events the beginning that is walked to tell what would have been taken.
+    pub walked: usize,
 }
 
 impl Input {
@@ -41,12 +43,17 @@ impl Input {
             _ => most + chance.below(40),
         };
         let out = room(chance, &schema);
+        let walked = match chance.below(2) {
+            0 => chance.within(0..=events.len()),
+            _ => events.len(),
+        };
         Input {
             schema,
             events,
             witness,
             types,
             out,
+            walked,
         }
     }
 }
@@ -97,6 +104,7 @@ impl fmt::Display for Input {
         writeln!(out, "events:{}", Hex(&self.events))?;
         writeln!(out, "witness buffer: {} bytes", self.witness)?;
         writeln!(out, "types buffer: {} bytes", self.types)?;
-        writeln!(out, "writer's output: {} bytes", self.out)
+        writeln!(out, "writer's output: {} bytes", self.out)?;
+        writeln!(out, "walked: {} bytes of the events", self.walked)
     }
 }

@@ -2,12 +2,13 @@
 
 use crate::calls;
 use crate::chance::Chance;
+use crate::expected;
 use crate::input::Input;
 use crate::lent::Part;
 use crate::written;
 use plain::limits::NO_PARENT;
 use plain::questions::{COMPETITION, NONE};
-use plain::{Job, Witness};
+use plain::{Expected, Job, Witness};
 
 /// What one implementation answers to an input.
 #[derive(Debug, Clone, Copy, PartialEq, Eq)]
@@ -15,6 +16,8 @@ pub struct Answers {
     /// Number and place of the schema file alone.
     pub schema: (u8, usize),
     pub job: Job,
+    /// What would have been taken where the events walked were refused, if the schema is accepted.
+    pub expected: Option<Expected>,
     /// On 9, what the schema fixes of the witness.
     pub witness: Option<Fixed>,
     /// The length of the file that is written without unused types, or why none is.
@@ -34,11 +37,16 @@ pub trait Implementation {
     const NAME: &str;
     fn check_schema(schema: &[u8], witness: &mut [u8]) -> (u8, usize);
     fn type_document(schema: &[u8], events: &[u8], witness: &mut [u8], types: &mut [u8]) -> Job;
+    fn expect_document(
+        schema: &[u8],
+        events: &[u8],
+        witness: &mut [u8],
+    ) -> Result<Expected, (u8, usize)>;
     fn write_reduced(schema: &[u8], out: &mut [u8]) -> Result<usize, u8>;
 }
 
 macro_rules! implementation {
-    ($name:ident, $library:ident, $number:expr) => {
+    ($name:ident, $library:ident, $expected:expr, $number:expr) => {
         pub struct $name;
 
         impl Implementation for $name {
@@ -71,6 +79,16 @@ macro_rules! implementation {
                 }
             }
 
+            fn expect_document(
+                schema: &[u8],
+                events: &[u8],
+                witness: &mut [u8],
+            ) -> Result<Expected, (u8, usize)> {
+                $library::expect_document(schema, events, witness)
+                    .map(|told| $expected(told, events.len()))
+                    .map_err(|refused| (refused.number, refused.place))
+            }
+
             fn write_reduced(schema: &[u8], out: &mut [u8]) -> Result<usize, u8> {
                 $library::write_reduced(schema, out).map_err($number)
             }
@@ -78,16 +96,20 @@ macro_rules! implementation {
     };
 }
 
-implementation!(Engine, typestock, |refused: typestock::NotWritten| refused
-    .number);
-implementation!(Plain, plain, |number| number);
+implementation!(
+    Engine,
+    typestock,
+    expected::of_engine,
+    |refused: typestock::NotWritten| refused.number
+);
+implementation!(Plain, plain, |told, _| told, |number| number);
 
 /// Runs both on the input. The answers if nothing differs, else what differs.
 pub fn compare(input: &Input, chance: &mut Chance) -> Result<Answers, String> {
     let lent = Lent::random(input, chance);
     let written = written::compare(input, chance)?;
-    let (engine, engine_types) = run::<Engine>(&lent, written)?;
-    let (plain, plain_types) = run::<Plain>(&lent, written)?;
+    let (engine, engine_types) = run::<Engine>(&lent, input.walked, written)?;
+    let (plain, plain_types) = run::<Plain>(&lent, input.walked, written)?;
     if engine != plain {
         return Err(format!("answers differ: {engine:?} and {plain:?}"));
     }
@@ -102,6 +124,10 @@ pub fn compare(input: &Input, chance: &mut Chance) -> Result<Answers, String> {
         return Err("openings differ".into());
     }
     calls::compare(input, &plain.job, &plain_types)?;
+    if let Some(answer) = &plain.expected {
+        expected::check_place(input, answer, &plain.job)?;
+        expected::check_event(input, answer, chance)?;
+    }
     Ok(plain)
 }
 
@@ -129,36 +155,15 @@ impl Lent {
 /// wrote is as promised.
 fn run<I: Implementation>(
     before: &Lent,
+    walked: usize,
     written: Result<usize, u8>,
 ) -> Result<(Answers, Vec<u8>), String> {
     let mut after = before.clone();
     let schema = I::check_schema(after.schema.inner(), after.witness.inner_mut());
-    let witness_alone = check_written::<I>(schema.0, 0, before, &after)?;
-
-    let Lent {
-        schema: schema_file,
-        events,
-        mut witness,
-        mut types,
-    } = before.clone();
-    let job = I::type_document(
-        schema_file.inner(),
-        events.inner(),
-        witness.inner_mut(),
-        types.inner_mut(),
-    );
-    let after = Lent {
-        schema: schema_file,
-        events,
-        witness,
-        types,
-    };
-    let (number, count) = match job {
-        Job::SchemaRefused { number, .. } => (number, 0),
-        Job::EventsRead { count, .. } => (NONE, count),
-    };
-    let witness = check_written::<I>(number, count, before, &after)?;
-    if witness != witness_alone {
+    let witness = check_written::<I>(schema.0, 0, before, &after)?;
+    let (job, types, beside_job) = run_job::<I>(before)?;
+    let (expected, beside_expected) = run_expected::<I>(before, walked, schema)?;
+    if [beside_job, beside_expected] != [witness; 2] {
         return Err(format!(
             "{}: the witnesses of two calls have other types or lengths",
             I::NAME
@@ -167,10 +172,49 @@ fn run<I: Implementation>(
     let answers = Answers {
         schema,
         job,
+        expected,
         witness,
         written,
     };
-    Ok((answers, after.types.inner()[..count].to_vec()))
+    Ok((answers, types))
+}
+
+/// The answer to both files, the types that were given, and what the schema fixes of the witness.
+fn run_job<I: Implementation>(before: &Lent) -> Result<(Job, Vec<u8>, Option<Fixed>), String> {
+    let mut after = before.clone();
+    let job = I::type_document(
+        after.schema.inner(),
+        after.events.inner(),
+        after.witness.inner_mut(),
+        after.types.inner_mut(),
+    );
+    let (number, count) = match job {
+        Job::SchemaRefused { number, .. } => (number, 0),
+        Job::EventsRead { count, .. } => (NONE, count),
+    };
+    let witness = check_written::<I>(number, count, before, &after)?;
+    Ok((job, after.types.inner()[..count].to_vec(), witness))
+}
+
+/// What would have been taken where so many bytes of the events are walked, if the schema, which was
+/// answered so, is accepted; and what it fixes of the witness.
+fn run_expected<I: Implementation>(
+    before: &Lent,
+    walked: usize,
+    schema: (u8, usize),
+) -> Result<(Option<Expected>, Option<Fixed>), String> {
+    let mut after = before.clone();
+    let expected = I::expect_document(
+        after.schema.inner(),
+        &after.events.inner()[..walked],
+        after.witness.inner_mut(),
+    );
+    let answer = expected.err().unwrap_or((NONE, 0));
+    if answer != schema {
+        return Err(format!("{}: a schema is answered {answer:?}", I::NAME));
+    }
+    let witness = check_written::<I>(answer.0, 0, before, &after)?;
+    Ok((expected.ok(), witness))
 }
 
 /// Is nothing written but, on 9, a witness and, for the openings taken, their types? What the schema

@@ -4,6 +4,7 @@ use std::fmt;
 
 use crate::input::Input;
 use crate::side_by_side::Answers;
+use crate::tally_expected::Listed;
 use crate::tally_written::Written;
 use plain::event_file::{Event, event};
 use plain::limits::NO_PARENT;
@@ -35,6 +36,8 @@ pub struct Tally {
     competing_nil: u64,
     /// Openings as nil that were taken.
     nil_openings: u64,
+    /// What would have been taken.
+    pub expected: Listed,
     /// The writer's answers.
     pub written: Written,
 }
@@ -95,6 +98,9 @@ impl Tally {
             self.nil_openings += nil_openings(&input.events, count);
             self.count_accepted(stated(&input.schema));
         }
+        if let Some(expected) = &answers.expected {
+            self.expected.count(expected, &answers.job);
+        }
         if let Some(witness) = answers.witness {
             self.longest_word = self.longest_word.max(witness.length);
             self.competing_roots += u64::from(witness.within == NO_PARENT);
@@ -117,6 +123,7 @@ impl Tally {
         for (sum, more) in pairs.zip(other.schemas.iter().chain(&other.events)) {
             *sum += more;
         }
+        self.expected.add(&other.expected);
         self.written.add(&other.written);
         for (sum, more) in [
             (&mut self.inputs, other.inputs),
@@ -141,13 +148,18 @@ impl Tally {
         }
     }
 
-    /// The answers of schema files, event files and the writer, with how often each came up.
+    /// The answers of schema files, event files, what would have been taken and the writer, with how often
+    /// each came up.
     pub fn numbers(&self) -> impl Iterator<Item = (&'static str, usize, u64)> {
         let schemas = (0..=usize::from(COMPETITION)).chain(usize::from(CANNOT_FOLLOW)..SCHEMAS);
         let schemas = schemas.map(|number| ("schema", number, self.schemas[number]));
         let events = std::iter::once(usize::from(NONE)).chain(usize::from(FINISHED)..EVENTS);
         let events = events.map(|number| ("events", number, self.events[number]));
-        schemas.chain(events).chain(self.written.numbers())
+        let expected = self.expected.numbers();
+        schemas
+            .chain(events)
+            .chain(expected)
+            .chain(self.written.numbers())
     }
 
     /// The longest word of a witness.
@@ -219,6 +231,6 @@ impl fmt::Display for Tally {
         )?;
         writeln!(out, "schemas that compete as nil: {}", self.competing_nil)?;
         writeln!(out, "openings as nil taken: {}", self.nil_openings)?;
-        write!(out, "{}", self.written)
+        write!(out, "{}{}", self.expected, self.written)
     }
 }

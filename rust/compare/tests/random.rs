@@ -30,6 +30,15 @@ fn nothing_differs_and_each_number_comes_up() {
     assert!(tally.kinds_apart() > INPUTS / 100, "{tally}");
     assert!(tally.competing_nil() > INPUTS / 100, "{tally}");
     assert!(tally.nil_openings() > INPUTS / 10, "{tally}");
+    assert!(tally.expected.past_room > INPUTS / 100, "{tally}");
+    assert!(tally.expected.full > INPUTS / 400, "{tally}");
+    assert!(tally.expected.depths.len() > 40, "{tally}");
+    assert!(tally.expected.plain > INPUTS / 10, "{tally}");
+    assert!(tally.expected.nil > INPUTS / 50, "{tally}");
+    assert!(tally.expected.most > 20, "{tally}");
+    assert!(tally.expected.closes > INPUTS / 20, "{tally}");
+    assert!(tally.expected.finishes > INPUTS / 100, "{tally}");
+    assert!(tally.expected.nothing > INPUTS / 20, "{tally}");
     assert!(tally.written.reduced > INPUTS / 20, "{tally}");
     assert!(tally.written.lost_roots > INPUTS / 100, "{tally}");
     assert!(tally.written.by_states > INPUTS / 200, "{tally}");

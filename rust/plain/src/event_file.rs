@@ -3,7 +3,7 @@
 use crate::codes::{CLOSE, FINISH, OPEN, OPEN_NIL};
 use crate::kinds::Kind;
 use crate::limits::{Tag, Type};
-use crate::questions::{NO_EVENT, NO_ROOM, Number, OUTSIDE_LIMITS};
+use crate::questions::{NO_EVENT, NO_ROOM, NONE, Number, OUTSIDE_LIMITS};
 use crate::reading::{Ahead, NO_ROOTS, Reading, RootOf, roots_by_tag};
 use crate::rows::Rows;
 use crate::schema::Schema;
@@ -60,19 +60,38 @@ pub(crate) fn outside_limits(file: &[u8]) -> EventAnswer {
 /// The walk over a file's events, under a schema inside the limits.
 #[inline]
 pub(crate) fn walk(ahead: &impl Ahead, file: &[u8], types: &mut [Type]) -> EventAnswer {
-    let mut answer = EventAnswer::default();
+    let mut count = 0;
+    let keep = |of| {
+        *types.get_mut(count).ok_or(NO_ROOM)? = of;
+        count += 1;
+        Ok(())
+    };
     let mut reading = Reading::FRESH;
-    while answer.place < file.len() || !reading.finished {
-        let rest = &file[answer.place..];
-        match take(ahead, &mut reading, rest, types, &mut answer.count) {
-            Ok(length) => answer.place += length,
-            Err(number) => {
-                answer.number = number;
-                break;
-            }
+    let (number, place) = pass(ahead, &mut reading, file, keep);
+    EventAnswer {
+        number,
+        place,
+        count,
+    }
+}
+
+/// Gives a file's events to a reading until the first refusal, and the type of each opening to `keep`,
+/// which is the last that may refuse it. Answers 0 and the file's length, or the refusal's number and place.
+#[inline]
+pub(crate) fn pass(
+    ahead: &impl Ahead,
+    reading: &mut Reading,
+    file: &[u8],
+    mut keep: impl FnMut(Type) -> Result<(), Number>,
+) -> (Number, usize) {
+    let mut place = 0;
+    while place < file.len() || !reading.finished {
+        match take(ahead, reading, &file[place..], &mut keep) {
+            Ok(length) => place += length,
+            Err(number) => return (number, place),
         }
     }
-    answer
+    (NONE, place)
 }
 
 /// Takes the event that these bytes begin with and answers its length, or the number of its refusal.
@@ -81,8 +100,7 @@ fn take(
     ahead: &impl Ahead,
     reading: &mut Reading,
     bytes: &[u8],
-    types: &mut [Type],
-    count: &mut usize,
+    keep: &mut impl FnMut(Type) -> Result<(), Number>,
 ) -> Result<usize, Number> {
     let (event, length) = event(bytes).ok_or(NO_EVENT)?;
     let (kind, tag) = match event {
@@ -92,21 +110,20 @@ fn take(
         Event::Finish => return reading.take_finish().map(|()| length),
     };
     let (of, after) = reading.ask_opening(ahead, kind, tag)?;
-    *types.get_mut(*count).ok_or(NO_ROOM)? = of;
-    *count += 1;
+    keep(of)?;
     reading.enter(kind, of, after);
     Ok(length)
 }
 
 /// A schema with its roots by kind and tag and its rows, made once for a file.
-struct RootsAndRows<'s> {
+pub(crate) struct RootsAndRows<'s> {
     schema: &'s Schema,
     root_of: RootOf,
     rows: Rows,
 }
 
 impl<'s> RootsAndRows<'s> {
-    fn of(schema: &'s Schema) -> Self {
+    pub(crate) fn of(schema: &'s Schema) -> Self {
         let mut both = RootsAndRows {
             schema,
             root_of: NO_ROOTS,

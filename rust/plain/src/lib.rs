@@ -3,7 +3,7 @@
 //! A schema file states tags, types and a content automaton for each type, or an expression that
 //! becomes one, which types may be empty on purpose, and the root types. If each type is used and no two
 //! compete, each element of a document gets its type at its opening tag. A file with types that no
-//! document uses is written anew without them.
+//! document uses is written anew without them. Of a refused event file is told what would have been taken.
 //! This crate is written from the documents that describe the files and answers, and shares no code
 //! with the engine: it is what the engine is compared with, and what its time is measured against.
 #![forbid(unsafe_code)]
@@ -12,6 +12,7 @@ pub mod codes;
 pub mod competition;
 pub mod event_file;
 pub mod event_file_by_steps;
+mod expected;
 mod expression;
 pub mod kinds;
 pub mod limits;
@@ -30,8 +31,9 @@ mod witness;
 mod tests;
 
 pub use event_file::{EventAnswer, Opening, openings};
+pub use expected::{Expected, expected};
 pub use kinds::Kind;
-pub use program::print;
+pub use program::{print, print_expected};
 pub use reading::{Answer, Answered, Reading};
 pub use reduced_file::write_reduced;
 pub use rows::Rows;
@@ -90,6 +92,18 @@ pub fn type_document(schema: &[u8], events: &[u8], witness: &mut [u8], types: &m
         place: answer.place,
         count: answer.count,
     }
+}
+
+/// Answers a schema file's refusal or, if it is accepted, where the walk over an event file stops and
+/// what would have been taken there.
+pub fn expect_document(
+    schema: &[u8],
+    events: &[u8],
+    witness: &mut [u8],
+) -> Result<Expected, Refusal> {
+    let mut stated = Schema::BLANK;
+    accept(schema, witness, &mut stated)?;
+    Ok(expected(&stated, events))
 }
 
 /// Is this a witness of the schema that the file states? Its types compete as roots; or no roots do, its

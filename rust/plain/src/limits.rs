@@ -22,6 +22,9 @@ pub const MOST_BRACKETS: usize = 16;
 /// The most elements that are open at once.
 pub const MOST_OPEN: usize = 64;
 
+/// The most openings that can be taken at one point: of each tag, plainly and as nil.
+pub const MOST_OPENINGS: usize = 2 * MOST_TAGS;
+
 /// The number of unordered pairs of states.
 pub const PAIRS: usize = MOST_STATES * (MOST_STATES + 1) / 2;
 

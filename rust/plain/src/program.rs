@@ -1,29 +1,41 @@
-//! What the program `typestock` prints.
+//! What the programs `typestock` and `whatnext` print.
 
 use std::fmt::{self, Write};
 
 use crate::limits::{PROGRAM_EVENTS, PROGRAM_SCHEMA, PROGRAM_TYPES, WITNESS};
 use crate::questions::{COMPETITION, NONE, Number};
-use crate::{Job, Witness, openings, type_document};
+use crate::schema_file::Refusal;
+use crate::{Expected, Job, Kind, Witness, expect_document, openings, type_document};
 
-/// The text that the program prints for the bytes of `schema.tab` and of its standard input.
+/// The text that `typestock` prints for the bytes of `schema.tab` and of its standard input.
 pub fn print(schema: &[u8], events: &[u8]) -> Vec<u8> {
+    text_of(schema, events, write_typing)
+}
+
+/// The text that `whatnext` prints for the same.
+pub fn print_expected(schema: &[u8], events: &[u8]) -> Vec<u8> {
+    text_of(schema, events, write_expected)
+}
+
+/// Writes a program's lines for a schema file and an event file within its limits.
+type WriteLines = fn(&mut String, &[u8], &[u8]) -> fmt::Result;
+
+fn text_of(schema: &[u8], events: &[u8], write: WriteLines) -> Vec<u8> {
+    if events.len() > PROGRAM_EVENTS {
+        return b"too long\n".to_vec();
+    }
+    let schema = &schema[..schema.len().min(PROGRAM_SCHEMA)];
     let mut text = String::new();
-    write_text(&mut text, schema, events).expect("a string takes all that is written");
+    write(&mut text, schema, events).expect("a string takes all that is written");
     text.into_bytes()
 }
 
-fn write_text(text: &mut String, schema: &[u8], events: &[u8]) -> fmt::Result {
-    if events.len() > PROGRAM_EVENTS {
-        return writeln!(text, "too long");
-    }
-    let schema = &schema[..schema.len().min(PROGRAM_SCHEMA)];
+fn write_typing(text: &mut String, schema: &[u8], events: &[u8]) -> fmt::Result {
     let mut witness = [0; WITNESS];
     let mut types = vec![0; PROGRAM_TYPES];
     match type_document(schema, events, &mut witness, &mut types) {
         Job::SchemaRefused { number, place } => {
-            writeln!(text, "schema refused {number} at {place}")?;
-            write_witness(text, number, &witness)
+            write_schema_refused(text, Refusal { number, place }, &witness)
         }
         Job::EventsRead {
             number,
@@ -36,15 +48,58 @@ fn write_text(text: &mut String, schema: &[u8], events: &[u8]) -> fmt::Result {
             }
             match number {
                 NONE => writeln!(text, "accepted {count}"),
-                _ => writeln!(text, "refused {number} at {place}"),
+                _ => write_refused(text, number, place),
             }
         }
     }
 }
 
-/// The line of a witness, if the schema was refused for competition.
-fn write_witness(text: &mut String, number: Number, bytes: &[u8]) -> fmt::Result {
-    match Witness::from_bytes(bytes) {
+fn write_expected(text: &mut String, schema: &[u8], events: &[u8]) -> fmt::Result {
+    let mut witness = [0; WITNESS];
+    match expect_document(schema, events, &mut witness) {
+        Err(refusal) => write_schema_refused(text, refusal, &witness),
+        Ok(Expected { number: NONE, .. }) => writeln!(text, "accepted"),
+        Ok(expected) => {
+            write_refused(text, expected.number, expected.place)?;
+            write_taken(text, &expected)
+        }
+    }
+}
+
+/// What is open, and what would have been taken.
+fn write_taken(text: &mut String, expected: &Expected) -> fmt::Result {
+    write!(text, "inside")?;
+    for of in expected.open_types() {
+        write!(text, " {of}")?;
+    }
+    writeln!(text)?;
+    for (kind, tag) in expected.openings() {
+        match kind {
+            Kind::Plain => writeln!(text, "open {tag}")?,
+            Kind::Nil => writeln!(text, "open nil {tag}")?,
+        }
+    }
+    if expected.closes {
+        writeln!(text, "close")?;
+    }
+    if expected.finishes {
+        writeln!(text, "finish")?;
+    }
+    Ok(())
+}
+
+fn write_refused(text: &mut String, number: Number, place: usize) -> fmt::Result {
+    writeln!(text, "refused {number} at {place}")
+}
+
+/// The line of a refused schema and, if it was refused for competition, that of the witness.
+fn write_schema_refused(
+    text: &mut String,
+    Refusal { number, place }: Refusal,
+    witness: &[u8],
+) -> fmt::Result {
+    writeln!(text, "schema refused {number} at {place}")?;
+    match Witness::from_bytes(witness) {
         Some(Witness {
             within,
             one,

@@ -1,5 +1,6 @@
 //! The samples of the boot wall, and the points that the questions' order settles.
 
+mod expected;
 mod expressions;
 mod made_up;
 mod nil;

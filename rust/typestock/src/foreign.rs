@@ -1,4 +1,5 @@
 //! The library's functions as c/typestock.h declares them, and the calls of them on slices.
+use crate::{LEVELS, OPENINGS};
 use std::mem::{align_of, offset_of, size_of};
 
 #[repr(C)]
@@ -14,6 +15,22 @@ pub struct Document {
     pub number: u8,
     pub place: usize,
     pub count: usize,
+}
+
+/// `nils`, `closes` and `finishes` are C's bools as the bytes that they are.
+#[repr(C)]
+pub struct Expected {
+    pub schema_number: u8,
+    pub schema_place: usize,
+    pub number: u8,
+    pub place: usize,
+    pub depth: usize,
+    pub types: [u8; LEVELS],
+    pub count: usize,
+    pub tags: [u8; OPENINGS],
+    pub nils: [u8; OPENINGS],
+    pub closes: u8,
+    pub finishes: u8,
 }
 
 #[repr(C)]
@@ -43,6 +60,18 @@ const _: () = {
     assert!(offset_of!(Document, number) == 16);
     assert!(offset_of!(Document, place) == 24);
     assert!(offset_of!(Document, count) == 32);
+    assert!(size_of::<Expected>() == 248 && align_of::<Expected>() == 8);
+    assert!(offset_of!(Expected, schema_number) == 0);
+    assert!(offset_of!(Expected, schema_place) == 8);
+    assert!(offset_of!(Expected, number) == 16);
+    assert!(offset_of!(Expected, place) == 24);
+    assert!(offset_of!(Expected, depth) == 32);
+    assert!(offset_of!(Expected, types) == 40);
+    assert!(offset_of!(Expected, count) == 104);
+    assert!(offset_of!(Expected, tags) == 112);
+    assert!(offset_of!(Expected, nils) == 176);
+    assert!(offset_of!(Expected, closes) == 240);
+    assert!(offset_of!(Expected, finishes) == 241);
     assert!(size_of::<Written>() == 16 && align_of::<Written>() == 8);
     assert!(offset_of!(Written, number) == 0);
     assert!(offset_of!(Written, length) == 8);
@@ -71,6 +100,14 @@ extern "C" {
         types: *mut u8,
         types_length: usize,
     ) -> Document;
+    fn typestock_expect_document(
+        schema: *const u8,
+        schema_length: usize,
+        events: *const u8,
+        events_length: usize,
+        witness: *mut u8,
+        witness_length: usize,
+    ) -> Expected;
     fn typestock_write_reduced(
         schema: *const u8,
         schema_length: usize,
@@ -117,6 +154,20 @@ pub fn type_document(
             witness.len(),
             types.as_mut_ptr(),
             types.len(),
+        )
+    }
+}
+
+pub fn expect_document(schema: &[u8], events: &[u8], witness: &mut [u8]) -> Expected {
+    // SAFETY: as above.
+    unsafe {
+        typestock_expect_document(
+            schema.as_ptr(),
+            schema.len(),
+            events.as_ptr(),
+            events.len(),
+            witness.as_mut_ptr(),
+            witness.len(),
         )
     }
 }

@@ -1,9 +1,12 @@
 //! What is tested of each answer before it is handed on: that it is one of document 01's, or of document 02's 21 to 24, for what was asked.
 use crate::event::{OPEN, OPEN_NIL};
-use crate::{foreign, witness, WITNESS};
+use crate::{foreign, witness, LEVELS, OPENINGS, WITNESS};
 
 /// Types are below this.
 pub const TYPES: u8 = 64;
+
+/// Tags are below this.
+const TAGS: u8 = 32;
 
 /// A schema file's: 0 to 9 or 21 to 24; 1 exactly with a short buffer; the place inside the file, at its end for 2 alone, 0 where no command
 /// is in question; on 9 a witness, of two types in a type or of two roots.
@@ -65,6 +68,81 @@ pub fn events(number: u8, place: usize, count: usize, length: usize, types: &[u8
         types[..count].iter().all(|&a| a < TYPES),
         "typestock: an opening was given a type of {TYPES} or more"
     );
+}
+
+/// What would have been taken where the schema was refused: the schema's number and place once more, and nothing.
+pub fn unexpected(told: &foreign::Expected) {
+    assert!(
+        told.number == told.schema_number && told.place == told.schema_place && is_empty(told),
+        "typestock: something would have been taken, {} at {}, under a refused schema",
+        told.number,
+        told.place
+    );
+}
+
+/// What would have been taken where an event file is refused: the number is 0 or 11 to 19, and its place as of [`events`]; nothing at all for 0 and
+/// 11; what is told fits together.
+pub fn expected(told: &foreign::Expected, length: usize) {
+    let &foreign::Expected { number, place, .. } = told;
+    let fits = match number {
+        0 => place == length,
+        19 => place <= length,
+        11..=18 => place < length,
+        _ => false,
+    };
+    assert!(
+        fits,
+        "typestock: {length} bytes of events were answered {number} at {place}"
+    );
+    assert!(
+        !matches!(number, 0 | 11) || is_empty(told),
+        "typestock: something would have been taken where a document is finished"
+    );
+    assert!(
+        elements_fit(told) && openings_fit(told) && ends_fit(told),
+        "typestock: what would have been taken at {place} does not fit together"
+    );
+}
+
+/// Nothing is open, and nothing would have been taken.
+fn is_empty(told: &foreign::Expected) -> bool {
+    elements_fit(told)
+        && openings_fit(told)
+        && told.depth == 0
+        && told.count == 0
+        && told.closes == 0
+        && told.finishes == 0
+}
+
+/// At most 64 elements are open, each opened before the place, each with a type; entries past them are 0.
+fn elements_fit(told: &foreign::Expected) -> bool {
+    told.depth <= LEVELS && told.depth <= told.place / 2 && {
+        let (open, rest) = told.types.split_at(told.depth);
+        open.iter().all(|&a| a < TYPES) && rest.iter().all(|&b| b == 0)
+    }
+}
+
+/// Openings of tags are listed, rising by tag, plain before nil, and none with 64 elements open; entries past them are 0.
+fn openings_fit(told: &foreign::Expected) -> bool {
+    let room = if told.depth < LEVELS { OPENINGS } else { 0 };
+    told.count <= room && {
+        let (tags, no_tags) = told.tags.split_at(told.count);
+        let (nils, no_nils) = told.nils.split_at(told.count);
+        let listed = || tags.iter().zip(nils);
+        listed().all(|(&tag, &nil)| tag < TAGS && nil < 2)
+            && listed().zip(listed().skip(1)).all(|(a, b)| a < b)
+            && no_tags.iter().chain(no_nils).all(|&b| b == 0)
+    }
+}
+
+/// A closing needs an element that is open; a finish that none is, and nothing else is then taken.
+fn ends_fit(told: &foreign::Expected) -> bool {
+    match (told.closes, told.finishes) {
+        (0, 0) => true,
+        (1, 0) => told.depth > 0,
+        (0, 1) => told.depth == 0 && told.count == 0,
+        _ => false,
+    }
 }
 
 /// A written schema file's: 0 and a length of at least one byte within the buffer; or 2 to 9 or 20 to 23 and no length.
@@ -212,6 +290,131 @@ mod tests {
         breach(move || events(0, 10, 3, 10, &types[..2]));
         breach(move || events(13, 5, 3, 10, &[0; 3]));
         breach(move || events(0, 10, 3, 10, &types));
+    }
+
+    // R's after its mark, at 6 of 8 bytes: the root is open, boots of tag 1 and the root's closing would be taken
+    fn after_the_mark() -> foreign::Expected {
+        let mut told = nothing(0, 0, 13, 6);
+        told.depth = 1;
+        told.count = 1;
+        told.tags[0] = 1;
+        told.closes = 1;
+        told
+    }
+
+    fn nothing(
+        schema_number: u8,
+        schema_place: usize,
+        number: u8,
+        place: usize,
+    ) -> foreign::Expected {
+        foreign::Expected {
+            schema_number,
+            schema_place,
+            number,
+            place,
+            depth: 0,
+            types: [0; LEVELS],
+            count: 0,
+            tags: [0; OPENINGS],
+            nils: [0; OPENINGS],
+            closes: 0,
+            finishes: 0,
+        }
+    }
+
+    #[test]
+    fn nothing_under_a_refused_schema() {
+        unexpected(&nothing(4, 7, 4, 7));
+        breach(|| unexpected(&nothing(4, 7, 0, 7)));
+        breach(|| unexpected(&nothing(4, 7, 4, 0)));
+        let changes: [fn(&mut foreign::Expected); 8] = [
+            |t| t.depth = 1,
+            |t| t.types[0] = 1,
+            |t| t.types[63] = 1,
+            |t| t.count = 1,
+            |t| t.tags[0] = 1,
+            |t| t.nils[63] = 1,
+            |t| t.closes = 1,
+            |t| t.finishes = 1,
+        ];
+        for change in changes {
+            breach(move || {
+                let mut told = nothing(4, 7, 4, 7);
+                change(&mut told);
+                unexpected(&told)
+            });
+            for (number, place) in [(0, 8), (11, 7)] {
+                breach(move || {
+                    let mut told = nothing(0, 0, number, place);
+                    change(&mut told);
+                    expected(&told, 8)
+                });
+            }
+        }
+    }
+
+    #[test]
+    fn places_of_what_would_have_been_taken() {
+        for (number, place) in [(0, 8), (11, 7), (18, 0), (19, 8)] {
+            expected(&nothing(0, 0, number, place), 8);
+        }
+        for (number, place) in [(0, 7), (1, 0), (10, 0), (13, 8), (19, 9), (20, 4), (21, 0)] {
+            breach(move || expected(&nothing(0, 0, number, place), 8));
+        }
+    }
+
+    #[test]
+    fn what_would_have_been_taken_fits() {
+        expected(&after_the_mark(), 8);
+        let fits: [fn(&mut foreign::Expected); 5] = [
+            |t| t.types[0] = 63,
+            |t| t.tags[0] = 31,
+            |t| t.closes = 0,
+            |t| t.nils[0] = 1,
+            |t| (t.count, t.tags[1], t.nils[1]) = (2, 1, 1),
+        ];
+        for change in fits {
+            let mut told = after_the_mark();
+            change(&mut told);
+            expected(&told, 8);
+        }
+        let breaches: [fn(&mut foreign::Expected); 14] = [
+            |t| t.depth = 4,
+            |t| t.depth = 0,
+            |t| t.types[0] = 64,
+            |t| t.types[1] = 1,
+            |t| t.count = 0,
+            |t| t.count = 2,
+            |t| t.tags[0] = 32,
+            |t| t.tags[1] = 2,
+            |t| t.nils[0] = 2,
+            |t| t.nils[1] = 1,
+            |t| (t.count, t.tags[1]) = (2, 1),
+            |t| (t.count, t.nils[0], t.tags[1]) = (2, 1, 1),
+            |t| t.closes = 2,
+            |t| (t.closes, t.finishes) = (0, 1),
+        ];
+        for change in breaches {
+            breach(move || {
+                let mut told = after_the_mark();
+                change(&mut told);
+                expected(&told, 8)
+            });
+        }
+    }
+
+    #[test]
+    fn elements_64_deep() {
+        let deep = |depth, count| {
+            let mut told = nothing(0, 0, 13, 200);
+            (told.depth, told.count, told.closes) = (depth, count, 1);
+            told
+        };
+        expected(&deep(64, 0), 202);
+        expected(&deep(63, 1), 202);
+        breach(move || expected(&deep(64, 1), 202));
+        breach(move || expected(&deep(65, 0), 202));
     }
 
     #[test]

@@ -1,5 +1,5 @@
-//! The typing engine typestock for Rust: a schema file is accepted or refused, an event file is typed under it, and a stored schema file is written
-//! anew without types that no valid document uses.
+//! The typing engine typestock for Rust: a schema file is accepted or refused, an event file is typed under it, what would have been taken is told
+//! where it is refused, and a stored schema file is written anew without types that no valid document uses.
 //!
 //! The functions of the library are proved: for all bytes and lengths they answer as docs/FORMATS.md says, and leave each byte of a lent buffer
 //! as it says. What C's calling convention does not carry over (that the library linked is that one, with these declarations) is tested here
@@ -46,6 +46,20 @@
 //! assert_eq!(job(&[OPEN, 0, CLOSE, 0, FINISH]), typestock::Job::EventsRead { number: 17, place: 2, count: 1 });
 //! ```
 //!
+//! Where an event file is refused, [`expect_document`] tells what would have been taken there:
+//!
+//! ```
+//! let schema = b"\x10\x01\x11\x00\x00\x32\x00\x34\x3f\x14\x00\x1f"; // the same: one type, which has children of its own type
+//! let events = b"\x21\x00\x21\x00\x2f"; // two elements are open, and a finish comes
+//! let told = typestock::expect_document(schema, events, &mut [0; typestock::WITNESS]).unwrap();
+//! assert_eq!(told.refusal().unwrap().to_string(), "refused 18 at 4");
+//! assert_eq!(told.inside().collect::<Vec<_>>(), [0, 0]);
+//! assert_eq!(told.openings().map(|o| (o.tag, o.nil)).collect::<Vec<_>>(), [(0, false)]);
+//! assert!(told.closes() && !told.finishes());
+//! let refused = typestock::expect_document(b"", events, &mut [0; typestock::WITNESS]).unwrap_err();
+//! assert_eq!(refused.to_string(), "schema refused 2 at 0");
+//! ```
+//!
 //! A schema with a type that no valid document uses is refused. [`write_reduced`] and [`reduced`] write a file that was stored with such types
 //! without them:
 //!
@@ -68,6 +82,12 @@ pub use codes::{command, event};
 
 /// The least length of a witness buffer: with fewer bytes every schema is refused with 1.
 pub const WITNESS: usize = 532;
+
+/// The most elements that may be open.
+pub const LEVELS: usize = 64;
+
+/// The most openings that can be listed at one place: each of 32 tags plainly and as nil.
+pub const OPENINGS: usize = 64;
 
 /// The most bytes by which a written schema file can be longer than the one that it is written of: a FINAL for each of 32 states of 64 types, and 1,024
 /// STEPs. That is counted, and not proved.
@@ -126,6 +146,117 @@ pub fn type_document(schema: &[u8], events: &[u8], witness: &mut [u8], types: &m
         number: told.number,
         place: told.place,
         count: told.count,
+    }
+}
+
+/// A schema file's refusal, number and place as in [`Job::SchemaRefused`].
+#[derive(Debug, Clone, Copy, PartialEq, Eq)]
+pub struct SchemaRefused {
+    pub number: u8,
+    pub place: usize,
+}
+
+impl std::fmt::Display for SchemaRefused {
+    fn fmt(&self, f: &mut std::fmt::Formatter<'_>) -> std::fmt::Result {
+        write!(f, "schema refused {} at {}", self.number, self.place)
+    }
+}
+
+impl std::error::Error for SchemaRefused {}
+
+/// An event file's refusal: the number of the first question answered no, 11 to 19, and the place of the refused event.
+#[derive(Debug, Clone, Copy, PartialEq, Eq)]
+pub struct Refusal {
+    pub number: u8,
+    pub place: usize,
+}
+
+impl std::fmt::Display for Refusal {
+    fn fmt(&self, f: &mut std::fmt::Formatter<'_>) -> std::fmt::Result {
+        write!(f, "refused {} at {}", self.number, self.place)
+    }
+}
+
+impl std::error::Error for Refusal {}
+
+/// An opening that would have been taken: its tag, and whether it is as nil.
+#[derive(Debug, Clone, Copy, PartialEq, Eq)]
+pub struct ExpectedOpening {
+    pub tag: u8,
+    pub nil: bool,
+}
+
+/// What would have been taken where an event file is refused, in place of the refused event or at the file's end. Nothing after a finish, and nothing
+/// where the file is taken whole.
+#[derive(Debug, Clone, PartialEq, Eq)]
+pub struct Expected {
+    refusal: Option<Refusal>,
+    types: Vec<u8>,
+    openings: Vec<ExpectedOpening>,
+    closes: bool,
+    finishes: bool,
+}
+
+impl Expected {
+    /// Why the event file is refused; none where it is taken whole.
+    pub fn refusal(&self) -> Option<Refusal> {
+        self.refusal
+    }
+
+    /// The types of the elements that are open, from the root down.
+    pub fn inside(&self) -> impl ExactSizeIterator<Item = u8> + '_ {
+        self.types.iter().copied()
+    }
+
+    /// The openings that would have been taken, rising by tag, plain before nil.
+    pub fn openings(&self) -> impl ExactSizeIterator<Item = ExpectedOpening> + '_ {
+        self.openings.iter().copied()
+    }
+
+    /// Whether a closing, of the innermost element's tag, would have been taken.
+    pub fn closes(&self) -> bool {
+        self.closes
+    }
+
+    /// Whether a finish would have been taken.
+    pub fn finishes(&self) -> bool {
+        self.finishes
+    }
+}
+
+/// Answers the schema file and, where that is accepted, tells what would have been taken where the event file is refused: exactly the openings and
+/// the closing with which the events taken begin a valid document, of any depth, and open no 65th level, and the finish where it makes them a whole
+/// one. The witness buffer is left as by [`check_schema`]. The events are walked with no buffer for types: 20 is never answered, and number and place
+/// are those of [`type_document`] with a buffer that is long enough. The error is the schema's refusal, 1 to 9 or 21 to 24.
+pub fn expect_document(
+    schema: &[u8],
+    events: &[u8],
+    witness: &mut [u8],
+) -> Result<Expected, SchemaRefused> {
+    let told = foreign::expect_document(schema, events, witness);
+    held::schema(told.schema_number, told.schema_place, schema.len(), witness);
+    if told.schema_number != 0 {
+        held::unexpected(&told);
+        return Err(SchemaRefused {
+            number: told.schema_number,
+            place: told.schema_place,
+        });
+    }
+    held::expected(&told, events.len());
+    Ok(expected(&told))
+}
+
+fn expected(told: &foreign::Expected) -> Expected {
+    let &foreign::Expected { number, place, .. } = told;
+    let listed = told.tags[..told.count].iter().zip(&told.nils);
+    Expected {
+        refusal: (number != 0).then_some(Refusal { number, place }),
+        types: told.types[..told.depth].to_vec(),
+        openings: listed
+            .map(|(&tag, &nil)| ExpectedOpening { tag, nil: nil == 1 })
+            .collect(),
+        closes: told.closes == 1,
+        finishes: told.finishes == 1,
     }
 }
 

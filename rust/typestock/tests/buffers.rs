@@ -2,8 +2,8 @@
 // (the wrapper tests that of each).
 mod common;
 use common::{
-    checked, hex, read, refused, typed, written, LISTS, R, R_BY_EXPRESSIONS, R_EVENTS, STOCK, WALL,
-    WALL_EVENTS,
+    checked, expected, hex, read, refused, typed, written, LISTS, R, R_BY_EXPRESSIONS, R_EVENTS,
+    STOCK, WALL, WALL_EVENTS,
 };
 use typestock::{check_schema, openings, witness, Job, SchemaAnswer, Witness, WITNESS};
 
@@ -325,6 +325,8 @@ fn small_threads() {
             assert_eq!((job, types), (read(0, 17, 4), vec![0, 1, 2, 3]));
             let (job, _, types) = typed(&wall, &wall_events, WITNESS, 5);
             assert_eq!((job, types), (read(0, 21, 5), vec![0, 1, 1, 3, 4]));
+            let told = expected(&wall, &wall_events[..2], WITNESS).0.unwrap();
+            assert_eq!((told.inside().len(), told.openings().len()), (1, 2));
         }
     };
     let threads: Vec<_> = (0..8)

@@ -16,6 +16,7 @@ pub fn both(schema: &[u8], events: &[u8], witness: usize, types: usize) -> Answe
         witness,
         types,
         out: schema.len(),
+        walked: events.len(),
     })
 }
 
@@ -27,5 +28,6 @@ pub fn both_written(schema: &[u8], events: &[u8], out: usize) -> Answers {
         witness: WITNESS,
         types: events.len(),
         out,
+        walked: events.len(),
     })
 }

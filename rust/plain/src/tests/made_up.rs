@@ -34,29 +34,31 @@ fn outside(schema: &Schema, reading: Reading) {
     assert_eq!(reading.finish(schema), answered);
 }
 
+/// Changes to the boots' schema by which it is outside the limits.
+pub(super) const OUTSIDE: [fn(&mut Schema); 18] = [
+    |schema| schema.tags = 0,
+    |schema| schema.tags = 33,
+    |schema| schema.types = 0,
+    |schema| schema.types = 65,
+    |schema| schema.roots = 0,
+    |schema| schema.roots = MOST_ROOTS as u8 + 1,
+    |schema| schema.roots = u8::MAX,
+    |schema| schema.root[0] = 4,
+    |schema| (schema.roots, schema.root[7]) = (8, 4),
+    |schema| schema.tag[3] = 3,
+    |schema| schema.states[1] = 0,
+    |schema| schema.states[1] = 33,
+    |schema| schema.accepting[0] = States(0b100),
+    |schema| schema.steps[3] = MOST_STEPS as u16 - 2,
+    |schema| schema.from[0] = 2,
+    |schema| schema.by[2] = 4,
+    |schema| schema.to[2] = 2,
+    |schema| schema.steps[1] = u16::MAX,
+];
+
 #[test]
 fn schemas_outside_the_limits() {
-    let changes: [fn(&mut Schema); 18] = [
-        |schema| schema.tags = 0,
-        |schema| schema.tags = 33,
-        |schema| schema.types = 0,
-        |schema| schema.types = 65,
-        |schema| schema.roots = 0,
-        |schema| schema.roots = MOST_ROOTS as u8 + 1,
-        |schema| schema.roots = u8::MAX,
-        |schema| schema.root[0] = 4,
-        |schema| (schema.roots, schema.root[7]) = (8, 4),
-        |schema| schema.tag[3] = 3,
-        |schema| schema.states[1] = 0,
-        |schema| schema.states[1] = 33,
-        |schema| schema.accepting[0] = States(0b100),
-        |schema| schema.steps[3] = MOST_STEPS as u16 - 2,
-        |schema| schema.from[0] = 2,
-        |schema| schema.by[2] = 4,
-        |schema| schema.to[2] = 2,
-        |schema| schema.steps[1] = u16::MAX,
-    ];
-    for change in changes {
+    for change in OUTSIDE {
         let mut schema = stated(&boots());
         assert!(schema.within_limits());
         change(&mut schema);

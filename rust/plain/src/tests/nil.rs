@@ -17,12 +17,12 @@ fn plain(block: Block) -> Vec<u8> {
 }
 
 /// A nillable one.
-fn nil(block: Block) -> Vec<u8> {
+pub(super) fn nil(block: Block) -> Vec<u8> {
     [block_bytes(&block), vec![0x15]].concat()
 }
 
 /// A type of this tag without children, with trees opened by these kinds.
-fn childless(tag: u8, kinds: &[Kind]) -> Vec<u8> {
+pub(super) fn childless(tag: u8, kinds: &[Kind]) -> Vec<u8> {
     let accepting: &[u8] = match kinds.contains(&Kind::Plain) {
         true => &[0],
         false => &[],
@@ -35,7 +35,7 @@ fn childless(tag: u8, kinds: &[Kind]) -> Vec<u8> {
 }
 
 /// A wall of racks; on a rack hire boots, the sale mark, boots for sale. A rack may be empty on purpose.
-fn wall() -> Vec<u8> {
+pub(super) fn wall() -> Vec<u8> {
     let wall: Block = (0, 1, &[0], &[(0, 1, 0)]);
     let rack: Block = (1, 2, &[1], &[(0, 2, 0), (0, 3, 1), (1, 4, 1)]);
     let boots = [leaf(2), leaf(3), leaf(2)].map(plain);
@@ -43,7 +43,7 @@ fn wall() -> Vec<u8> {
 }
 
 /// Type 0, tag 0, holds one child of type 1, tag 1.
-fn over_one(child: Vec<u8>) -> Vec<u8> {
+pub(super) fn over_one(child: Vec<u8>) -> Vec<u8> {
     let owner: Block = (0, 2, &[1], &[(0, 1, 1)]);
     file_of_bytes(2, &[plain(owner), child], &[0])
 }

@@ -1,7 +1,10 @@
 // What the tests share: bytes from hexadecimal text, document 01's schema R, by states and by expressions, one with two roots, one with a nillable
 // type, and calls on buffers that are watched.
 #![allow(dead_code)]
-use typestock::{check_schema, type_document, write_reduced, Job, NotWritten, SchemaAnswer};
+use typestock::{
+    check_schema, expect_document, type_document, write_reduced, Expected, Job, NotWritten,
+    SchemaAnswer, SchemaRefused,
+};
 
 pub fn hex(text: &str) -> Vec<u8> {
     text.split_whitespace()
@@ -109,6 +112,24 @@ pub fn typed(
         };
         let filled = filled(number, witness.lend());
         (job, witness.written(filled), types.written(count))
+    };
+    let (first, second) = (once(0), once(0xff));
+    assert_eq!(first, second);
+    first
+}
+
+// What would have been taken, with a witness buffer of the length, and the witness; nothing else of the buffer or around it is written.
+pub fn expected(
+    schema: &[u8],
+    events: &[u8],
+    room: usize,
+) -> (Result<Expected, SchemaRefused>, Vec<u8>) {
+    let once = |turned| {
+        let mut witness = Lent::new(room, turned);
+        let told = expect_document(schema, events, witness.lend());
+        let number = told.as_ref().map_or_else(|r| r.number, |_| 0);
+        let filled = filled(number, witness.lend());
+        (told, witness.written(filled))
     };
     let (first, second) = (once(0), once(0xff));
     assert_eq!(first, second);
