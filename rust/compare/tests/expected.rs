@@ -2,7 +2,7 @@
 
 mod common;
 
-use common::both;
+use common::{both, one_event_more};
 use plain::codes::{CLOSE, FINISH, NIL, OPEN, OPEN_NIL};
 use plain::limits::{MOST_OPEN, MOST_OPENINGS, MOST_TAGS, WITNESS};
 use plain::{Expected, Kind};
@@ -86,21 +86,9 @@ fn files_damaged_at_every_byte() {
 
 #[test]
 fn every_list_of_few_events() {
-    let events: [&[u8]; 7] = [
-        &[OPEN, 0],
-        &[OPEN, 1],
-        &[OPEN_NIL, 0],
-        &[OPEN_NIL, 1],
-        &[CLOSE, 0],
-        &[CLOSE, 1],
-        &[FINISH],
-    ];
     let mut files = vec![vec![]];
     for _ in 0..4 {
-        files = files
-            .iter()
-            .flat_map(|file| events.map(|event| [file, event].concat()))
-            .collect();
+        files = one_event_more(&files);
         files
             .iter()
             .for_each(|file| hold_to_events(&nested(), file));

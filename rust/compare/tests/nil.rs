@@ -2,7 +2,7 @@
 
 mod common;
 
-use common::both;
+use common::{both, one_event_more};
 use compare::Fixed;
 use plain::Job;
 use plain::codes::{CLOSE, FINISH, NIL, OPEN, OPEN_NIL};
@@ -171,22 +171,10 @@ fn nested() -> Vec<u8> {
 
 #[test]
 fn every_list_of_few_events() {
-    let events: [&[u8]; 7] = [
-        &[OPEN, 0],
-        &[OPEN, 1],
-        &[OPEN_NIL, 0],
-        &[OPEN_NIL, 1],
-        &[CLOSE, 0],
-        &[CLOSE, 1],
-        &[FINISH],
-    ];
     let mut files = vec![vec![]];
     let mut whole = 0;
     for _ in 0..5 {
-        files = files
-            .iter()
-            .flat_map(|file| events.map(|event| [file, event].concat()))
-            .collect();
+        files = one_event_more(&files);
         let taken = |file: &&Vec<u8>| {
             let job = both(&nested(), file, WITNESS, 3).job;
             matches!(job, Job::EventsRead { number: 0, .. })

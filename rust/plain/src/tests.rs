@@ -271,20 +271,28 @@ fn several_steps_of_one_type() {
     );
 }
 
+/// The steps of a1? b1 (b1 or c1)* a2 c1.
+const BY_POSITION: &[(u8, u8, u8)] = &[
+    (0, 1, 1),
+    (0, 2, 2),
+    (1, 2, 2),
+    (2, 2, 2),
+    (2, 3, 2),
+    (2, 4, 3),
+    (3, 3, 4),
+];
+
 #[test]
 fn types_by_position() {
-    let steps = &[
-        (0, 1, 1),
-        (0, 2, 2),
-        (1, 2, 2),
-        (2, 2, 2),
-        (2, 3, 2),
-        (2, 4, 3),
-        (3, 3, 4),
-    ];
     let schema = file(
         4,
-        &[(0, 5, &[4], steps), leaf(1), leaf(2), leaf(3), leaf(1)],
+        &[
+            (0, 5, &[4], BY_POSITION),
+            leaf(1),
+            leaf(2),
+            leaf(3),
+            leaf(1),
+        ],
         0,
     );
     let events = row(0, &[2, 2, 3, 2, 1, 3]);

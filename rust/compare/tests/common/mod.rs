@@ -2,6 +2,7 @@
 #![allow(dead_code)]
 
 use compare::{Answers, Chance, Input, compare};
+use plain::codes::{CLOSE, FINISH, OPEN, OPEN_NIL};
 use plain::limits::WITNESS;
 
 fn answers(input: &Input) -> Answers {
@@ -30,4 +31,21 @@ pub fn both_written(schema: &[u8], events: &[u8], out: usize) -> Answers {
         out,
         walked: events.len(),
     })
+}
+
+/// The files, each with every event on tags 0 and 1 after it.
+pub fn one_event_more(files: &[Vec<u8>]) -> Vec<Vec<u8>> {
+    let events: [&[u8]; 7] = [
+        &[OPEN, 0],
+        &[OPEN, 1],
+        &[OPEN_NIL, 0],
+        &[OPEN_NIL, 1],
+        &[CLOSE, 0],
+        &[CLOSE, 1],
+        &[FINISH],
+    ];
+    files
+        .iter()
+        .flat_map(|file| events.map(|event| [file, event].concat()))
+        .collect()
 }

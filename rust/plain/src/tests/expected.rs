@@ -3,8 +3,8 @@
 use super::made_up::OUTSIDE;
 use super::nil::{childless, nil, over_one, wall};
 use super::{
-    Block, CLOSE, FINISH, OPEN, OPEN_NIL, UNTOUCHED, boots, file, file_of_bytes, file_of_roots,
-    hex, leaf, nesting, print, read_into, row, stated, two_readings,
+    BY_POSITION, Block, CLOSE, FINISH, OPEN, OPEN_NIL, UNTOUCHED, boots, file, file_of_bytes,
+    file_of_roots, hex, leaf, nesting, print, read_into, row, stated, two_readings,
 };
 use crate::limits::{MOST_OPENINGS, WITNESS};
 use crate::questions::{NO_EVENT, OUTSIDE_LIMITS};
@@ -111,20 +111,10 @@ fn after_the_root_and_after_the_finish() {
 
 #[test]
 fn children_by_position() {
-    // a1? b1 (b1 or c1)* a2 c1
-    let steps = &[
-        (0, 1, 1),
-        (0, 2, 2),
-        (1, 2, 2),
-        (2, 2, 2),
-        (2, 3, 2),
-        (2, 4, 3),
-        (3, 3, 4),
-    ];
     let leaves = [leaf(1), leaf(2), leaf(3), leaf(1)];
     let schema = file(
         4,
-        &[&[(0, 5, &[4][..], &steps[..])], &leaves[..]].concat(),
+        &[&[(0, 5, &[4][..], BY_POSITION)], &leaves[..]].concat(),
         0,
     );
     let after = |children: &[u8]| {
