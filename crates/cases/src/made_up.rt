@@ -45,7 +45,7 @@ const LEVEL_TYPE: u8 = 0x23;
 const LEVEL_SET: u8 = 0x24;
 
 // What a case works on.
-#[derive(Drop)]
+#[derive(Clone, Copy)]
 pub(crate) struct Held {
     pub schema: Schema,
     pub reading: Reading,

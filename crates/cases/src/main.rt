@@ -2,6 +2,8 @@
 //
 // A case is its kind, a letter; three lengths of two bytes each, low byte first, of the buffer to lend and of two strings of bytes; then the two
 // strings. A kind of 00 ends the cases. What the strings of a kind are and what it writes stands at its module.
+#![tactic(auto)]
+
 mod buffer;
 mod call_lists;
 mod changes;

@@ -1,4 +1,6 @@
 // The commands of the schema file, as bytes.
+#![tactic(auto)]
+
 ghost use Rattle.std.specs.Prelude.{◌≡◌, ◌<◌, length};
 ghost use Rattle.command.specs.Command.{added_command, command_at, part_size, size};
 
@@ -14,7 +16,7 @@ const WITH_TWO: usize = 3;
 const WITH_THREE: usize = 4;
 
 // A command of an expression: 30 and 31 around a choice, 32 with a type, 33 between sequences, 34 after what it repeats, 3F at the end.
-#[derive(Drop)]
+#[derive(Clone, Copy)]
 pub enum Part {
     OpenBracket,
     CloseBracket,
@@ -25,7 +27,7 @@ pub enum Part {
 }
 
 // A command with its operands, or that there is none.
-#[derive(Drop)]
+#[derive(Clone, Copy)]
 pub enum Command {
     Tags(u8),
     TypeBlock(Tag, u8),

@@ -21,7 +21,7 @@ use schema::{ROOTS, STEPS, Schema, StateSet, TYPES};
 use sdtd::Verdict;
 
 // The verdict, and beside it the schema stated; beside a refusal, the value of no schema.
-#[derive(Drop)]
+#[derive(Clone, Copy)]
 pub struct StatedSchema {
     pub verdict: Verdict,
     pub schema: Schema,

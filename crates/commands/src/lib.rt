@@ -1,4 +1,6 @@
 // The commands of the schema file, questions 2 to 7 and 21 to 23, and the schema that they state.
+#![tactic(auto)]
+
 mod commands;
 mod laying;
 mod progress;

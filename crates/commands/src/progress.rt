@@ -18,7 +18,7 @@ pub(crate) const MOST_ROOTS: u8 = ROOTS as u8;
 const LAST_TYPE: u8 = TYPE_NUMBERS - 1;
 
 // Where the file stands: before TAGS, before the first TYPE, in a block by states, in an expression, after its 3F, after a ROOT, after DONE.
-#[derive(Drop)]
+#[derive(Clone, Copy)]
 pub(crate) enum Phase {
     BeforeTags,
     BeforeTypes,
@@ -52,7 +52,7 @@ pub(crate) fn same_phase(phase: Phase, other: Phase) -> bool
 }
 
 // The phase, the counts, the roots and which types are nillable, so far.
-#[derive(Drop)]
+#[derive(Clone, Copy)]
 pub(crate) struct Progress {
     pub phase: Phase,
     pub tags: u8,

@@ -10,7 +10,7 @@ use schema::{STATES, STEPS, StateSet, TAGS};
 
 // What is seen of the file where a command is asked: the phase, the numbers of tags, types, roots and steps so far; of the block that the file is
 // in, the state count and the accepting states; and whether that block has the command's STEP or NIL already, or the file the command's ROOT.
-#[derive(Drop)]
+#[derive(Clone, Copy)]
 pub(crate) struct Seen {
     pub phase: Phase,
     pub tags: u8,

@@ -1,4 +1,6 @@
 // Competition in a schema, of roots and of types: the search over pairs of states with its witness, and the verdict on a schema.
+#![tactic(auto)]
+
 mod entries;
 mod marks;
 mod rivals;

@@ -122,7 +122,7 @@ fn mark_rows<'a>(
 }
 
 // Which pairs are reached after a step of the search, and how many stand in the queue.
-#[derive(Drop)]
+#[derive(Clone, Copy)]
 struct PairsMarked {
     pub reached: [bool; PAIRS],
     pub count: usize,

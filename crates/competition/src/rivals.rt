@@ -9,14 +9,14 @@ use schema::{Entry, STEPS, opens_as_nil, opens_plainly};
 use sdtd::TypeNo;
 
 // A type, or none.
-#[derive(Drop)]
+#[derive(Clone, Copy)]
 pub(crate) enum Rival {
     One(TypeNo),
     NoType,
 }
 
 // Two types, or none.
-#[derive(Drop)]
+#[derive(Clone, Copy)]
 pub(crate) enum Rivals {
     Of(TypeNo, TypeNo),
     NoTypes,

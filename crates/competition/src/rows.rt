@@ -8,7 +8,7 @@ use schema::{BEGINS, STATES};
 use sdtd::TypeNo;
 
 // The entries from the place `start` up to the place `end`.
-#[derive(Drop)]
+#[derive(Clone, Copy)]
 pub(crate) struct Row {
     pub start: usize,
     pub end: usize,

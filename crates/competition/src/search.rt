@@ -23,7 +23,7 @@ use schema::{BEGINS, STEPS, Schema, TYPES, Trimming, opens, trim};
 use sdtd::TypeNo;
 
 // What the search of a schema answers.
-#[derive(Drop)]
+#[derive(Clone, Copy)]
 pub enum Searched {
     // the witness buffer has fewer than 532 bytes
     ShortBuffer,
@@ -36,14 +36,14 @@ pub enum Searched {
 }
 
 // The place in the queue of a pair with rivals, and the rival types; or that there is none.
-#[derive(Drop)]
+#[derive(Clone, Copy)]
 pub(crate) enum PairFound {
     At(usize, TypeNo, TypeNo),
     Nowhere,
 }
 
 // Of each type whether it is reached and by which kinds of opening it bears a tree; and how many types there are.
-#[derive(Drop)]
+#[derive(Clone, Copy)]
 pub(crate) struct TypeTables {
     pub reached: [bool; TYPES],
     pub ways: [u8; TYPES],
@@ -105,7 +105,7 @@ fn search_at<'a>(
 }
 
 // The smallest type in which two compete: the type, the place in the queue of a pair with rivals, and the rivals.
-#[derive(Drop)]
+#[derive(Clone, Copy)]
 pub(crate) enum Competing {
     In(TypeNo, usize, TypeNo, TypeNo),
     NoneIn,

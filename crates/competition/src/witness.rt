@@ -108,7 +108,7 @@ pub(crate) fn write_rivals(
 }
 
 // What stands before the word: the type in which two compete, or `NO_PARENT`, the two, and how many types the word has.
-#[derive(Drop)]
+#[derive(Clone, Copy)]
 pub struct WitnessHead {
     pub of: TypeNo,
     pub first: TypeNo,

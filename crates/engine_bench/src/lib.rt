@@ -1,4 +1,6 @@
 // Entry points of the benchmark: the calls on schemas, readings and event files, on what C and Rust can hand over and take back.
+#![tactic(auto)]
+
 ghost use Rattle.std.specs.Prelude.{◌≡◌, ◌↔◌, T};
 ghost use Rattle.sdtd.specs.Tree.{plain, nil};
 ghost use Rattle.sdtd.specs.Document.{opening, closing, finish};
@@ -57,7 +59,7 @@ pub extern "C" fn bench_competition(schema: Schema, witness: &mut [u8]) -> u8
 
 // An answer as two numbers.
 #[repr(C)]
-#[derive(Drop)]
+#[derive(Clone, Copy)]
 pub struct Answer {
     pub kind: u8,
     pub of: u8,
@@ -65,7 +67,7 @@ pub struct Answer {
 
 // The same, and the reading that follows.
 #[repr(C)]
-#[derive(Drop)]
+#[derive(Clone, Copy)]
 pub struct Answered {
     pub answer: Answer,
     pub reading: Reading,

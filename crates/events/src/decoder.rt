@@ -10,7 +10,7 @@ pub const WITH_TAG: usize = 2;
 pub const ALONE: usize = 1;
 
 // An event with its tag, or that there is none. `OpenNil` opens an element as nil.
-#[derive(Drop)]
+#[derive(Clone, Copy)]
 pub enum FileEvent {
     Open(Tag),
     OpenNil(Tag),
@@ -20,7 +20,7 @@ pub enum FileEvent {
 }
 
 // What an event is, without its tag; or that there is none.
-#[derive(Drop)]
+#[derive(Clone, Copy)]
 pub enum EventKind {
     OpenKind,
     OpenNilKind,

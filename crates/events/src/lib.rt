@@ -1,4 +1,6 @@
 // Event files as bytes: the event at a place, its kind and its tag, a walker over the lent bytes, and the openings in order with their levels.
+#![tactic(auto)]
+
 mod decoder;
 mod outline;
 mod walker;

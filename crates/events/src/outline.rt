@@ -7,21 +7,21 @@ use crate::walker::walk_to;
 use sdtd::Tag;
 
 // A place of the file, and how many elements are open there.
-#[derive(Drop)]
+#[derive(Clone, Copy)]
 pub struct Cursor {
     pub at: usize,
     pub level: usize,
 }
 
 // An opening's tag with the cursor past it, which is at the opening's level; or that there is none.
-#[derive(Drop)]
+#[derive(Clone, Copy)]
 pub enum NextOpening {
     Opening(Tag, Cursor),
     NoOpening,
 }
 
 // A search for the next opening: what is found, or while it goes on the cursor past the event looked at.
-#[derive(Drop)]
+#[derive(Clone, Copy)]
 struct Search {
     pub going: bool,
     pub found: NextOpening,

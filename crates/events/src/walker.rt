@@ -5,7 +5,7 @@ ghost use Rattle.events.specs.Events.{event_at, kind_of, place_after};
 
 use crate::decoder::{EventKind, FileEvent, event_at, kind_at, place_after};
 
-#[derive(Drop)]
+#[derive(Clone, Copy)]
 pub struct Walker<'a> {
     pub events: &'a [u8],
     pub at: usize,
@@ -46,7 +46,7 @@ impl<'a> Walker<'a> {
 }
 
 // The event at a place, and the place past it; where there is no event, the same place.
-#[derive(Drop)]
+#[derive(Clone, Copy)]
 pub struct PassedEvent {
     pub event: FileEvent,
     pub past: usize,

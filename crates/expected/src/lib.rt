@@ -1,5 +1,7 @@
 // What would have been taken where an event file was refused: the open elements' types, and the openings, closing and finish that the reading
 // would have taken there.
+#![tactic(auto)]
+
 mod list;
 mod types;
 
@@ -20,7 +22,7 @@ pub const OPENINGS: usize = 2 * TAG_NUMBERS;
 // open elements, `depth` of them, from the root down. The openings that would have been taken, `count` of them: of each the tag, and whether it is as
 // nil; rising by tag, plain before nil. Whether a closing, and whether a finish would have been. Entries past the counts are 0.
 #[repr(C)]
-#[derive(Drop)]
+#[derive(Clone, Copy)]
 pub struct Expected {
     pub number: u8,
     pub place: usize,

@@ -8,7 +8,7 @@ use reading::TAG_NUMBERS;
 use sdtd::Tag;
 
 // A list of `count` openings: of each the tag, and whether it is as nil. Entries past the count are 0.
-#[derive(Drop)]
+#[derive(Clone, Copy)]
 pub(crate) struct Listing {
     pub count: usize,
     pub tags: [u8; OPENINGS],

@@ -12,7 +12,7 @@ use schema::StateSet;
 use sdtd::Verdict;
 
 // The automaton of the expression that begins at a place of the file, or why there is none.
-#[derive(Drop)]
+#[derive(Clone, Copy)]
 pub struct Automaton {
     pub verdict: Verdict,
     // the place of the 3F

@@ -1,4 +1,6 @@
 // Content written as an expression: its parsers, and the automaton that it becomes.
+#![tactic(auto)]
+
 mod content;
 mod parsers;
 mod parts;

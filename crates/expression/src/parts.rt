@@ -7,7 +7,7 @@ use command::{Command, Part, command_at};
 use sdtd::TypeNo;
 
 // What a factor begins with: the type of a 32, a 30, or nothing that begins one.
-#[derive(Drop)]
+#[derive(Clone, Copy)]
 pub(crate) enum Opening {
     OneType(TypeNo),
     Bracket,

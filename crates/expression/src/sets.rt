@@ -20,7 +20,7 @@ const TYPE_NUMBERS: u8 = TYPES as u8;
 // What is read of an expression: the place behind it, the uses up to there, whether the empty word is one of its words, and the uses that
 // can come first and last. Where the number is not 0, the command at the place gets it, and the rest says nothing. The wide fields stand
 // first, so that no gap is copied.
-#[derive(Drop)]
+#[derive(Clone, Copy)]
 pub(crate) struct Parsed {
     pub at: usize,
     pub first: u32,

@@ -1,4 +1,6 @@
 // Unordered pairs of states and their numbers, from a table.
+#![tactic(auto)]
+
 mod limits;
 mod numbers;
 mod table;

@@ -8,7 +8,7 @@ use crate::table::PAIR_NUMBERS;
 use schema::STATES;
 
 // The number of a pair of states, or that one of them is no state.
-#[derive(Drop)]
+#[derive(Clone, Copy)]
 pub enum PairNumber {
     At(u16),
     Outside,

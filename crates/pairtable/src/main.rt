@@ -1,4 +1,6 @@
 // Prints the table of pair numbers as it stands in the code: one decimal number a line, "rising by first state, then second".
+#![tactic(auto)]
+
 ghost use Rattle.text.specs.Laid.{Laid};
 ghost use Rattle.pairs.specs.Table.{PairTable};
 ghost use Rattle.pairtable.specs.Lines.{line_of, lines_of, TextOf};
@@ -11,7 +13,7 @@ use text::{LINE_END, put_byte, put_decimal};
 const OUTPUT: usize = 4 * ORDERED_PAIRS;
 
 // A text, and how many of the bytes it has.
-#[derive(Drop)]
+#[derive(Clone, Copy)]
 struct Text {
     pub bytes: [u8; OUTPUT],
     pub length: usize,

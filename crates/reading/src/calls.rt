@@ -21,7 +21,7 @@ use schema::{Schema, StateSet, TYPES, live, within};
 use sdtd::{Tag, TypeNo};
 
 // The answer to an event: an opening's type, taken for a closing or a finish, or a refusal's number.
-#[derive(Drop)]
+#[derive(Clone, Copy)]
 pub enum EventAnswer {
     Typed(TypeNo),
     Taken,
@@ -29,7 +29,7 @@ pub enum EventAnswer {
 }
 
 // The answer, and the reading that follows; beside a refusal, the reading handed in.
-#[derive(Drop)]
+#[derive(Clone, Copy)]
 pub struct Next {
     pub answer: EventAnswer,
     pub reading: Reading,

@@ -10,14 +10,14 @@ use schema::{BEGINS, Entry, STATES, STEPS, StateSet, TAGS, TYPE_PLACE, TYPE_ROOM
 use sdtd::{Tag, TypeNo};
 
 // An opening that is asked for: a tag, plainly or as nil.
-#[derive(Drop)]
+#[derive(Clone, Copy)]
 pub(crate) struct Opening {
     pub tag: Tag,
     pub nil: bool,
 }
 
 // What comes next for an opening: nothing, or a type and the states that it leads to.
-#[derive(Drop)]
+#[derive(Clone, Copy)]
 pub(crate) enum Coming {
     Nothing,
     OfType(TypeNo, u32),
@@ -83,7 +83,7 @@ fn rotated(e: Entry, more: u32) -> u32
 }
 
 // An opening as what is added to an entry to test it: less by TYPE_ROOM for each tag, and by TAGS times as much for a nil opening.
-#[derive(Drop)]
+#[derive(Clone, Copy)]
 pub(crate) struct Sought(pub u32);
 
 pub(crate) fn sought_of(o: Opening) -> Sought

@@ -18,7 +18,7 @@ use schema::{BEGINS, LiveStates, STEPS, Schema, StateSet, TYPES, live_rows};
 // The number of the first question answered no, 0 where the file is taken whole; the place of that event, or the file's length; how many
 // openings were taken.
 #[repr(C)]
-#[derive(Drop)]
+#[derive(Clone, Copy)]
 pub struct EventFile {
     pub number: u8,
     pub place: usize,
@@ -26,7 +26,7 @@ pub struct EventFile {
 }
 
 // How far a walk has come: whether it goes on, the place, and where the reading stands; the number counts once it has stopped.
-#[derive(Drop)]
+#[derive(Clone, Copy)]
 pub(crate) struct Walking {
     pub going: bool,
     pub number: u8,
@@ -38,7 +38,7 @@ pub(crate) struct Walking {
 
 // Where a walk over an event file has ended: whether the schema is inside the limits, the number and the place, how many types are in the buffer, the
 // reading, and for a schema inside the limits its live states, in which ways its types bear a tree, and its heads.
-#[derive(Drop)]
+#[derive(Clone, Copy)]
 pub(crate) struct WalkEnd {
     pub inside: bool,
     pub number: u8,

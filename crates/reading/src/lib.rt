@@ -1,4 +1,6 @@
 // Readings: one event after another, by value or lent; and the event file's answer.
+#![tactic(auto)]
+
 mod calls;
 mod coming;
 mod event_file;

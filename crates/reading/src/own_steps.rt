@@ -12,7 +12,7 @@ use schema::{STEPS, Schema, Span, StateSet, TYPES};
 use sdtd::{Tag, TypeNo};
 
 // For which opening a step is asked, from which states, and into which live states of its type.
-#[derive(Drop)]
+#[derive(Clone, Copy)]
 struct Asked {
     pub opening: Opening,
     pub states: u32,

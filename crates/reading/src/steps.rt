@@ -16,7 +16,7 @@ use schema::{BEGINS, STEPS, StateSet, TAGS, TYPES};
 use sdtd::{Tag, TypeNo};
 
 // A reading without its levels.
-#[derive(Drop)]
+#[derive(Clone, Copy)]
 pub(crate) struct Standing {
     pub depth: u8,
     pub rooted: bool,
@@ -24,7 +24,7 @@ pub(crate) struct Standing {
 }
 
 // The answer to an event, and where the reading stands after it.
-#[derive(Drop)]
+#[derive(Clone, Copy)]
 pub(crate) struct Stepped {
     pub answer: EventAnswer,
     pub standing: Standing,
@@ -176,7 +176,7 @@ pub(crate) fn step_open<'a>(
 }
 
 // The tag and the accepting states of the innermost element, and whether its type is nillable.
-#[derive(Drop)]
+#[derive(Clone, Copy)]
 pub(crate) struct Inner {
     pub tag: Tag,
     pub nillable: bool,

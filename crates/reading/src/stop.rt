@@ -29,7 +29,7 @@ pub const TAG_NUMBERS: usize = TAGS as usize;
 
 // The number and place of the refusal, 0 and the file's length where it is taken whole; the reading there; and what would have been taken: an
 // opening of each tag, plainly and as nil, a closing, a finish.
-#[derive(Drop)]
+#[derive(Clone, Copy)]
 pub struct Stop {
     pub number: u8,
     pub place: usize,
@@ -52,7 +52,7 @@ fn is_taken(answer: EventAnswer) -> bool
 }
 
 // The tags of which an opening would be taken, plainly and as nil.
-#[derive(Drop)]
+#[derive(Clone, Copy)]
 struct Openings {
     pub opens: [bool; TAG_NUMBERS],
     pub opens_nil: [bool; TAG_NUMBERS],
@@ -64,7 +64,7 @@ const NO_OPENINGS: Openings = Openings {
 };
 
 // From which states a step is taken, and into which live states.
-#[derive(Drop)]
+#[derive(Clone, Copy)]
 struct Between {
     pub states: u32,
     pub own: u32,

@@ -1,4 +1,6 @@
 // What the program prints for a schema file and an event file, on slices: everything but the reading and the writing.
+#![tactic(auto)]
+
 mod expected_lines;
 mod expected_program;
 mod lines;

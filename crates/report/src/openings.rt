@@ -12,7 +12,7 @@ use events::{Cursor, NextOpening, next_opening};
 use sdtd::TypeNo;
 
 // How far the lines have come: a place in the buffer, a cursor in the events, and how many types have their line.
-#[derive(Drop)]
+#[derive(Clone, Copy)]
 pub(crate) struct Printing {
     pub at: usize,
     pub cursor: Cursor,

@@ -20,7 +20,7 @@ const TAG: u32 = TYPE_PLACE * TYPE_ROOM;
 
 const WAYS_PLACE: u32 = TAG * TAGS as u32;
 
-#[derive(Drop)]
+#[derive(Clone, Copy)]
 pub struct Entry(pub u32);
 
 impl Entry {

@@ -1,4 +1,6 @@
 // Schemas as values: the state set, the schema, its limits, its trimming, and its steps in rows.
+#![tactic(auto)]
+
 mod entry;
 mod limits;
 mod reach;

@@ -12,14 +12,14 @@ use crate::value::{STATES, STEPS, Schema, TAGS, TYPES};
 use sdtd::{Tag, TypeNo};
 
 // How many tags and types the schema has.
-#[derive(Drop)]
+#[derive(Clone, Copy)]
 struct Counts {
     tags: u8,
     types: u8,
 }
 
 // What a type's block says beside its steps.
-#[derive(Drop)]
+#[derive(Clone, Copy)]
 struct Entries {
     tag: Tag,
     states: u8,

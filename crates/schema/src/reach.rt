@@ -11,7 +11,7 @@ use crate::ways::bears_in;
 use sdtd::TypeNo;
 
 // Tables with an entry for each type: the ways in which it bears a tree, the states that children reach, the live states.
-#[derive(Drop)]
+#[derive(Clone, Copy)]
 pub(crate) struct StateTables {
     pub(crate) ways: [u8; TYPES],
     pub(crate) forward: [u32; TYPES],
@@ -19,7 +19,7 @@ pub(crate) struct StateTables {
 }
 
 // Where the steps of a type stand, the states that its children reach, its live states.
-#[derive(Drop)]
+#[derive(Clone, Copy)]
 pub(crate) struct TypeSteps {
     pub(crate) span: Span,
     pub(crate) forward: u32,

@@ -5,7 +5,7 @@ ghost use Rattle.schema.specs.States.{member, insert, meet};
 use crate::value::STATES;
 
 // A set of states below STATES, a bit each.
-#[derive(Drop)]
+#[derive(Clone, Copy)]
 pub struct StateSet(pub u32);
 
 impl StateSet {

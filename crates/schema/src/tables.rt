@@ -18,7 +18,7 @@ use crate::ways::ways_by;
 // Whether a schema is inside the limits. At the place a: the live states of the type a as a set, by which kinds of opening it bears a tree,
 // whether it is reached.
 #[repr(C)]
-#[derive(Drop)]
+#[derive(Clone, Copy)]
 pub struct Trimming {
     pub inside: bool,
     pub live: [u32; TYPES],
@@ -135,7 +135,7 @@ fn reached_types<'a>(
 }
 
 // Whether a schema is inside the limits; the live states of each type as a set, and by which kinds of opening it bears a tree.
-#[derive(Drop)]
+#[derive(Clone, Copy)]
 pub struct LiveStates {
     pub inside: bool,
     pub live: [u32; TYPES],

@@ -15,7 +15,7 @@ pub const STEPS: usize = 1024;
 // The first `roots` entries of `root` are the root types, in the file's order. `nillable[a]` says that the type a is nillable.
 // The steps stand in the order of their types, `steps[a]` of them for the type a.
 #[repr(C)]
-#[derive(Drop)]
+#[derive(Clone, Copy)]
 pub struct Schema {
     pub tags: u8,
     pub types: u8,

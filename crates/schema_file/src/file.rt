@@ -11,7 +11,7 @@ use schema::Schema;
 use sdtd::{TypeNo, Verdict};
 
 // The answer, and beside it the accepted schema; beside a refusal, the value of no schema.
-#[derive(Drop)]
+#[derive(Clone, Copy)]
 pub struct SchemaFile {
     pub answer: Verdict,
     pub schema: Schema,

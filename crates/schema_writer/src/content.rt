@@ -13,7 +13,7 @@ use schema::TYPES;
 use sdtd::{TypeNo, Verdict};
 
 // By its states, with the place where the file goes on after it; or as it is given.
-#[derive(Drop)]
+#[derive(Clone, Copy)]
 pub(crate) enum Form {
     ByStates(usize),
     AsGiven,

@@ -1,4 +1,6 @@
 // The writer of schema files without the types that no valid document uses.
+#![tactic(auto)]
+
 mod blocks;
 mod content;
 mod numbers;

@@ -1,8 +1,10 @@
 // Tags and types, numbered separately so that neither number stands for the other; and two kinds of answers.
+#![tactic(auto)]
+
 ghost use Rattle.std.specs.Prelude.{◌≡◌, eqb, ltb};
 
 // A tag's number.
-#[derive(Drop)]
+#[derive(Clone, Copy)]
 pub struct Tag(pub u8);
 
 impl Tag {
@@ -15,7 +17,7 @@ impl Tag {
 }
 
 // A type's number: its place among the schema's blocks.
-#[derive(Drop)]
+#[derive(Clone, Copy)]
 pub struct TypeNo(pub u8);
 
 impl TypeNo {
@@ -35,14 +37,14 @@ impl TypeNo {
 }
 
 // A refusal's number and place, or that there is none.
-#[derive(Drop)]
+#[derive(Clone, Copy)]
 pub enum Verdict {
     Fine,
     RefusedAt(u8, usize),
 }
 
 // The length of the file that was written, or a refusal's number.
-#[derive(Drop)]
+#[derive(Clone, Copy)]
 pub enum FileWritten {
     Length(usize),
     Refused(u8),

@@ -1,4 +1,6 @@
 // Text laid into a lent buffer, as far as it fits: bytes, and numbers in decimal digits.
+#![tactic(auto)]
+
 mod bytes;
 mod decimal;
 

@@ -1,5 +1,7 @@
 // Writes the schema file of standard input without the types that no valid document uses to standard output. What is written is decided by
 // `write_reduced`; a refused file's number goes to standard error.
+#![tactic(auto)]
+
 ghost use Rattle.text.specs.Laid.{Laid};
 ghost use Rattle.trimschema.specs.Line.{refused_line};
 

@@ -1,5 +1,7 @@
 // The engine for callers in other languages: the calls of `schema_file`, `schema_writer`, `typing` and `events`, with their answers as numbers.
 // c/typestock.h declares them for C, and rust/typestock wraps them for Rust.
+#![tactic(auto)]
+
 ghost use Rattle.std.specs.Prelude.{◌≡◌};
 ghost use Rattle.events.specs.Outline.{next_opening};
 ghost use Rattle.typestock_c.specs.Numbers.{
@@ -22,7 +24,7 @@ use typing::{ExpectedJob, Job, expect_document, type_document};
 
 // A schema file's answer: a refusal's number and place; 0 and 0 for accepted.
 #[repr(C)]
-#[derive(Drop)]
+#[derive(Clone, Copy)]
 pub struct TypestockSchema {
     pub number: u8,
     pub place: usize,
@@ -30,7 +32,7 @@ pub struct TypestockSchema {
 
 // The writer's: 0 and the length written; or a refusal's number and 0.
 #[repr(C)]
-#[derive(Drop)]
+#[derive(Clone, Copy)]
 pub struct TypestockWritten {
     pub number: u8,
     pub length: usize,
@@ -38,7 +40,7 @@ pub struct TypestockWritten {
 
 // The whole job's: the schema file's answer, and the event file's; where the schema is refused, its number and place once more.
 #[repr(C)]
-#[derive(Drop)]
+#[derive(Clone, Copy)]
 pub struct TypestockDocument {
     pub schema_number: u8,
     pub schema_place: usize,
@@ -50,7 +52,7 @@ pub struct TypestockDocument {
 // What would have been taken: the schema file's answer, and `expected::Expected` field by field; where the schema is refused, its number and place
 // once more, and nothing.
 #[repr(C)]
-#[derive(Drop)]
+#[derive(Clone, Copy)]
 pub struct TypestockExpected {
     pub schema_number: u8,
     pub schema_place: usize,
@@ -67,7 +69,7 @@ pub struct TypestockExpected {
 
 // The next opening: whether there is one, its tag, and the cursor past it; with none, tag 0 and the cursor handed in.
 #[repr(C)]
-#[derive(Drop)]
+#[derive(Clone, Copy)]
 pub struct TypestockOpening {
     pub found: bool,
     pub tag: u8,

@@ -7,7 +7,7 @@ use sdtd::Verdict;
 
 // The schema file's answer, and what would have been taken where the event file is refused. Where the schema is refused, its number and place
 // once more, and nothing.
-#[derive(Drop)]
+#[derive(Clone, Copy)]
 pub struct ExpectedJob {
     pub schema: Verdict,
     pub expected: Expected,

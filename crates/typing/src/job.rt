@@ -6,7 +6,7 @@ use schema_file::read;
 use sdtd::Verdict;
 
 // The schema file's refusal, its number and place; or what the event file got.
-#[derive(Drop)]
+#[derive(Clone, Copy)]
 pub enum Job {
     SchemaRefused(u8, usize),
     EventsRead(EventFile),

@@ -1,5 +1,7 @@
 // The front: a whole job on lent bytes, from a schema file and an event file to types. The demands, stated
 // over the promises of the calls, are in `specs/Demands.antt` and proved by citation in `proofs/DemandsMet.antt`.
+#![tactic(auto)]
+
 mod expect;
 mod job;
 

@@ -1,5 +1,7 @@
 // Says what would have been taken where the events of standard input are refused under the schema of the file `schema.tab`. What it prints is
 // decided by `report_expected`; here is only the reading and the writing.
+#![tactic(auto)]
+
 ghost use Rattle.io.specs.Counts.{IsPrefixLen};
 
 use libc::{STDIN_FILENO, STDOUT_FILENO};
