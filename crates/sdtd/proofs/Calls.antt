@@ -214,6 +214,7 @@ TakenAll S e (x ∷ xs) = TakenAnswer S e x.call x.answer × TakenAll S (e ++ (x
 pub if_taken_lem : (a : Answer) (x : Event) → IsTaken a → if_taken a x ≡ x ∷ []
 if_taken_lem (typed j) x t = refl
 if_taken_lem taken x t = refl
+if_taken_lem (refused _) x t = elim t [ ]
 
 events_all : (S : Schema) (e : List Event) (xs : List Exchange) → TakenAll S e xs → events_taken xs ≡ calls xs
 events_all S e [] t = refl

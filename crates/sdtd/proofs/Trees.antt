@@ -66,14 +66,14 @@ module _ (h : ℕ → ℕ) where
   mutual
     -- the stream of a relabelled tree is the relabelled stream
     pub relabel-stream : (t : Tree) → stream (relabel h t) ≡ map (relabel_event h) (stream t)
-    relabel-stream (node κ a f) = rw (map-append, relabel_streams f)
+    relabel-stream (node κ a f) = rw (map-append (relabel_event h), relabel_streams f)
 
     relabel_streams : (f : Forest) → streams (relabel_all h f) ≡ map (relabel_event h) (streams f)
     relabel_streams empty = refl
-    relabel_streams (more t f) = rw (map-append, relabel-stream t, relabel_streams f)
+    relabel_streams (more t f) = rw (map-append (relabel_event h), relabel-stream t, relabel_streams f)
 
   pub relabel-document : (t : Tree) → document (relabel h t) ≡ map (relabel_event h) (document t)
-  relabel-document t = rw (map-append, relabel-stream t)
+  relabel-document t = rw (map-append (relabel_event h), relabel-stream t)
 
   pub label-relabel : (t : Tree) → label (relabel h t) ≡ h (label t)
   label-relabel (node κ a f) = refl
