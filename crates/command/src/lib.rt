@@ -41,6 +41,7 @@ pub enum Command {
 }
 
 // The command of document 02 that begins with the byte b at a place of the file: NIL, or one of an expression.
+#[tactic(auto, unfolding(crate::specs::Command::added_command))]
 fn added_command(file: &[u8], at: usize, b: u8) -> Command
     requires { at < length file.now }
     ensures { result ≡ added_command file.now at b }
@@ -73,6 +74,7 @@ fn added_command(file: &[u8], at: usize, b: u8) -> Command
 }
 
 // The command at a place of the file.
+#[tactic(auto, unfolding(crate::specs::Command::command_of, crate::specs::Command::added_command))]
 pub fn command_at(file: &[u8], at: usize) -> Command
     ensures { result ≡ command_at file.now at }
 {
