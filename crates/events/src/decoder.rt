@@ -33,6 +33,7 @@ pub enum EventKind {
 const PAST_TAGGED: u8 = 0x24;
 
 // The kind of the event at a place of the file.
+#[tactic(auto, unfolding(crate::specs::Events::event_from))]
 pub(crate) fn kind_at(events: &[u8], at: usize) -> EventKind
     ensures { result ≡ kind_of (event_at events.now at) }
 {
@@ -77,6 +78,7 @@ pub fn tag_at(events: &[u8], at: usize) -> Tag
 }
 
 // The event at a place of the file.
+#[tactic(auto, unfolding(crate::specs::Events::event_from))]
 pub(crate) fn event_at(events: &[u8], at: usize) -> FileEvent
     ensures { result ≡ event_at events.now at }
 {
