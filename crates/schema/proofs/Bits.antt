@@ -316,6 +316,7 @@ unfolding meet_below
 meet_finds (suc n) x y t =
     ⊎_elim (λ b. let m = (and_means (itself (member n x)) (itself (member n y))).says b in record { state = n; left = m.0; right = m.1 })
     (meet_finds n x y) ((or_means (itself (member n x && member n y)) (itself (meet_below n x y))).says t)
+meet_finds zero x y t = elim t [ ]
 
 meet_has : (n q x y : ℕ) → q < n → T (member q x) → T (member q y) → T (meet_below n x y)
 unfolding meet_below

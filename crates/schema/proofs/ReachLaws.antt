@@ -2,7 +2,7 @@
 use mathlib.Core.Path.{◌≡◌, refl, ◌∙◌}
 use mathlib.Core.Bool.{Bool, true, false, cond, ◌&&◌}
 use mathlib.Core.List.{List, [], ◌∷◌, Memᴰ}
-use Prim.Native.Nat.{ℕ, zero, suc, ◌+◌, ◌-◌, ◌%◌, ◌≤◌, ◌<◌}
+use Prim.Native.Nat.{ℕ, zero, suc, ◌+◌, ◌%◌, ◌≤◌, ◌<◌}
 use native.Mathlib.Decide.{ℕ_discrete, dec_lt}
 use native.Mathlib.Omega.{arith}
 use borrow.Author.Tests.{lt-ltb}
@@ -172,21 +172,21 @@ module _ {P : ℕ → Type 0} where
         → Kept P m → Grows P m (reach_steps bears forward live ss m)
     unfolding reach_steps
     steps_grow [] rule k = stays k
-    steps_grow (s ∷ ss) rule k =
+    steps_grow {m = m} (s ∷ ss) rule k =
         let g = step_grows s (rule s (Memᴰ.head refl)) k in
-        grows_then g (steps_grow ss (λ r i. rule r (Memᴰ.tail i)) g.kept)
+        grows_then g (steps_grow {m = after_step bears forward live s m} ss (λ r i. rule r (Memᴰ.tail i)) g.kept)
 
     -- the steps that reach their types mark them
     steps_take :
-        {m : Queued} {ss : List Step} {s : Step} → ((r : Step) → Memᴰ r ss → T (reaches bears forward live r) → P (r.by % most_types))
+        {s : Step} {m : Queued} {ss : List Step} → ((r : Step) → Memᴰ r ss → T (reaches bears forward live r) → P (r.by % most_types))
         → Kept P m → Memᴰ s ss → T (reaches bears forward live s) → IsMarked (reach_steps bears forward live ss m) (s.by % most_types)
     unfolding reach_steps
-    steps_take {m} {s = s} rule k (Memᴰ.head {x = r} {xs = ss} e) c =
+    steps_take {s = s} {m = m} rule k (Memᴰ.head {x = r} {xs = ss} e) c =
         let g = step_grows r (rule r (Memᴰ.head refl)) k in
         let t : IsMarked (after_step bears forward live r m) (s.by % most_types) = rw (← e) (step_takes s k c) in
         (steps_grow ss (λ x i. rule x (Memᴰ.tail i)) g.kept).marks (s.by % most_types) t
-    steps_take rule k (Memᴰ.tail {x = r} {xs = ss} i) c =
-        steps_take (λ x j. rule x (Memᴰ.tail j)) (step_grows r (rule r (Memᴰ.head refl)) k).kept i c
+    steps_take {m = m} rule k (Memᴰ.tail {x = r} {xs = ss} i) c =
+        steps_take {m = after_step bears forward live r m} (λ x j. rule x (Memᴰ.tail j)) (step_grows r (rule r (Memᴰ.head refl)) k).kept i c
 
   -- the types that a table marks have P
   module _ (marks : List Bool) (rule : (a : ℕ) → a < most_types → T (get_or marks a false) → P a) where
@@ -203,20 +203,20 @@ module _ {P : ℕ → Type 0} where
     pub marked_grow : {m : Queued} (a n : ℕ) → Kept P m → a + n ≤ most_types → Grows P m (join_marked marks a n m)
     unfolding join_marked
     marked_grow a zero k l = stays k
-    marked_grow a (suc n) k l =
+    marked_grow {m = m} a (suc n) k l =
         let g = mark_grows a (omega arith) k in
-        grows_then g (marked_grow (suc a) n g.kept (omega arith))
+        grows_then g (marked_grow {m = after_mark a m} (suc a) n g.kept (omega arith))
 
     -- they are marked in the queue
     pub marked_take : {m : Queued} (a n : ℕ) → Kept P m → a + n ≤ most_types
         → (b : ℕ) → a ≤ b → b < a + n → T (get_or marks b false) → IsMarked (join_marked marks a n m) b
     unfolding join_marked
     marked_take a zero k l b from to t = absurd (omega arith)
-    marked_take {m} a (suc n) k l b from to t =
+    marked_take {m = m} a (suc n) k l b from to t =
         let g = mark_grows a (omega arith) k in
         elim (ℕ_discrete b a) [
-          | yes e ↦ rw e ((marked_grow (suc a) n g.kept (omega arith)).marks a (mark_takes a (omega arith) k (rw e at t)))
-          | no d ↦ marked_take (suc a) n g.kept (omega arith) b (omega arith) (omega arith) t
+          | yes e ↦ rw e ((marked_grow {m = after_mark a m} (suc a) n g.kept (omega arith)).marks a (mark_takes a (omega arith) k (rw e at t)))
+          | no d ↦ marked_take {m = after_mark a m} (suc a) n g.kept (omega arith) b (omega arith) (omega arith) t
         ]
 
 none_counted : (n : ℕ) → count (replicate n false) ≡ 0

@@ -82,7 +82,7 @@ module _ (bears : List ℕ) where
 
   -- a step by a tree-bearing type with its state `to` in the set takes its state `from` in
   set_takes :
-      {ss : List Step} {s : Step} (x : ℕ) → x < 2 ^ most_states → Memᴰ s ss → s.from < most_states → T (by_bearing bears s)
+      {s : Step} {ss : List Step} (x : ℕ) → x < 2 ^ most_states → Memᴰ s ss → s.from < most_states → T (by_bearing bears s)
       → T (member s.to x) → T (member s.from (spread_set bears ss x))
   unfolding spread_set
   set_takes {s = s} x b (Memᴰ.head {x = r} {xs = ss} e) f h m =

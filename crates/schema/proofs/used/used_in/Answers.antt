@@ -1,0 +1,27 @@
+-- `schema::used::used_in` meets its contract. The loop's invariant: the table so far is that of the types below `a`.
+use Prim.Native.Nat.{◌≤◌, ◌<◌}
+use mathlib.Core.Path.{◌≡◌, sym, ◌∙◌}
+use mathlib.Core.Bool.{false}
+use mathlib.Core.List.{append-nil}
+use native.Mathlib.Omega.{arith}
+use lib.ListN.{length}
+use lib.Seq.{take_all}
+use Rattle.sdtd.specs.Limits.{most_types}
+use Rattle.schema.specs.Trimming.{used_in}
+use Rattle.schema.proofs.Rounds.{fill_next}
+use Rattle.schema.proofs.UsedTables.{used_long, used_at}
+use Rattle.schema.proofs.used.used_in.Goals as goal
+
+pub loop-a-preserved : goal.loop-a-preserved
+loop-a-preserved c =
+    let t = c.args.trimming in
+    let l : c.loop-a.a < length (used_in t) = rw (used_long t) (omega arith) in
+    let e = sym (used_at t c.loop-a.a (omega arith)) in
+    (omega arith, rw (c.loop-a.invariant.1, c.opens.ensures, e) (fill_next (used_in t) c.loop-a.a most_types false false l (omega arith)))
+
+pub returns : goal.returns
+returns c =
+    let t = c.args.trimming in
+    let e : c.loop-a.a ≡ most_types = omega arith in
+    let l : length (used_in t) ≤ most_types = rw (used_long t) (omega arith) in
+    c.loop-a.invariant.1 ∙ rw (e, take_all most_types (used_in t) l) (append-nil (used_in t))
