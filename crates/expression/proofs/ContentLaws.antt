@@ -27,7 +27,7 @@ use Rattle.expression.specs.Automaton.{uses}
 use Rattle.expression.specs.Content.{Name, broken, whole, content_at, no_level, choice_of}
 use Rattle.expression.specs.Expression.{Expression, empty_word, single, sequence, choice, repeat}
 use Rattle.expression.specs.Parsing.{ending, so_far, scan, put_back, Tables, tables, ReadAs, ChoiceWhole, ChoiceSays}
-use Rattle.expression.specs.Tests.{nullable, first, last, follow, leads, accepts}
+use Rattle.expression.specs.Tests.{nullable, last, follow, leads, accepts}
 use Rattle.expression.specs.declared.content.Automaton.{Automaton}
 use Rattle.expression.specs.declared.sets.Parsed.{Parsed}
 use Rattle.expression.proofs.CommandTests.{is_end, ending_is}

@@ -10,7 +10,7 @@ use Rattle.schema.specs.States.{member, insert, no_states}
 use Rattle.expression.specs.Automaton.{uses}
 use Rattle.expression.specs.Content.{Name}
 use Rattle.expression.specs.Expression.{Expression, empty_word, single, sequence, choice, repeat}
-use Rattle.expression.specs.Tests.{nullable, first, last, follow}
+use Rattle.expression.specs.Tests.{first, last, follow}
 use Rattle.expression.specs.Parsing.{put_back, Tables, tables, parsed, then_by, or_by, closed_by, again_by, Linked, ReadAs}
 use Rattle.expression.specs.declared.sets.Parsed.{Parsed}
 use Rattle.expression.proofs.SetLaws.{member_zero, member_or, member-beyond, member_own}

@@ -25,6 +25,7 @@ fn has_byte(file: &[u8], at: usize, b: u8) -> bool
 }
 
 // What the command at a place begins.
+#[tactic(auto, unfolding(command::specs::Command::command_of, command::specs::Command::added_command))]
 pub(crate) fn opens(file: &[u8], at: usize) -> Opening
     ensures { result ≡ opening (command_at file.now at) }
 {
@@ -45,6 +46,7 @@ pub(crate) fn opens(file: &[u8], at: usize) -> Opening
 }
 
 // Is the command at a place 33?
+#[tactic(auto, unfolding(command::specs::Command::command_of, command::specs::Command::added_command))]
 pub(crate) fn divides(file: &[u8], at: usize) -> bool
     ensures { result ≡ dividing (command_at file.now at) }
 {
@@ -52,6 +54,7 @@ pub(crate) fn divides(file: &[u8], at: usize) -> bool
 }
 
 // Is it 34?
+#[tactic(auto, unfolding(command::specs::Command::command_of, command::specs::Command::added_command))]
 pub(crate) fn repeats(file: &[u8], at: usize) -> bool
     ensures { result ≡ repeating (command_at file.now at) }
 {
@@ -90,6 +93,7 @@ pub(crate) fn ends(command: Command, inside: bool) -> u8
 }
 
 // The number that the command at a place gets where the choice in a bracket ends. The 31 is asked for first: it mostly stands there.
+#[tactic(auto, unfolding(command::specs::Command::command_of, command::specs::Command::added_command))]
 pub(crate) fn ends_bracket(file: &[u8], at: usize) -> u8
     ensures { result ≡ ending true (command_at file.now at) }
 {
