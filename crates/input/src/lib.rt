@@ -1,8 +1,9 @@
 // Reading into a lent buffer, as far as it and the input reach.
 #![tactic(auto)]
 
-ghost use Rattle.std.specs.Prelude.{◌≡◌, ◌≤◌, length, take};
+ghost use Rattle.std.specs.Prelude.{take};
 ghost use Rattle.std.specs.Io.KnownBytes.{Consumes};
+ghost use Rattle.input.specs.Counts.{IsPrefixLen};
 
 use std::fs::File;
 use std::io::Read;
@@ -11,7 +12,7 @@ use std::rt::Files;
 // Reads until the buffer is full, the input ends or a read fails, and gives how many bytes stand at the buffer's start: the first that the reader had.
 // A read that a signal interrupts counts as one that fails. With no room nothing is read.
 pub fn read_full<R: Read>(reader: &mut R, buf: &mut [u8]) -> usize
-    ensures within { result ≤ length buf.new }
+    ensures within { IsPrefixLen result buf.new }
     ensures bytes { Consumes (R.remaining reader.old) (R.remaining reader.new) (take result buf.new) }
 {
     let mut done = 0;
@@ -26,7 +27,7 @@ pub fn read_full<R: Read>(reader: &mut R, buf: &mut [u8]) -> usize
 
 // Reads the start of the file at the path: no bytes where it is missing or cannot be opened; where reading fails, the bytes so far.
 pub fn read_start(files: &impl Files, path: &str, buf: &mut [u8]) -> usize
-    ensures within { result ≤ length buf.new }
+    ensures within { IsPrefixLen result buf.new }
 {
     match File::open(files, path) {
         Ok(mut file) => read_full(&mut file, buf),

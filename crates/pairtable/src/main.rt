@@ -5,8 +5,9 @@ ghost use Rattle.text.specs.Laid.{Laid};
 ghost use Rattle.pairs.specs.Table.{PairTable};
 ghost use Rattle.pairtable.specs.Lines.{line_of, lines_of, TextOf};
 
-use libc::STDOUT_FILENO;
 use pairs::{ORDERED_PAIRS, PAIR_NUMBERS};
+use std::io;
+use std::io::Print;
 use text::{LINE_END, put_byte, put_decimal};
 
 // Of each number at most three digits, since it is below 528, and a line end.
@@ -50,9 +51,9 @@ fn table_text(numbers: [u16; ORDERED_PAIRS]) -> Text
     Text { bytes, length }
 }
 
-fn main() {
+fn main(rt: HostRuntime) -> io::Result<()> {
     let text = table_text(PAIR_NUMBERS);
     let bytes = text.bytes;
     let length = text.length;
-    io::write_all(STDOUT_FILENO, &bytes[..length]);
+    rt.write_all(&bytes[..length])
 }

@@ -5,11 +5,13 @@
 ghost use Rattle.text.specs.Laid.{Laid};
 ghost use Rattle.trimschema.specs.Line.{refused_line};
 
-use libc::{STDERR_FILENO, STDIN_FILENO, STDOUT_FILENO};
+use input::read_full;
 use report::MOST_SCHEMA;
 use schema::{STATES, STEPS, TYPES};
 use schema_writer::write_reduced;
 use sdtd::FileWritten;
+use std::io;
+use std::io::{Print, Stderr};
 use text::{LINE_END, put_byte, put_bytes, put_decimal};
 
 // What blocks that are written by their states can have: a FINAL of two bytes for each state of each type, and every STEP, of four.
@@ -30,21 +32,19 @@ fn put_refused(out: &mut [u8], number: u8) -> usize
     put_byte(out, digits, LINE_END)
 }
 
-fn tell_refused(number: u8) {
+fn tell_refused(stderr: Stderr, number: u8) -> io::Result<()> {
     let mut line = [0u8; LINE];
     let n = put_refused(&mut line, number);
-    io::write_all(STDERR_FILENO, &line[..n]);
+    stderr.write_all(&line[..n])
 }
 
-fn main() {
+fn main(rt: HostRuntime) -> io::Result<()> {
     let mut file = [0u8; MOST_SCHEMA];
     let mut out = [0u8; OUTPUT];
-    let n = io::read_full(STDIN_FILENO, &mut file);
+    let n = read_full(&mut rt.stdin(), &mut file);
     let written = write_reduced(&file[..n], &mut out);
     match written {
-        FileWritten::Length(length) => {
-            io::write_all(STDOUT_FILENO, &out[..length]);
-        }
-        FileWritten::Refused(number) => tell_refused(number),
+        FileWritten::Length(length) => rt.write_all(&out[..length]),
+        FileWritten::Refused(number) => tell_refused(rt.stderr(), number),
     }
 }
