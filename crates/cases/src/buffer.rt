@@ -3,6 +3,7 @@ ghost use Rattle.std.specs.Prelude.{◌^◌, ◌<◌};
 
 use crate::show::{long, next_number, number, text, wide};
 use competition::WORD_PLACE;
+use std::io::Stdout;
 
 // The number of a competition, on which a witness fills the buffer's first bytes.
 pub(crate) const COMPETES: u8 = 9;
@@ -47,40 +48,40 @@ fn first_change(out: &[u8], start: usize) -> usize {
 }
 
 // Whether the bytes from `start` on are as they were.
-pub(crate) fn show_kept(out: &[u8], start: usize) {
+pub(crate) fn show_kept(stdout: Stdout, out: &[u8], start: usize) {
     let at = first_change(out, start);
     if at < out.len() {
-        text(b" | changed at ");
-        number(long(at));
+        text(stdout, b" | changed at ");
+        number(stdout, long(at));
     } else {
-        text(b" | kept");
+        text(stdout, b" | kept");
     }
 }
 
 // The bytes from `start` up to `end`.
-pub(crate) fn show_bytes(bytes: &[u8], start: usize, end: usize) {
+pub(crate) fn show_bytes(stdout: Stdout, bytes: &[u8], start: usize, end: usize) {
     let mut i = start;
     while i < end {
-        next_number(wide(byte_at(bytes, i)));
+        next_number(stdout, wide(byte_at(bytes, i)));
         i += 1;
     }
 }
 
 // Whether the bytes past the witness are as they were; and the witness, with the length of its word as one number.
-fn show_competition(out: &[u8]) {
+fn show_competition(stdout: Stdout, out: &[u8]) {
     let n = two(byte_at(out, 3), byte_at(out, 4));
-    show_kept(out, WORD_PLACE + n);
-    text(b" |");
-    show_bytes(out, 0, 3);
-    next_number(long(n));
-    show_bytes(out, WORD_PLACE, WORD_PLACE + n);
+    show_kept(stdout, out, WORD_PLACE + n);
+    text(stdout, b" |");
+    show_bytes(stdout, out, 0, 3);
+    next_number(stdout, long(n));
+    show_bytes(stdout, out, WORD_PLACE, WORD_PLACE + n);
 }
 
 // The witness buffer beside an answer of this number.
-pub(crate) fn show_witness(answer: u8, out: &[u8]) {
+pub(crate) fn show_witness(stdout: Stdout, answer: u8, out: &[u8]) {
     if answer == COMPETES {
-        show_competition(out);
+        show_competition(stdout, out);
     } else {
-        show_kept(out, 0);
+        show_kept(stdout, out, 0);
     }
 }

@@ -14,6 +14,7 @@ use crate::show::{number, show_verdict, text, wide};
 use reading::{EventAnswer, Next, Reading};
 use schema::Schema;
 use sdtd::Tag;
+use std::io::Stdout;
 
 // The call that the byte names.
 fn call(schema: Schema, reading: Reading, which: u8, tag: Tag) -> Next {
@@ -29,29 +30,29 @@ fn call(schema: Schema, reading: Reading, which: u8, tag: Tag) -> Next {
     }
 }
 
-fn show_event(answer: EventAnswer) {
+fn show_event(stdout: Stdout, answer: EventAnswer) {
     match answer {
         EventAnswer::Typed(j) => {
-            text(b" t");
-            number(wide(j.0));
+            text(stdout, b" t");
+            number(stdout, wide(j.0));
         }
-        EventAnswer::Taken => text(b" ok"),
+        EventAnswer::Taken => text(stdout, b" ok"),
         EventAnswer::Refused(n) => {
-            text(b" r");
-            number(wide(n));
+            text(stdout, b" r");
+            number(stdout, wide(n));
         }
     }
 }
 
 // A call, with its answer and what it changed.
-fn run_call(held: Held, which: u8, tag: Tag) -> Held {
+fn run_call(stdout: Stdout, held: Held, which: u8, tag: Tag) -> Held {
     let schema = held.schema;
     let before = held.reading;
     let next = call(schema, before, which, tag);
     let answer = next.answer;
     let after = next.reading;
-    show_event(answer);
-    show_changes(before, after);
+    show_event(stdout, answer);
+    show_changes(stdout, before, after);
     Held {
         schema,
         reading: after,
@@ -59,40 +60,40 @@ fn run_call(held: Held, which: u8, tag: Tag) -> Held {
 }
 
 // An entry put, with what it changed in the reading.
-fn run_put(held: Held, item: &[u8]) -> Held {
+fn run_put(stdout: Stdout, held: Held, item: &[u8]) -> Held {
     let before = held.reading;
     let made = make_up(held, item);
     let after = made.reading;
-    text(b" put");
-    show_changes(before, after);
+    text(stdout, b" put");
+    show_changes(stdout, before, after);
     made
 }
 
-fn run_item(held: Held, item: &[u8]) -> Held {
+fn run_item(stdout: Stdout, held: Held, item: &[u8]) -> Held {
     let which = byte_at(item, 0);
     if is_call(which) {
-        return run_call(held, which, Tag(byte_at(item, 1)));
+        return run_call(stdout, held, which, Tag(byte_at(item, 1)));
     }
-    run_put(held, item)
+    run_put(stdout, held, item)
 }
 
-fn run_items(start: Held, items: &[u8]) {
+fn run_items(stdout: Stdout, start: Held, items: &[u8]) {
     let mut held = start;
     let mut at: usize = 0;
     while at < items.len() {
         let end = past(items, at);
-        held = run_item(held, &items[at..end]);
+        held = run_item(stdout, held, &items[at..end]);
         at = end;
     }
 }
 
-pub(crate) fn run(file: &[u8], items: &[u8]) {
+pub(crate) fn run(stdout: Stdout, file: &[u8], items: &[u8]) {
     let found = read_schema(file);
     let answer = found.answer;
     let schema = found.schema;
     let reading = Reading::fresh();
-    show_verdict(answer);
-    show_changes(blank(), reading);
-    run_items(Held { schema, reading }, items);
-    text(b"\n");
+    show_verdict(stdout, answer);
+    show_changes(stdout, blank(), reading);
+    run_items(stdout, Held { schema, reading }, items);
+    text(stdout, b"\n");
 }

@@ -1,6 +1,7 @@
 // What a call or an entry put changed in a reading, written to standard output.
 use crate::show::{long, number, text, wide};
 use reading::{LEVELS, Reading};
+use std::io::Stdout;
 
 // A reading of zeros, made here.
 pub(crate) fn blank() -> Reading {
@@ -13,34 +14,34 @@ pub(crate) fn blank() -> Reading {
     }
 }
 
-fn separate(some: bool) {
+fn separate(stdout: Stdout, some: bool) {
     if some {
-        text(b",");
+        text(stdout, b",");
     } else {
-        text(b"(");
+        text(stdout, b"(");
     }
 }
 
 // The change of one number: its name, for a level its index, and the new value. True where this change, or one before, is shown.
-fn show_number(some: bool, name: &[u8], old: u64, new: u64) -> bool {
+fn show_number(stdout: Stdout, some: bool, name: &[u8], old: u64, new: u64) -> bool {
     if old == new {
         return some;
     }
-    separate(some);
-    text(name);
-    number(new);
+    separate(stdout, some);
+    text(stdout, name);
+    number(stdout, new);
     true
 }
 
-fn show_entry(some: bool, name: &[u8], n: usize, old: u64, new: u64) -> bool {
+fn show_entry(stdout: Stdout, some: bool, name: &[u8], n: usize, old: u64, new: u64) -> bool {
     if old == new {
         return some;
     }
-    separate(some);
-    text(name);
-    number(long(n));
-    text(b"=");
-    number(new);
+    separate(stdout, some);
+    text(stdout, name);
+    number(stdout, long(n));
+    text(stdout, b"=");
+    number(stdout, new);
     true
 }
 
@@ -52,23 +53,23 @@ fn word(n: u32) -> u64 {
     n as u64
 }
 
-fn show_level(some: bool, before: Reading, after: Reading, n: usize) -> bool {
+fn show_level(stdout: Stdout, some: bool, before: Reading, after: Reading, n: usize) -> bool {
     if LEVELS <= n {
         return some;
     }
     let old = before.types;
     let new = after.types;
-    let more = show_entry(some, b"t", n, wide(old[n]), wide(new[n]));
+    let more = show_entry(stdout, some, b"t", n, wide(old[n]), wide(new[n]));
     let old_sets = before.sets;
     let new_sets = after.sets;
-    show_entry(more, b"s", n, word(old_sets[n]), word(new_sets[n]))
+    show_entry(stdout, more, b"s", n, word(old_sets[n]), word(new_sets[n]))
 }
 
-fn show_levels(some: bool, before: Reading, after: Reading) -> bool {
+fn show_levels(stdout: Stdout, some: bool, before: Reading, after: Reading) -> bool {
     let mut shown = some;
     let mut n: usize = 0;
     while n < LEVELS {
-        shown = show_level(shown, before, after, n);
+        shown = show_level(stdout, shown, before, after, n);
         n += 1;
     }
     shown
@@ -76,11 +77,11 @@ fn show_levels(some: bool, before: Reading, after: Reading) -> bool {
 
 // What the reading after holds and the one before did not: d the depth, r and f for rooted and finished, tN and sN the type and the
 // set of the level of index N, open or not.
-pub(crate) fn show_changes(before: Reading, after: Reading) {
-    let d = show_number(false, b"d", wide(before.depth), wide(after.depth));
-    let r = show_number(d, b"r", flag(before.rooted), flag(after.rooted));
-    let f = show_number(r, b"f", flag(before.finished), flag(after.finished));
-    if show_levels(f, before, after) {
-        text(b")");
+pub(crate) fn show_changes(stdout: Stdout, before: Reading, after: Reading) {
+    let d = show_number(stdout, false, b"d", wide(before.depth), wide(after.depth));
+    let r = show_number(stdout, d, b"r", flag(before.rooted), flag(after.rooted));
+    let f = show_number(stdout, r, b"f", flag(before.finished), flag(after.finished));
+    if show_levels(stdout, f, before, after) {
+        text(stdout, b")");
     }
 }

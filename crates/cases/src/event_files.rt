@@ -5,21 +5,22 @@ use crate::buffer::{show_bytes, show_kept};
 use crate::schema_files::read_schema;
 use crate::show::{long, next_number, number, show_verdict, text, wide};
 use reading::read_events;
+use std::io::Stdout;
 
-pub(crate) fn run(file: &[u8], events: &[u8], out: &mut [u8]) {
+pub(crate) fn run(stdout: Stdout, file: &[u8], events: &[u8], out: &mut [u8]) {
     let found = read_schema(file);
     let verdict = found.answer;
     let schema = found.schema;
-    show_verdict(verdict);
+    show_verdict(stdout, verdict);
     let answer = read_events(schema, events, out);
-    text(b" | ");
-    number(wide(answer.number));
-    text(b" at");
-    next_number(long(answer.place));
-    text(b" |");
+    text(stdout, b" | ");
+    number(stdout, wide(answer.number));
+    text(stdout, b" at");
+    next_number(stdout, long(answer.place));
+    text(stdout, b" |");
     let count = answer.count;
-    next_number(long(count));
-    show_bytes(out, 0, count);
-    show_kept(out, count);
-    text(b"\n");
+    next_number(stdout, long(count));
+    show_bytes(stdout, out, 0, count);
+    show_kept(stdout, out, count);
+    text(stdout, b"\n");
 }

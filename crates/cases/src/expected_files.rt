@@ -9,6 +9,7 @@ use crate::schema_values::value_of;
 use crate::show::{long, next_number, number, show_verdict, text, wide};
 use expected::{Expected, OPENINGS, expect_next};
 use reading::LEVELS;
+use std::io::Stdout;
 
 // So many bytes, or all of them.
 fn cut(bytes: &[u8], n: usize) -> usize
@@ -18,19 +19,19 @@ fn cut(bytes: &[u8], n: usize) -> usize
 }
 
 // An open element's type; false where it is none and not 0.
-fn show_type(used: bool, type_no: u8) -> bool {
+fn show_type(stdout: Stdout, used: bool, type_no: u8) -> bool {
     if used {
-        next_number(wide(type_no));
+        next_number(stdout, wide(type_no));
     }
     used || type_no == 0
 }
 
 // The types of the open elements; false where an entry past them is not 0.
-fn show_types(types: [u8; LEVELS], depth: usize) -> bool {
+fn show_types(stdout: Stdout, types: [u8; LEVELS], depth: usize) -> bool {
     let mut rest = true;
     let mut i = 0;
     while i < LEVELS {
-        let fine = show_type(i < depth, types[i]);
+        let fine = show_type(stdout, i < depth, types[i]);
         rest = rest && fine;
         i += 1;
     }
@@ -38,69 +39,77 @@ fn show_types(types: [u8; LEVELS], depth: usize) -> bool {
 }
 
 // An opening that is listed; false where it is none and not 0.
-fn show_opening(used: bool, tag: u8, nil: bool) -> bool {
+fn show_opening(stdout: Stdout, used: bool, tag: u8, nil: bool) -> bool {
     if !used {
         return tag == 0 && !nil;
     }
     if nil {
-        text(b" n");
+        text(stdout, b" n");
     } else {
-        text(b" o");
+        text(stdout, b" o");
     }
-    number(wide(tag));
+    number(stdout, wide(tag));
     true
 }
 
 // The openings that are listed; false where an entry past them is not 0.
-fn show_openings(tags: [u8; OPENINGS], nils: [bool; OPENINGS], count: usize) -> bool {
+fn show_openings(
+    stdout: Stdout,
+    tags: [u8; OPENINGS],
+    nils: [bool; OPENINGS],
+    count: usize,
+) -> bool {
     let mut rest = true;
     let mut i = 0;
     while i < OPENINGS {
-        let fine = show_opening(i < count, tags[i], nils[i]);
+        let fine = show_opening(stdout, i < count, tags[i], nils[i]);
         rest = rest && fine;
         i += 1;
     }
     rest
 }
 
-fn show_ends(closes: bool, finishes: bool) {
-    text(b" |");
+fn show_ends(stdout: Stdout, closes: bool, finishes: bool) {
+    text(stdout, b" |");
     if closes {
-        text(b" close");
+        text(stdout, b" close");
     }
     if finishes {
-        text(b" finish");
+        text(stdout, b" finish");
     }
 }
 
-fn show_rest(rest: bool) {
+fn show_rest(stdout: Stdout, rest: bool) {
     if rest {
-        text(b" | 0\n");
+        text(stdout, b" | 0\n");
     } else {
-        text(b" | not 0\n");
+        text(stdout, b" | not 0\n");
     }
 }
 
-fn show_expected(e: Expected) {
+fn show_expected(stdout: Stdout, e: Expected) {
     let types = e.types;
     let tags = e.tags;
     let nils = e.nils;
-    text(b" | ");
-    number(wide(e.number));
-    text(b" at");
-    next_number(long(e.place));
-    text(b" |");
-    let past_types = show_types(types, e.depth);
-    text(b" |");
-    let past_openings = show_openings(tags, nils, e.count);
-    show_ends(e.closes, e.finishes);
-    show_rest(past_types && past_openings);
+    text(stdout, b" | ");
+    number(stdout, wide(e.number));
+    text(stdout, b" at");
+    next_number(stdout, long(e.place));
+    text(stdout, b" |");
+    let past_types = show_types(stdout, types, e.depth);
+    text(stdout, b" |");
+    let past_openings = show_openings(stdout, tags, nils, e.count);
+    show_ends(stdout, e.closes, e.finishes);
+    show_rest(stdout, past_types && past_openings);
 }
 
-pub(crate) fn run(file: &[u8], second: &[u8], puts: usize) {
+pub(crate) fn run(stdout: Stdout, file: &[u8], second: &[u8], puts: usize) {
     let found = read_schema(file);
     let verdict = found.answer;
     let n = cut(second, puts);
-    show_verdict(verdict);
-    show_expected(expect_next(value_of(file, &second[..n]), &second[n..]));
+    show_verdict(stdout, verdict);
+    show_expected(
+        stdout,
+        expect_next(value_of(file, &second[..n]), &second[n..]),
+    );
 }

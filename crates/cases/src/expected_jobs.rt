@@ -2,10 +2,11 @@
 // and then a line `--`.
 use crate::show::text;
 use report::{EXPECTED_OUTPUT, report_expected};
+use std::io::Stdout;
 
-pub(crate) fn run(file: &[u8], events: &[u8]) {
+pub(crate) fn run(stdout: Stdout, file: &[u8], events: &[u8]) {
     let mut out = [0u8; EXPECTED_OUTPUT];
     let n = report_expected(file, events, &mut out);
-    text(&out[..n]);
-    text(b"--\n");
+    text(stdout, &out[..n]);
+    text(stdout, b"--\n");
 }

@@ -2,10 +2,11 @@
 // line `--`.
 use crate::show::text;
 use report::{OUTPUT, report};
+use std::io::Stdout;
 
-pub(crate) fn run(file: &[u8], events: &[u8]) {
+pub(crate) fn run(stdout: Stdout, file: &[u8], events: &[u8]) {
     let mut out = [0u8; OUTPUT];
     let n = report(file, events, &mut out);
-    text(&out[..n]);
-    text(b"--\n");
+    text(stdout, &out[..n]);
+    text(stdout, b"--\n");
 }

@@ -22,6 +22,8 @@ mod written_files;
 
 use crate::buffer::{fill, two};
 use crate::show::text;
+use input::read_full;
+use std::io::{Stdin, Stdout};
 
 // The most cases.
 const CASES: u32 = 0x20000;
@@ -34,64 +36,80 @@ const HEAD: usize = 7;
 
 const END: u8 = 0;
 
-const INPUT: i32 = 0;
-
 // Writes what the call of this kind answers; false where there is no such kind.
-fn answer(kind: u8, first: &[u8], second: &[u8], out: &mut [u8]) -> bool {
+fn answer(stdout: Stdout, kind: u8, first: &[u8], second: &[u8], out: &mut [u8]) -> bool {
     fill(out);
     match kind {
-        b'S' => schema_files::run(first, out),
-        b'W' => written_files::run(first, out),
-        b'V' => schema_values::run(first, second, out),
-        b'C' => call_lists::run(first, second),
-        b'E' => event_files::run(first, second, out),
-        b'J' => jobs::run(first, second),
-        b'N' => expected_files::run(first, second, out.len()),
-        b'X' => expected_jobs::run(first, second),
-        b'P' => states::run_pair(first),
-        b'Q' => states::run_set(first),
+        b'S' => schema_files::run(stdout, first, out),
+        b'W' => written_files::run(stdout, first, out),
+        b'V' => schema_values::run(stdout, first, second, out),
+        b'C' => call_lists::run(stdout, first, second),
+        b'E' => event_files::run(stdout, first, second, out),
+        b'J' => jobs::run(stdout, first, second),
+        b'N' => expected_files::run(stdout, first, second, out.len()),
+        b'X' => expected_jobs::run(stdout, first, second),
+        b'P' => states::run_pair(stdout, first),
+        b'Q' => states::run_set(stdout, first),
         _ => return false,
     }
     true
 }
 
 // Reads the two strings of a case and runs it; false where the input ends before them.
-fn run_case(kind: u8, first: &mut [u8], second: &mut [u8], out: &mut [u8]) -> bool {
-    let n = io::read_full(INPUT, first);
-    let m = io::read_full(INPUT, second);
+fn run_case(
+    stdin: &mut Stdin,
+    stdout: Stdout,
+    kind: u8,
+    first: &mut [u8],
+    second: &mut [u8],
+    out: &mut [u8],
+) -> bool {
+    let n = read_full(stdin, first);
+    let m = read_full(stdin, second);
     if n < first.len() {
         return false;
     }
     if m < second.len() {
         return false;
     }
-    answer(kind, first, second, out)
+    answer(stdout, kind, first, second, out)
 }
 
 // Runs the next case; false at the end of the cases.
-fn next_case() -> bool {
+fn next_case(stdin: &mut Stdin, stdout: Stdout) -> bool {
     let mut head = [0u8; HEAD];
     let mut first = [0u8; LONGEST];
     let mut second = [0u8; LONGEST];
     let mut out = [0u8; LONGEST];
-    let got = io::read_full(INPUT, &mut head);
+    let got = read_full(stdin, &mut head);
     let room = two(head[1], head[2]);
     let n = two(head[3], head[4]);
     let m = two(head[5], head[6]);
     if got == HEAD && head[0] == END {
-        text(b"end\n");
+        text(stdout, b"end\n");
         return false;
     }
-    if got == HEAD && run_case(head[0], &mut first[..n], &mut second[..m], &mut out[..room]) {
+    if got == HEAD
+        && run_case(
+            stdin,
+            stdout,
+            head[0],
+            &mut first[..n],
+            &mut second[..m],
+            &mut out[..room],
+        )
+    {
         return true;
     }
-    text(b"no case\n");
+    text(stdout, b"no case\n");
     false
 }
 
-fn main() {
+fn main(rt: HostRuntime) {
+    let mut stdin = rt.stdin();
+    let stdout = rt.stdout();
     let mut case: u32 = 0;
-    while case < CASES && next_case() {
+    while case < CASES && next_case(&mut stdin, stdout) {
         case += 1;
     }
 }

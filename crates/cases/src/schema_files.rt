@@ -8,6 +8,7 @@ use crate::show::{next_number, number_of, show_verdict, text, wide};
 use competition::LEAST_WITNESS;
 use schema::{ROOTS, STEPS, Schema, TYPES};
 use schema_file::{SchemaFile, read};
+use std::io::Stdout;
 
 // The schema file's answer, with a witness buffer of its own.
 pub(crate) fn read_schema(file: &[u8]) -> SchemaFile {
@@ -16,21 +17,21 @@ pub(crate) fn read_schema(file: &[u8]) -> SchemaFile {
 }
 
 // A root, or the first entry where there is none; false where it is no root of the schema and not 0.
-fn show_root(used: bool, first: bool, a: u8) -> bool {
+fn show_root(stdout: Stdout, used: bool, first: bool, a: u8) -> bool {
     if used || first {
-        next_number(wide(a));
+        next_number(stdout, wide(a));
     }
     used || a == 0
 }
 
 // The roots; false where an entry past them is not 0, or there are types and no root or roots and no type.
-fn show_roots(schema: Schema) -> bool {
+fn show_roots(stdout: Stdout, schema: Schema) -> bool {
     let root = schema.root;
     let roots = schema.roots as usize;
     let mut rest = (roots == 0) == (schema.types == 0);
     let mut i = 0;
     while i < ROOTS {
-        let fine = show_root(i < roots, i == 0, root[i]);
+        let fine = show_root(stdout, i < roots, i == 0, root[i]);
         rest = rest && fine;
         i += 1;
     }
@@ -38,15 +39,23 @@ fn show_roots(schema: Schema) -> bool {
 }
 
 // The entries of one type; false where it is no type of the schema and one is not 0.
-fn show_type(used: bool, tag: u8, states: u8, accepting: u32, nillable: bool, steps: u16) -> bool {
+fn show_type(
+    stdout: Stdout,
+    used: bool,
+    tag: u8,
+    states: u8,
+    accepting: u32,
+    nillable: bool,
+    steps: u16,
+) -> bool {
     if used {
-        text(b";");
-        next_number(wide(tag));
-        next_number(wide(states));
-        next_number(accepting as u64);
-        next_number(steps as u64);
+        text(stdout, b";");
+        next_number(stdout, wide(tag));
+        next_number(stdout, wide(states));
+        next_number(stdout, accepting as u64);
+        next_number(stdout, steps as u64);
         if nillable {
-            text(b" nil");
+            text(stdout, b" nil");
         }
         return true;
     }
@@ -54,7 +63,7 @@ fn show_type(used: bool, tag: u8, states: u8, accepting: u32, nillable: bool, st
 }
 
 // The entries of each type; false where one past the types is not 0.
-fn show_types(schema: Schema) -> bool {
+fn show_types(stdout: Stdout, schema: Schema) -> bool {
     let tag = schema.tag;
     let states = schema.states;
     let accepting = schema.accepting;
@@ -65,6 +74,7 @@ fn show_types(schema: Schema) -> bool {
     let mut a = 0;
     while a < TYPES {
         let fine = show_type(
+            stdout,
             a < types,
             tag[a],
             states[a],
@@ -79,26 +89,26 @@ fn show_types(schema: Schema) -> bool {
 }
 
 // The entries of one step; false where it is no step of the schema and one is not 0.
-fn show_step(used: bool, from: u8, by: u8, to: u8) -> bool {
+fn show_step(stdout: Stdout, used: bool, from: u8, by: u8, to: u8) -> bool {
     if used {
-        text(b";");
-        next_number(wide(from));
-        next_number(wide(by));
-        next_number(wide(to));
+        text(stdout, b";");
+        next_number(stdout, wide(from));
+        next_number(stdout, wide(by));
+        next_number(stdout, wide(to));
         return true;
     }
     from == 0 && by == 0 && to == 0
 }
 
 // The entries of each step; false where one past the steps is not 0.
-fn show_steps(schema: Schema, count: usize) -> bool {
+fn show_steps(stdout: Stdout, schema: Schema, count: usize) -> bool {
     let from = schema.from;
     let by = schema.by;
     let to = schema.to;
     let mut rest = true;
     let mut i = 0;
     while i < STEPS {
-        let fine = show_step(i < count, from[i], by[i], to[i]);
+        let fine = show_step(stdout, i < count, from[i], by[i], to[i]);
         rest = rest && fine;
         i += 1;
     }
@@ -123,28 +133,28 @@ fn steps_in_all(schema: Schema) -> usize {
     count
 }
 
-fn show_schema(schema: Schema) {
-    text(b" | tags");
-    next_number(wide(schema.tags));
-    text(b" types");
-    next_number(wide(schema.types));
-    text(b" root");
-    let roots = show_roots(schema);
-    let types = show_types(schema);
-    let steps = show_steps(schema, steps_in_all(schema));
+fn show_schema(stdout: Stdout, schema: Schema) {
+    text(stdout, b" | tags");
+    next_number(stdout, wide(schema.tags));
+    text(stdout, b" types");
+    next_number(stdout, wide(schema.types));
+    text(stdout, b" root");
+    let roots = show_roots(stdout, schema);
+    let types = show_types(stdout, schema);
+    let steps = show_steps(stdout, schema, steps_in_all(schema));
     if roots && types && steps {
-        text(b"; rest 0");
+        text(stdout, b"; rest 0");
     } else {
-        text(b"; rest not 0");
+        text(stdout, b"; rest not 0");
     }
 }
 
-pub(crate) fn run(file: &[u8], out: &mut [u8]) {
+pub(crate) fn run(stdout: Stdout, file: &[u8], out: &mut [u8]) {
     let found = read(file, out);
     let answer = found.answer;
     let schema = found.schema;
-    show_verdict(answer);
-    show_schema(schema);
-    show_witness(number_of(answer), out);
-    text(b"\n");
+    show_verdict(stdout, answer);
+    show_schema(stdout, schema);
+    show_witness(stdout, number_of(answer), out);
+    text(stdout, b"\n");
 }

@@ -1,19 +1,19 @@
-// Numbers and answers, written to standard output.
-use libc::STDOUT_FILENO;
+// Numbers and answers, written to standard output. A write that fails is passed over.
 use sdtd::Verdict;
+use std::io::{Print, Stdout};
 
-pub(crate) fn text(words: &[u8]) {
-    io::write_all(STDOUT_FILENO, words);
+pub(crate) fn text(stdout: Stdout, words: &[u8]) {
+    let _ = stdout.write_all(words);
 }
 
-pub(crate) fn number(n: u64) {
-    io::print_decimal(STDOUT_FILENO, n);
+pub(crate) fn number(stdout: Stdout, n: u64) {
+    let _ = stdout.print(n);
 }
 
 // A number after a blank.
-pub(crate) fn next_number(n: u64) {
-    text(b" ");
-    number(n);
+pub(crate) fn next_number(stdout: Stdout, n: u64) {
+    text(stdout, b" ");
+    number(stdout, n);
 }
 
 pub(crate) fn wide(n: u8) -> u64 {
@@ -24,14 +24,14 @@ pub(crate) fn long(n: usize) -> u64 {
     n as u64
 }
 
-pub(crate) fn show_verdict(verdict: Verdict) {
+pub(crate) fn show_verdict(stdout: Stdout, verdict: Verdict) {
     match verdict {
-        Verdict::Fine => text(b"accepted"),
+        Verdict::Fine => text(stdout, b"accepted"),
         Verdict::RefusedAt(n, p) => {
-            text(b"refused ");
-            number(wide(n));
-            text(b" at ");
-            number(long(p));
+            text(stdout, b"refused ");
+            number(stdout, wide(n));
+            text(stdout, b" at ");
+            number(stdout, long(p));
         }
     }
 }
