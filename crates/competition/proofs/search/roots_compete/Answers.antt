@@ -1,0 +1,13 @@
+-- `competition::search::roots_compete` meets its contract: two types of one tag that open a document alike are
+-- roots that compete, and where there are none, no roots do.
+use Rattle.competition.proofs.RootLaws.{rivals_found, no_rivals_found}
+use Rattle.competition.proofs.search.roots_compete.Goals as goal
+
+pub returns-in-Of : goal.returns-in-Of
+returns-in-Of c =
+    rivals_found _ _ c.requires.0 c.requires.1 _ _ (rw c.in-Of.is at c.rival_roots-rivals.ensures)
+    c.args.witness.now _ c.write_head.ensures
+
+pub returns : goal.returns
+returns c =
+    no_rivals_found _ _ c.requires.0 c.requires.1 (rw c.in_default.is at c.rival_roots-rivals.ensures) _
