@@ -19,9 +19,6 @@ pub mod StateSets
 pub mod Decisions
 pub mod AnswerExists
 pub mod WithinKept
-pub mod LentWalk
-pub mod LentCall
-pub mod LentTagged
 pub mod Passages
 pub mod EventWalk
 pub mod RoomWalk

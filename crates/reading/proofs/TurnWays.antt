@@ -1,11 +1,10 @@
 -- The ways through a turn: what each computes, by the kind of the event found and what its step did.
 use mathlib.Core.Path.{◌≡◌, refl, ap, ◌∙◌}
+use mathlib.Core.Logic.{◌⊎◌, inl, inr}
 use mathlib.Core.Bool.{Bool}
-use mathlib.Core.List.{List, [], ◌∷◌}
+use mathlib.Core.List.{List}
 use Prim.Native.Nat.{ℕ, ◌+◌, ◌≤◌}
 use lib.ListN.{length}
-use types.Run.{OneOf, miss}
-use denote.Enum.Declared.{tag_of}
 use Rattle.sdtd.specs.declared.Tag.{Tag}
 use Rattle.reading.specs.declared.value.Reading.{Reading}
 use Rattle.reading.specs.declared.calls.EventAnswer.{EventAnswer}
@@ -18,7 +17,6 @@ use Rattle.reading.specs.declared.event_file.Walking.{Walking}
 use Rattle.reading.specs.declared.steps.Stepped.{Stepped}
 use Rattle.events.specs.Events.{operand, size, event_at, kind_of}
 use Rattle.events.proofs.EventLaws.{of_kind, matched_kind, kind_ends}
-use Rattle.events.specs.contracts.decoder.EventKind.{the_type}
 use Rattle.reading.specs.Coming.{kind_by}
 use Rattle.reading.specs.Steps.{StepTables, reading_of, next_of, open_by_rows, close_step_in, Finishes}
 use Rattle.reading.specs.Turns.{Walked, standing_of, walked_of, stop, turn_by, turn_to, AfterStep, EndsHere, is_nil, turn_on, turn_of}
@@ -35,13 +33,10 @@ stepped w types sets s past types' sets' r x a e =
     a types sets types' sets' ∙ ap (λ (y : Next). turn_to (walked_of w types sets) past y) e
 
 -- an opening of either kind ends inside the file
-pub opening_ends : (file : List ℕ) (i : ℕ) (k : EventKind) → OneOf (0 ∷ 1 ∷ []) (tag_of the_type k) → k ≡ kind_of (event_at file i)
+pub opening_ends : (file : List ℕ) (i : ℕ) (k : EventKind) → (k ≡ OpenKind) ⊎ (k ≡ OpenNilKind) → k ≡ kind_of (event_at file i)
     → i + size (Open (operand file i)) ≤ length file
-opening_ends file i OpenKind o found = kind_ends file i found refl
-opening_ends file i OpenNilKind o found = kind_ends file i found refl
-opening_ends file i CloseKind o found = absurd (miss (0 ∷ 1 ∷ []) 2 tt o)
-opening_ends file i FinishKind o found = absurd (miss (0 ∷ 1 ∷ []) 3 tt o)
-opening_ends file i NoKind o found = absurd (miss (0 ∷ 1 ∷ []) 4 tt o)
+opening_ends file i k (inl case) found = kind_ends file i found case
+opening_ends file i k (inr case) found = kind_ends file i found case
 
 module _ (t : StepTables) (file : List ℕ) (w : Walking) (types sets : List ℕ) {k : EventKind} (found : k ≡ kind_of (event_at file w.at)) where
   -- the turn is that of the kind matched, with the byte past the place for its tag
@@ -52,16 +47,13 @@ module _ (t : StepTables) (file : List ℕ) (w : Walking) (types sets : List ℕ
 
   module _ (s : Stepped) (types' sets' : List ℕ) (r : Walking) (g : Tag) (tag : g ≡ operand file w.at) where
     -- an opening of either kind
-    opens : (d : EventKind) → OneOf (0 ∷ 1 ∷ []) (tag_of the_type d) → k ≡ d
+    opens : (d : EventKind) → (d ≡ OpenKind) ⊎ (d ≡ OpenNilKind) → k ≡ d
         → next_of s types' sets' ≡ open_by_rows t (reading_of (standing_of w) types sets) (kind_by (is_nil d)) g.0
         → AfterStep w s (w.at + size (Open g)) r → walked_of r types' sets' ≡ turn_of t file (walked_of w types sets)
-    opens OpenKind o case step after = stepped w types sets s _ types' sets' r _ after step ∙ matched OpenKind case g tag
-    opens OpenNilKind o case step after = stepped w types sets s _ types' sets' r _ after step ∙ matched OpenNilKind case g tag
-    opens CloseKind o case step after = absurd (miss (0 ∷ 1 ∷ []) 2 tt o)
-    opens FinishKind o case step after = absurd (miss (0 ∷ 1 ∷ []) 3 tt o)
-    opens NoKind o case step after = absurd (miss (0 ∷ 1 ∷ []) 4 tt o)
+    opens d (inl plain) case step after = stepped w types sets s _ types' sets' r _ after (rw plain at step) ∙ matched OpenKind (case ∙ plain) g tag
+    opens d (inr nil) case step after = stepped w types sets s _ types' sets' r _ after (rw nil at step) ∙ matched OpenNilKind (case ∙ nil) g tag
 
-    pub turn_opens : OneOf (0 ∷ 1 ∷ []) (tag_of the_type k) → {n : Bool} → n ≡ is_nil k
+    pub turn_opens : (k ≡ OpenKind) ⊎ (k ≡ OpenNilKind) → {n : Bool} → n ≡ is_nil k
         → next_of s types' sets' ≡ open_by_rows t (reading_of (standing_of w) types sets) (kind_by n) g.0
         → AfterStep w s (w.at + size (Open g)) r → walked_of r types' sets' ≡ turn_of t file (walked_of w types sets)
     turn_opens o e step after = opens k o refl (rw e at step) after
