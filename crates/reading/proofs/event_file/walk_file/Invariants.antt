@@ -1,0 +1,13 @@
+-- `reading::event_file::walk_file` meets its contract. The loop's invariant: the walk is sound. The measure is what is left of the file.
+use Rattle.schema.specs.Value.{meaning}
+use Rattle.reading.specs.Turns.{walked_of}
+use Rattle.reading.proofs.TurnLaws.{to_go}
+use Rattle.reading.proofs.LayLaws.{LaidSound}
+use Rattle.reading.proofs.event_file.walk_file.Given as goal
+
+abbrev pub invariant-loop-w : goal.invariant-loop-w
+invariant-loop-w l =
+    LaidSound l.bounded (meaning l.schema) l.events l.initial.out (walked_of l.w l.types l.sets) l.count l.out
+
+abbrev pub decreases-loop-w : goal.decreases-loop-w
+decreases-loop-w l = to_go l.events (walked_of l.w l.types l.sets)
