@@ -142,7 +142,7 @@ module _ (file : List ℕ) (g : Stated) where
       let k = passed_command g₀ c z in
       let b = subst (λ (x : Command). T (is_command x) → i + size x ≤ length file) h (command_in_file file i) k in
       let s = size_some c k in
-      goes_on fuel file i g₀ (not_done g₀ c (passed g₀ c z)) (not_inside g₀ c (passed g₀ c z)) h z ∙ trace_reads t fuel (omega arith)
+      goes_on fuel file i g₀ (not_done g₀ c (passed g₀ c z)) (not_inside g₀ c (passed g₀ c z)) h z ∙ trace_reads {i = i + size c} t fuel (omega arith)
   trace_reads {i} {g₀} (content t e ns p h z read fits rest) (suc zero) l =
       let b = subst (λ (x : Command). T (is_command x) → i + size x ≤ length file) h (command_in_file file i) tt in
       absurd (omega arith)
@@ -153,7 +153,7 @@ module _ (file : List ℕ) (g : Stated) where
       let m = w.ends in
       let o = opened g₀ i t in
       goes_on (suc fuel) file i g₀ (not_done g₀ c (passed g₀ c z)) (not_inside g₀ c (passed g₀ c z)) h z
-      ∙ reads_content fuel (i + 3) (after g₀ i c) e ns p o.0 read (omega (arith, o.1)) ∙ trace_reads rest fuel (omega arith)
+      ∙ reads_content fuel (i + 3) (after g₀ i c) e ns p o.0 read (omega (arith, o.1)) ∙ trace_reads {i = p + 1} rest fuel (omega arith)
 
   pub trace_states : Trace file g 0 nothing_stated → commands file ≡ states g
   unfolding commands

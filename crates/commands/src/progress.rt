@@ -180,6 +180,7 @@ pub(crate) fn progress_with(progress: Progress, steps: usize) -> Progress
 }
 
 // The progress after a command that passed its questions.
+#[tactic(auto, unfolding(crate::specs::Progress::progress_after))]
 pub(crate) fn progress_after(progress: Progress, command: Command) -> Progress
     ensures { result ≡ progress_after progress command }
 {
