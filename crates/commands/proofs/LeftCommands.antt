@@ -16,7 +16,7 @@ use Rattle.sdtd.specs.declared.TypeNo.{TypeNo}
 use Rattle.sdtd.proofs.Basics.{is_true, is_false, cond_either}
 use Rattle.sdtd.proofs.NewNumbers.{new_at_most, new_rises, new_injective}
 use Rattle.sdtd.proofs.Reducing.{step_was, roots_left_lem}
-use Rattle.schema.specs.States.{member, no_states}
+use Rattle.schema.specs.States.{no_states}
 use Rattle.command.specs.declared.Command.TheVariants.{Tags, TypeBlock, Final, Step, Root, Nil, Done}
 use Rattle.expression.specs.Content.{Name}
 use Rattle.expression.proofs.WholeContents.{types_of}

@@ -34,6 +34,7 @@ fn group<'a>(set: u32, types: &'a [u8; ROOM], sets: &'a mut [u32; TYPES]) -> u64
 }
 
 // One step more; none behind the last place.
+#[tactic(auto, unfolding(sdtd::specs::Lists::of_each, schema::specs::Putting::put_all))]
 fn put_step<'a>(
     p: u8,
     j: u8,

@@ -129,6 +129,7 @@ fn with_counts(progress: Progress, phase: Phase, tags: u8, types: u8, steps: usi
 }
 
 // The progress after a ROOT: one root more, behind the others.
+#[tactic(auto, unfolding(crate::specs::Progress::progress_after))]
 fn with_root(progress: Progress, a: TypeNo) -> Progress
     ensures { result ≡ progress_after progress (Root a) }
 {
@@ -148,6 +149,7 @@ fn with_root(progress: Progress, a: TypeNo) -> Progress
 }
 
 // The progress after a NIL: the type whose block the file is in is nillable.
+#[tactic(auto, unfolding(crate::specs::Progress::progress_after))]
 fn with_nil(progress: Progress) -> Progress
     ensures { result ≡ progress_after progress Nil }
 {

@@ -86,6 +86,7 @@ pub(crate) fn given_already<'a>(
 }
 
 // Is the type one of so many roots?
+#[tactic(auto, using(crate::proofs::RootTables::marked_given))]
 fn root_among(root: [u8; ROOTS], roots: u8, a: TypeNo) -> bool
     ensures { result ≡ root_among root roots a.0 }
 {

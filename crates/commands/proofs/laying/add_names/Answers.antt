@@ -10,8 +10,7 @@ use Rattle.commands.proofs.laying.add_names.Goals as goal
 pub loop-q-preserved : goal.loop-q-preserved
 loop-q-preserved c =
     let l = c.loop-q in
-    let r = c.args.read in
-    (
+    let r = c.args.read in (
       omega arith,
       omega arith,
       rw c.larger-above.ensures (omega arith),

@@ -1,7 +1,7 @@
 -- `commands::laying::group` meets its contract. The loop's invariant: the sets so far, with the uses that are left, have the whole set's uses.
 use mathlib.Core.Path.{◌≡◌}
 use mathlib.Core.Bool.{false, ◌&&◌, ◌||◌}
-use Prim.Native.Nat.{ℕ, ◌-◌, ◌%◌, ◌^◌, ◌<◌}
+use Prim.Native.Nat.{ℕ, ◌%◌, ◌^◌, ◌<◌}
 use lib.Dec.{eqb}
 use lib.ListN.{length, get_or}
 use Rattle.sdtd.specs.Limits.{most_types, most_states}

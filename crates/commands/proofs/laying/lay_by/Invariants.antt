@@ -1,6 +1,6 @@
 -- `commands::laying::lay_by` meets its contract. The loop's invariant: what lays the steps that are left, lays all.
 use mathlib.Core.List.{List}
-use Prim.Native.Nat.{ℕ, ◌+◌, ◌-◌, ◌^◌, ◌≤◌, ◌<◌}
+use Prim.Native.Nat.{ℕ, ◌+◌, ◌^◌, ◌≤◌, ◌<◌}
 use Rattle.sdtd.specs.Limits.{most_states, most_steps}
 use Rattle.commands.specs.Laying.{laid_by, LaidAs}
 use Rattle.commands.proofs.laying.lay_by.Given as goal

@@ -1,6 +1,5 @@
 -- `commands::laying::lay_from` meets its contract. The loop's invariant: what lays the steps by the types that are left, lays all.
 use mathlib.Core.Path.{refl, ◌∙◌}
-use mathlib.Core.Bool.{false}
 use Prim.Native.Nat.{◌-◌, ◌<◌}
 use native.Mathlib.Omega.{arith}
 use lib.Bits.{and_le_r}
@@ -18,8 +17,7 @@ use Rattle.commands.proofs.laying.lay_from.Goals as goal
 pub loop-rest-init : goal.loop-rest-init
 loop-rest-init c =
     let g = c.group-rest.ensures in
-    let a = c.args in
-    (
+    let a = c.args in (
       g.below,
       c.requires.0,
       g.long,

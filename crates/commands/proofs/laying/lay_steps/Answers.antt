@@ -1,6 +1,5 @@
 -- `commands::laying::lay_steps` meets its contract.
 use mathlib.Core.Path.{refl}
-use Prim.Native.Nat.{◌-◌}
 use native.Mathlib.Omega.{arith}
 use lib.ListN.{get_or}
 use Rattle.sdtd.specs.Limits.{most_types}

@@ -1,6 +1,5 @@
 -- `commands::type_places::type_place` meets its contract. The loop's invariant: the type sought is the type number `left` from `at` on.
 use mathlib.Core.Path.{sym, ◌∙◌}
-use Prim.Native.Nat.{◌-◌}
 use native.Mathlib.Omega.{arith}
 use Rattle.commands.proofs.TypePlaces.{type_missing, type_here, type_later}
 use Rattle.commands.proofs.type_places.type_place.Goals as goal
