@@ -63,6 +63,7 @@ fn with_levels(s: Stepped, types: [u8; LEVELS], sets: [u32; LEVELS]) -> Next
 }
 
 // The tag and the accepting states of the innermost type, and whether it is nillable; where none is open, any will do.
+#[tactic(auto, unfolding(crate::specs::Steps::inner_of))]
 pub(crate) fn inner_of<'a>(
     tag: &'a [u8; TYPES],
     nillable: &'a [bool; TYPES],
@@ -89,6 +90,7 @@ pub(crate) fn inner_of<'a>(
 }
 
 // What comes next, by the steps of the innermost type.
+#[tactic(auto, unfolding(crate::specs::Steps::coming_at, crate::specs::Coming::coming_of, crate::specs::Coming::gathered))]
 fn coming_own<'a>(
     schema: Schema,
     live: [u32; TYPES],
@@ -112,6 +114,7 @@ fn coming_own<'a>(
 }
 
 // An opening, by the steps of the innermost type.
+#[tactic(auto, unfolding(crate::specs::Steps::coming_at, crate::specs::Steps::open_step, crate::specs::Coming::coming_of))]
 fn step_open_own<'a>(
     schema: Schema,
     live: [u32; TYPES],

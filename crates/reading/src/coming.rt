@@ -39,6 +39,7 @@ fn smaller(t: u32, was: u32) -> u32
 
 // A step by t to q, after what came so far: the same type adds the state, a smaller one replaces what came so far, a larger one changes nothing.
 // Compiled without a branch: the processor cannot foresee which of the three it is.
+#[tactic(auto, unfolding(crate::specs::Coming::join, schema::specs::States::insert))]
 pub(crate) fn join<'a>(of: &'a mut u32, kept: &'a mut u32, t: u32, q: u8)
     requires { q < most_states }
     ensures { least of.new kept.new ≡ joined (least of.old kept.old) t q }
@@ -51,6 +52,7 @@ pub(crate) fn join<'a>(of: &'a mut u32, kept: &'a mut u32, t: u32, q: u8)
 }
 
 // The smallest type of all, if one came.
+#[tactic(auto, unfolding(crate::specs::Coming::coming_of))]
 pub(crate) fn coming_of(of: TypeNo, kept: u32) -> Coming
     ensures { result ≡ coming_of (least of.0 kept) }
 {
@@ -113,6 +115,7 @@ fn type_under(e: Entry, o: Sought) -> u32
 }
 
 // An entry, if it can be opened, after what came so far.
+#[tactic(auto, unfolding(crate::specs::Coming::joins, crate::specs::Coming::join, schema::specs::States::insert))]
 fn join_entry<'a>(e: Entry, o: Sought, short: bool, of: &'a mut u32, kept: &'a mut u32)
     requires { IsSought o.0 × (of.old ≤ most_types) }
     ensures { least of.new kept.new
@@ -132,6 +135,7 @@ fn join_entry<'a>(e: Entry, o: Sought, short: bool, of: &'a mut u32, kept: &'a m
 const SHORT: usize = 8;
 
 // The entries from start up to end that can be opened, after what came so far.
+#[tactic(auto, unfolding(crate::specs::Coming::joins, crate::specs::Coming::gathered, crate::specs::Coming::join))]
 fn join_entries<'a>(
     entries: &'a [u32; STEPS],
     start: usize,

@@ -70,6 +70,7 @@ const NO_SET: [u32; LEVELS] = [StateSet::NONE.0; LEVELS];
 const NO_HEAD: [u32; HEADS] = [0; HEADS];
 
 // After what an event got, with `past` the place past it.
+#[tactic(auto, unfolding(crate::specs::Turns::turn_by))]
 fn after_step(w: Walking, s: Stepped, past: usize) -> Walking
     ensures { AfterStep w s past result }
 {

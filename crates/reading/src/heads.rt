@@ -66,6 +66,7 @@ pub(crate) fn opens_in(ways: &[u8; TYPES], a: usize, nil: bool) -> bool
 }
 
 // The type a, with its tag, whether it is nillable, and its accepting states.
+#[tactic(auto, unfolding(crate::specs::Heads::set_head))]
 fn lay_head(heads: &mut [u32; HEADS], a: usize, tag: Tag, nillable: bool, accepting: u32)
     requires { a < most_types }
     ensures { heads.new ≡ set_head heads.old a tag.0 nillable accepting }
@@ -76,6 +77,7 @@ fn lay_head(heads: &mut [u32; HEADS], a: usize, tag: Tag, nillable: bool, accept
 }
 
 // What stands under a tag once its root type a is seen, where n stood: one more than the smaller type; n is 0 where there was none.
+#[tactic(auto, unfolding(crate::specs::Heads::with_root))]
 fn with_root(n: u32, a: TypeNo) -> u32
     ensures { result ≡ with_root n a.0 }
 {
@@ -90,6 +92,7 @@ fn with_root(n: u32, a: TypeNo) -> u32
 }
 
 // The root type a opens under its tag so, if it bears a tree opened so and no smaller root of the tag does.
+#[tactic(auto, unfolding(crate::specs::Heads::add_root, crate::specs::Heads::with_root))]
 fn add_root<'a>(
     heads: &'a mut [u32; HEADS],
     tag: &'a [u8; TYPES],
@@ -110,6 +113,7 @@ fn add_root<'a>(
 }
 
 // So does each of the first `roots` types of the table.
+#[tactic(auto, unfolding(crate::specs::Heads::add_roots, crate::specs::Heads::add_root, crate::specs::Heads::with_root))]
 fn lay_roots<'a>(
     heads: &'a mut [u32; HEADS],
     root: [u8; ROOTS],

@@ -55,6 +55,7 @@ fn step_taken<'a>(
 }
 
 // That step, if it is taken, after what came so far.
+#[tactic(auto, unfolding(crate::specs::Coming::joins, crate::specs::Coming::join, schema::specs::States::insert))]
 fn join_step<'a>(
     tag: &'a [u8; TYPES],
     ways: &'a [u8; TYPES],

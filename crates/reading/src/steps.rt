@@ -105,6 +105,7 @@ pub(crate) fn coming_first(heads: &[u32; HEADS], rooted: bool, o: Sought) -> Com
 }
 
 // What comes next, by the rows.
+#[tactic(auto, unfolding(crate::specs::Steps::coming_at, crate::specs::Coming::coming_of, schema::specs::RowMaking::counted))]
 fn coming_at<'a>(
     entries: &'a [u32; STEPS],
     begins: &'a [u16; BEGINS],
@@ -149,6 +150,7 @@ pub(crate) fn open_by<'a>(
 }
 
 // An opening, by the rows.
+#[tactic(auto, unfolding(crate::specs::Steps::coming_at, crate::specs::Steps::open_step, crate::specs::Coming::coming_of))]
 pub(crate) fn step_open<'a>(
     entries: &'a [u32; STEPS],
     begins: &'a [u16; BEGINS],
@@ -214,6 +216,7 @@ fn ascend(at: Standing) -> Stepped
 
 // A closing of the tag g, where `own` has the tag and the accepting states of the innermost element's type, if one is open, and whether it is
 // nillable.
+#[tactic(auto, unfolding(crate::specs::Steps::close_step))]
 pub(crate) fn step_close(
     own: Inner,
     tags: u8,
@@ -250,6 +253,7 @@ pub(crate) fn step_close(
 }
 
 // The same, by the heads.
+#[tactic(auto, unfolding(crate::specs::Steps::close_step_in, crate::specs::Steps::close_step))]
 pub(crate) fn step_close_in<'a>(
     heads: &'a [u32; HEADS],
     tags: u8,
@@ -277,6 +281,7 @@ pub(crate) fn step_close_in<'a>(
 }
 
 // A finish, which leaves the levels as they are.
+#[tactic(auto, unfolding(crate::specs::Steps::finish_step))]
 pub(crate) fn step_finish(at: Standing) -> Stepped
     ensures { Finishes at result }
 {

@@ -9,7 +9,7 @@ use mir.Val.{Fits as FitsIn}
 use Rattle.sdtd.specs.Schema.{WithinLimits}
 use Rattle.schema.specs.Value.{meaning}
 use Rattle.schema.proofs.FirstTables.{Fits}
-use Rattle.schema.proofs.LimitLaws.{passed, failed, within_room}
+use Rattle.schema.proofs.LimitLaws.{passed, within_room}
 use Rattle.reading.specs.Levels.{Within}
 use Rattle.reading.specs.Coming.{kind_by}
 use Rattle.reading.proofs.LevelLaws.{levels_fit}
@@ -18,9 +18,8 @@ use Rattle.reading.proofs.calls.open_as.Goals as goal
 
 pub returns-then-not-levels_within : goal.returns-then-not-levels_within
 returns-then-not-levels_within c =
-    let fails = failed c.levels_within.result c.if-not-levels_within.true-raw c.levels_within.ensures in
     inl (
-      λ w. fails ((levels_fit c.args.schema (within_room _ w.schema).types c.args.reading).1 w.reading),
+      λ w. c.if-not-levels_within.ensures.1 ((levels_fit c.args.schema (within_room _ w.schema).types c.args.reading).1 w.reading),
       c.refused-then-not-levels_within.ensures,
     )
 
@@ -30,7 +29,7 @@ step_open_own-step-requires c =
     record { accepting_long = search rules; steps_long = search rules; accepting_below = λ a. (below a).fits } in
     let inside : WithinLimits (meaning c.args.schema) = passed c.live-found.result.inside c.if-not-found.false c.live-found.ensures.inside in
     let within : Within (meaning c.args.schema) c.args.reading = let fit = levels_fit c.args.schema (within_room _ inside).types c.args.reading in
-    record { schema = inside; reading = fit.0 (passed c.levels_within.result c.if-not-levels_within.false-raw c.levels_within.ensures) } in
+    record { schema = inside; reading = fit.0 (c.if-not-levels_within.ensures.0 tt) } in
     stands_own fits within
 
 pub returns : goal.returns
@@ -39,7 +38,7 @@ returns c =
     record { accepting_long = search rules; steps_long = search rules; accepting_below = λ a. (below a).fits } in
     let inside : WithinLimits (meaning c.args.schema) = passed c.live-found.result.inside c.if-not-found.false c.live-found.ensures.inside in
     let within : Within (meaning c.args.schema) c.args.reading = let fit = levels_fit c.args.schema (within_room _ inside).types c.args.reading in
-    record { schema = inside; reading = fit.0 (passed c.levels_within.result c.if-not-levels_within.false-raw c.levels_within.ensures) } in
+    record { schema = inside; reading = fit.0 (c.if-not-levels_within.ensures.0 tt) } in
     rw (c.with_levels.ensures ∙ c.step_open_own-step.ensures)
     (open_steps_means fits within c.live-found.result.live c.live-found.result.ways (c.live-found.ensures.live inside) (c.live-found.ensures.ways inside) c.heads-heads.ensures
     (kind_by c.args.o.nil) c.args.o.tag.0)

@@ -1,6 +1,6 @@
 -- `reading::heads::heads` meets its contract. The loop's invariant: the numbers of the types below a are laid, and nothing opens yet.
 use mathlib.Core.Path.{◌≡◌}
-use Prim.Native.Nat.{◌-◌, ◌≤◌}
+use Prim.Native.Nat.{◌≤◌}
 use native.Mathlib.Numerals.{add-one}
 use native.Mathlib.Omega.{arith}
 use borrow.Author.Rules.{rules}

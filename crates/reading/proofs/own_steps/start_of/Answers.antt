@@ -1,5 +1,4 @@
 -- `reading::own_steps::start_of` meets its contract.
-use Prim.Native.Nat.{◌-◌}
 use native.Mathlib.Omega.{arith}
 use Rattle.schema.proofs.Rounds.{offset_more, steps_fit}
 use Rattle.reading.proofs.own_steps.start_of.Goals as goal

@@ -6,15 +6,8 @@ use Rattle.sdtd.specs.Limits.{most_tags}
 use Rattle.reading.specs.Coming.{kind_by}
 use Rattle.reading.specs.Steps.{open_by}
 use Rattle.reading.proofs.SoughtLaws.{sought_kind, sought_tag}
-use Rattle.reading.proofs.StepWays.{stayed, open_finished, open_tag, open_by_lem}
+use Rattle.reading.proofs.StepWays.{open_by_lem}
 use Rattle.reading.proofs.steps.step_open.Goals as goal
-
-pub returns-then-at : goal.returns-then-at
-returns-then-at c = stayed _ _ _ _ _ c.stays.ensures ∙ open_finished _ _ _ _ _ c.if-at.true
-
-pub returns-then-tags-o : goal.returns-then-tags-o
-returns-then-tags-o c =
-    stayed _ _ _ _ _ c.stays-then-tags-o.ensures ∙ open_tag _ _ _ _ _ c.if-at.false c.if-tags-o.true
 
 pub returns : goal.returns
 returns c =

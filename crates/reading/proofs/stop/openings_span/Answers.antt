@@ -1,5 +1,4 @@
 -- `reading::stop::openings_span` meets its contract. The loop's invariant: the tags of the steps before i are marked.
-use Prim.Native.Nat.{◌-◌}
 use native.Mathlib.Numerals.{add-one}
 use native.Mathlib.Omega.{arith}
 use Rattle.sdtd.specs.Tree.{plain, nil}

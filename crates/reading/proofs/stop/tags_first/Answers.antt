@@ -1,5 +1,4 @@
 -- `reading::stop::tags_first` meets its contract. The loop's invariant: the tags below g are told, and no other yet.
-use Prim.Native.Nat.{◌-◌}
 use native.Mathlib.Omega.{arith}
 use Rattle.reading.proofs.Asking.{told_none}
 use Rattle.reading.proofs.stop.tags_first.Goals as goal

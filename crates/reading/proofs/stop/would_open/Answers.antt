@@ -38,11 +38,10 @@ tags_first-opens_nil-requires c =
     tags_most
 
 pub returns-then-at-eq0 : goal.returns-then-at-eq0
-returns-then-at-eq0 c =
-    (
-      tells_first c.requires plain c.if-at.false (omega arith) (omega arith) c.tags_first-opens.ensures,
-      tells_first c.requires nil c.if-at.false (omega arith) (omega arith) c.tags_first-opens_nil.ensures,
-    )
+returns-then-at-eq0 c = (
+  tells_first c.requires plain c.if-at.false (omega arith) (omega arith) c.tags_first-opens.ensures,
+  tells_first c.requires nil c.if-at.false (omega arith) (omega arith) c.tags_first-opens_nil.ensures,
+)
 
 pub start_of-requires : goal.start_of-requires
 start_of-requires c =

@@ -6,7 +6,6 @@ use lib.ListN.{get_or}
 use mir.Syntax.{w32}
 use mir.Val.{Fits as FitsIn}
 use Rattle.sdtd.specs.Limits.{most_states}
-use Rattle.schema.proofs.LimitLaws.{passed}
 use Rattle.schema.proofs.FirstTables.{Fits}
 use Rattle.reading.specs.Steps.{inner_of}
 use Rattle.reading.proofs.StepLaws.{close_step_means}
@@ -20,4 +19,4 @@ returns c =
     let own : c.inner_of-own.result ≡ inner_of c.args.schema.tag c.args.schema.nillable c.args.schema.accepting c.args.self =
     c.inner_of-own.ensures in
     rw (c.with_levels.ensures ∙ c.step_close-step.ensures _, own)
-    (close_step_means fits (passed c.both_within.result c.if-not-both_within.false-raw c.both_within.ensures) kept_below c.args.tag.0)
+    (close_step_means fits (c.if-not-both_within.ensures.0 tt) kept_below c.args.tag.0)
