@@ -43,6 +43,7 @@ pub(crate) fn starts(steps: &[u16; TYPES], types: usize) -> [usize; TYPES]
 }
 
 // Where the steps of a type stand; nothing for a number that is no type.
+#[tactic(auto, unfolding(crate::specs::Spread::span_at))]
 pub(crate) fn span_at<'a>(
     steps: &'a [u16; TYPES],
     starts: &'a [usize; TYPES],
@@ -76,6 +77,7 @@ fn reaches(from: u8, by: TypeNo, to: u8, ways: &[u8; TYPES], forward: u32, live:
 
 // The type joins the queue, unless it is reached already. Inside the limits the remainder changes nothing.
 // The test for a full queue is there for the bound. It never holds: there are only so many types, and each joins once.
+#[tactic(auto, unfolding(crate::specs::Spread::join_type))]
 fn join<'a>(
     reached: &'a mut [bool; TYPES],
     queue: &'a mut [u8; TYPES],

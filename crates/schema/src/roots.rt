@@ -41,6 +41,7 @@ pub(crate) fn roots_within(root: [u8; ROOTS], roots: u8, types: u8) -> bool
 }
 
 // The type is marked, if the table has an entry for it.
+#[tactic(auto, unfolding(crate::specs::Spread::mark_type))]
 fn mark_type(marked: &mut [bool; TYPES], a: TypeNo)
     ensures { marked.new ≡ mark_type a.0 marked.old }
 {

@@ -23,6 +23,7 @@ pub const BEGINS: usize = ROWS + 1;
 
 // Does a step by the type j to the state q count, where `own` are the live states of the type that has it?
 // Inside the limits the remainder changes nothing: a type is below TYPES.
+#[tactic(auto, unfolding(crate::specs::RowMaking::counts_by))]
 fn counts(ways: &[u8; TYPES], own: u32, from: u8, j: TypeNo, q: u8) -> bool
     ensures { result ≡ counts_by ways.now own (record { from = from; by = j.0; to = q }) }
 {
@@ -33,6 +34,7 @@ fn counts(ways: &[u8; TYPES], own: u32, from: u8, j: TypeNo, q: u8) -> bool
 }
 
 // The step's entry at the place n, if it counts; and the place past it.
+#[tactic(auto, unfolding(crate::specs::Putting::put_all, crate::specs::RowMaking::counts_by))]
 fn keep_step<'a>(
     kept: &'a mut [u32; STEPS],
     n: usize,
@@ -86,6 +88,7 @@ fn counted<'a>(
 }
 
 // The entry at the place `at`, if it leads from the state p; and the place past it.
+#[tactic(auto, unfolding(crate::specs::RowMaking::picked, crate::specs::Putting::put_all))]
 fn pick_one(entries: &mut [u32; STEPS], at: usize, e: u32, p: u8) -> usize
     requires { at + length (picked p (e ∷ [])) ≤ most_steps }
     ensures { (entries.new ≡ put_all (picked p (e ∷ [])) at entries.old)
@@ -99,6 +102,7 @@ fn pick_one(entries: &mut [u32; STEPS], at: usize, e: u32, p: u8) -> usize
 }
 
 // Of the first n entries kept, those that lead from the state p, from the place `at` on; and the place past them.
+#[tactic(auto, unfolding(crate::specs::RowMaking::picked, crate::specs::Putting::put_all))]
 fn pick<'a>(
     entries: &'a mut [u32; STEPS],
     at: usize,
@@ -120,6 +124,7 @@ fn pick<'a>(
 }
 
 // The row of the state p, the row i, from the first n entries kept, put where the rows before it end, at the place `at`; and the place past it.
+#[tactic(auto, unfolding(crate::specs::RowMaking::add_row, crate::specs::RowMaking::picked, crate::specs::Putting::put_all))]
 fn add_row<'a>(
     entries: &'a mut [u32; STEPS],
     begins: &'a mut [u16; BEGINS],

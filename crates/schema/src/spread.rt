@@ -12,6 +12,7 @@ use sdtd::TypeNo;
 
 // A step by a tree-bearing type with its state `when` in the set adds its state `add`.
 // Inside the limits the remainder changes nothing: a type is below TYPES.
+#[tactic(auto, unfolding(crate::specs::Spread::spread_step, crate::specs::States::insert))]
 fn spread_step(add: u8, by: TypeNo, when: u8, ways: &[u8; TYPES], set: u32) -> u32
     ensures { result ≡ spread_step ways.now (record { from = add; by = by.0; to = when }) set }
 {

@@ -27,6 +27,7 @@ pub struct Trimming {
 }
 
 // The first `types` entries, and nothing in the others.
+#[tactic(auto, using(crate::proofs::Rounds::fill_next), unfolding(crate::specs::Spread::first_sets))]
 fn first_sets(sets: [u32; TYPES], types: usize) -> [u32; TYPES]
     requires { types ≤ most_types }
     ensures { result ≡ first_sets types sets }
