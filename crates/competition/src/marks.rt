@@ -20,6 +20,7 @@ fn number(table: &[u16; ORDERED_PAIRS], s: u8, t: u8) -> usize
 
 // The pair joins the queue, unless it is reached already.
 // The test for a full queue is there for the bound. It never holds in a search: there are only so many pairs, and each joins once.
+#[tactic(auto, unfolding(crate::specs::Marks::mark_of))]
 fn mark<'a>(
     reached: &'a mut [bool; PAIRS],
     queue: &'a mut [u32; PAIRS],
