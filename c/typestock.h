@@ -1,7 +1,7 @@
 /*
  * typestock: the typing engine of a stock-import pipeline, for C and C++.
  *
- * Link target/staticlib/libtypestock_c.a, which `rt staticlib typestock_c` writes; x86-64 Linux. The library calls memcpy and memset of C's
+ * Link crates/typestock_c/out/libtypestock_c.a, which `rt lib` in crates/typestock_c writes; x86-64 Linux. The library calls memcpy and memset of C's
  * library and nothing else: it allocates nothing, reads and writes no file, and has no data that it writes. Nothing is kept between calls, so
  * any number of threads may call at once, each with buffers of its own. A call runs on a stack of 128 KB, which is tested and not proved.
  *
