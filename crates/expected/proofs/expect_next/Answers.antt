@@ -6,7 +6,6 @@ use mathlib.Core.Bool.{Bool}
 use mathlib.Core.List.{List, Memᴰ}
 use Prim.Native.Nat.{ℕ}
 use native.Mathlib.Omega.{arith}
-use borrow.Author.Rules.{rules}
 use lib.Dec.{T}
 use lib.Seq.{length-take-le}
 use Rattle.sdtd.specs.Limits.{most_levels}
@@ -21,8 +20,7 @@ use Rattle.expected.specs.Expected.{Answered, AnswerFits, open_types, padded, Ex
 use Rattle.expected.specs.Listing.{listed, listed_by, flags_in, listing}
 use Rattle.expected.proofs.ListLaws.{listed_exactly, listed_rises, flags_below}
 use Rattle.expected.proofs.PassageLaws.{passage_sized}
-use Rattle.expected.proofs.expect_next.Statement.{statement}
-use Rattle.expected.proofs.expect_next.Tie as tie
+use Rattle.expected.proofs.expect_next.Goals as goal
 
 -- what is told of the stop, listed
 module _ {S : Schema} {file : List ℕ} {s : Stop} (m : StopMeans S file s) where
@@ -99,24 +97,9 @@ module _ {S : Schema} {file : List ℕ} {s : Stop} (m : StopMeans S file s) wher
             };
       }
 
-pass-events-requires : tie.Need-pass-events-requires
-pass-events-requires c κs = search rules
+pub open_types-types-requires : goal.open_types-types-requires
+open_types-types-requires c = (sized c.pass_events-stop.ensures).depth
 
-cast-depth : tie.Need-overflow-cast-depth
-cast-depth c = search rules
-
-open-types-requires : tie.Need-open-types-requires
-open-types-requires c κs = (sized c.before.before.before.pass-events.ensures).depth
-
-list-openings-requires : tie.Need-list-openings-requires
-list-openings-requires c κs = search rules
-
-returns : tie.Need-returns
+pub returns : goal.returns
 returns c =
-    let t = c.before.before.before.before.before in
-    answer_means t.before.before.before.before.pass-events.ensures t.open-types.ensures c.before.before.list-openings.ensures
-
-pub expect_next_spec : {M : Type 1} → statement M
-expect_next_spec =
-    tie.close
-    (tie.spec pass-events-requires cast-depth open-types-requires list-openings-requires returns)
+    answer_means c.pass_events-stop.ensures c.open_types-types.ensures c.list_openings-list.ensures
