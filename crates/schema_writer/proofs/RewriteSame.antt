@@ -29,7 +29,7 @@ use Rattle.commands.proofs.StatedLimits.{Each, stated_within}
 use Rattle.commands.proofs.Traces.{Trace, ended, command, content, trace_of}
 use Rattle.commands.proofs.TraceLaws.{type_known, blocks_grow}
 use Rattle.commands.proofs.CommandBytes.{command_bytes}
-use Rattle.schema_writer.specs.Left.{stays, command_left, type_count, left_from, commands_left}
+use Rattle.schema_writer.specs.Left.{command_left, type_count, left_from, commands_left}
 use Rattle.schema_writer.proofs.WalkCommands.{counted, all_names_kept, content_known}
 use Rattle.schema_writer.proofs.WalkPieces.{left_end, left_command, left_copied_type, left_expression}
 

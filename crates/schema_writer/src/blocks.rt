@@ -16,6 +16,7 @@ use schema::{STATES, STEPS, Schema, Span, StateSet, TYPES};
 use sdtd::{Tag, TypeNo};
 
 // Puts the state's FINAL, if it accepts.
+#[tactic(auto, unfolding(command::specs::Command::file_of, commands::specs::File::commands, commands::specs::File::commands_from))]
 fn put_final(out: &mut [u8], at: usize, accepting: u32, q: u8) -> usize
     ensures { Counted out.old at (file_of (map Command.Final (cond (member q accepting) (q ∷ []) []))) out.new result }
 {
@@ -39,6 +40,7 @@ fn put_finals(out: &mut [u8], at: usize, accepting: u32) -> usize
 }
 
 // Puts the step, if its type is kept, with the type's new number.
+#[tactic(auto, unfolding(command::specs::Command::file_of, sdtd::specs::Reduced::steps_left, sdtd::specs::Reduced::new_number))]
 fn put_step(
     out: &mut [u8],
     at: usize,

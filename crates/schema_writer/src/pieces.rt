@@ -59,6 +59,7 @@ pub(crate) fn type_count(command: Command) -> usize
 }
 
 // Puts the command, if it stays, with new numbers for the types that it names.
+#[tactic(auto, unfolding(command::specs::Command::file_of, sdtd::specs::Reduced::new_number, commands::specs::File::commands))]
 pub(crate) fn put_left(
     out: &mut [u8],
     at: usize,

@@ -1,5 +1,4 @@
 -- `schema_writer::blocks::put_finals` meets its contract. The loop's invariant: the FINALs of the states so far are put.
-use Prim.Native.Nat.{◌-◌}
 use native.Mathlib.Omega.{arith}
 use Rattle.schema.specs.States.{members_below}
 use Rattle.command.specs.Command.{file_of}

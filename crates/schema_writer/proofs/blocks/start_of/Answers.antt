@@ -1,5 +1,5 @@
 -- `schema_writer::blocks::start_of` meets its contract. The loop's invariant: the steps of the types so far are counted.
-use Prim.Native.Nat.{suc, ◌+◌, ◌-◌, ◌≤◌}
+use Prim.Native.Nat.{suc, ◌+◌, ◌≤◌}
 use native.Mathlib.Numerals.{add-one}
 use native.Mathlib.Omega.{arith}
 use lib.ListN.{get_or}

@@ -1,5 +1,4 @@
 -- `schema_writer::numbers::new_numbers` meets its contract. The loop's invariant: the table has the numbers of the types so far.
-use Prim.Native.Nat.{◌-◌}
 use native.Mathlib.Omega.{arith}
 use Rattle.schema_writer.proofs.NumberLaws.{none_numbered, one_numbered, all_numbered}
 use Rattle.schema_writer.proofs.numbers.new_numbers.Goals as goal

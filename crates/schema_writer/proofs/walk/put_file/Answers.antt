@@ -1,7 +1,7 @@
 -- `schema_writer::walk::put_file` meets its contract. The loop's invariant: what is left of the file from the place on, put,
 -- is all put. The measure is what is left of the file: a command ends inside it, and so does an expression.
 use mathlib.Core.Path.{sym, ◌∙◌}
-use Prim.Native.Nat.{◌+◌, ◌-◌, ◌≤◌, ◌<◌}
+use Prim.Native.Nat.{◌+◌, ◌≤◌, ◌<◌}
 use native.Mathlib.Omega.{arith}
 use lib.ListN.{length}
 use Rattle.schema_writer.specs.Laying.{kept_by}
