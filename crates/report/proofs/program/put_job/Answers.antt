@@ -1,0 +1,10 @@
+-- `report::program::put_job` meets its contract: by the job.
+use native.Mathlib.Omega.{arith}
+use Rattle.report.specs.Text.{text_of}
+use Rattle.report.proofs.ReportLaws.{laid_within}
+use Rattle.report.proofs.program.put_job.Goals as goal
+
+pub returns-in-SchemaRefused : goal.returns-in-SchemaRefused
+unfolding text_of
+returns-in-SchemaRefused c =
+    rw c.in-SchemaRefused.is (laid_within (omega arith) c.put_schema_refused.ensures)
