@@ -77,6 +77,7 @@ fn put_if(out: &mut [u8], at: usize, holds: bool, line: &[u8]) -> usize
 }
 
 // `close` and `finish`, where they would have been taken.
+#[tactic(auto, unfolding(crate::specs::ExpectedText::end_lines))]
 fn put_ends(out: &mut [u8], at: usize, closes: bool, finishes: bool) -> usize
     ensures { Laid out.old at (end_lines closes finishes) out.new result }
 {

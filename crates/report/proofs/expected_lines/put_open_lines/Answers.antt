@@ -1,5 +1,4 @@
 -- `report::expected_lines::put_open_lines` meets its contract. The loop's invariant: the lines that are left are those of the openings that are left.
-use Prim.Native.Nat.{◌-◌}
 use native.Mathlib.Omega.{arith}
 use Rattle.text.proofs.LaidLaws.{one_less, none_left}
 use Rattle.report.proofs.ExpectedLines.{next_open, none_open}

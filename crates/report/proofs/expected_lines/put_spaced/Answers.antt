@@ -1,6 +1,5 @@
 -- `report::expected_lines::put_spaced` meets its contract. The loop's invariant: what is left are the types that are left.
 use mathlib.Core.Path.{ap}
-use Prim.Native.Nat.{◌-◌}
 use lib.ListN.{drop_of_length-le}
 use Rattle.report.specs.Words.{space}
 use Rattle.report.specs.ExpectedText.{spaced}

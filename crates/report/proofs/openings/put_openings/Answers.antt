@@ -1,6 +1,5 @@
 -- `report::openings::put_openings` meets its contract. The loop's invariant: the lines that are left are those of the types that are left and of
 -- the openings found from the cursor on. The measure is the number of types left.
-use Prim.Native.Nat.{◌-◌}
 use native.Mathlib.Omega.{arith}
 use Rattle.events.specs.Outline.{next_opening}
 use Rattle.report.proofs.OpeningLaws.{all_left, turn_left, turn_less, ended}
