@@ -7,7 +7,7 @@ use Rattle.competition.proofs.rivals.rivals_at.Given as goal
 
 abbrev pub invariant-loop-i : goal.invariant-loop-i
 invariant-loop-i l =
-    (l.initial.i ≤ l.i) × ((n : ℕ) → n < l.i → l.initial.i ≤ n → (k : ℕ) → ¬ IsRival l.entries l.right (get_or l.entries n 0) k)
+    (l.initial.i ≤ l.i) × ((n : ℕ) → n < l.i → l.initial.i ≤ n → (k : ℕ) → ¬ IsRival l.entries l.fn.right (get_or l.entries n 0) k)
 
 abbrev pub decreases-loop-i : goal.decreases-loop-i
 decreases-loop-i l = l.end - l.i

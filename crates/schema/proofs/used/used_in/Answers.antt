@@ -1,10 +1,10 @@
 -- `schema::used::used_in` meets its contract. The loop's invariant: the table so far is that of the types below `a`.
-use Prim.Native.Nat.{◌≤◌, ◌<◌}
+use Prim.Native.Nat.{ℕ, ◌+◌, ◌-◌, ◌≤◌, ◌<◌}
 use mathlib.Core.Path.{◌≡◌, sym, ◌∙◌}
-use mathlib.Core.Bool.{false}
-use mathlib.Core.List.{append-nil}
+use mathlib.Core.Bool.{Bool, false}
+use mathlib.Core.List.{List, ◌++◌, append-nil}
 use native.Mathlib.Omega.{arith}
-use lib.ListN.{length}
+use lib.ListN.{length, get_or, set, take, replicate}
 use lib.Seq.{take_all}
 use Rattle.sdtd.specs.Limits.{most_types}
 use Rattle.schema.specs.Trimming.{used_in}
@@ -12,12 +12,18 @@ use Rattle.schema.proofs.Rounds.{fill_next}
 use Rattle.schema.proofs.UsedTables.{used_long, used_at}
 use Rattle.schema.proofs.used.used_in.Goals as goal
 
+-- the entry of `a` joins those before it
+next_entry : (used b : List Bool) (a : ℕ) (v : Bool) → a < length b → a < most_types
+    → used ≡ take a b ++ replicate (most_types - a) false → v ≡ get_or b a false
+    → set used a v ≡ take (a + 1) b ++ replicate (most_types - (a + 1)) false
+next_entry used b a v l m before is = rw (before, is) (fill_next b a most_types false false l m)
+
 pub loop-a-preserved : goal.loop-a-preserved
 loop-a-preserved c =
     let t = c.args.trimming in
     let l : c.loop-a.a < length (used_in t) = rw (used_long t) (omega arith) in
-    let e = sym (used_at t c.loop-a.a (omega arith)) in
-    (omega arith, rw (c.loop-a.invariant.1, c.opens.ensures, e) (fill_next (used_in t) c.loop-a.a most_types false false l (omega arith)))
+    let is = sym (used_at t c.loop-a.a (omega arith)) in
+    (omega arith, next_entry _ (used_in t) c.loop-a.a _ l (omega arith) c.loop-a.invariant.1 (rw c.opens.ensures is))
 
 pub returns : goal.returns
 returns c =
