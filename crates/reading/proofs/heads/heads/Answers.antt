@@ -43,16 +43,6 @@ loop-a-preserved c =
     let within : WithinLimits (meaning c.args.schema) = c.requires.0 in
     (omega arith, rw (add-one, c.lay_head.ensures) (heads_laid c.args.schema within _ c.loop-a-test.true _ c.loop-a.invariant.1))
 
-pub lay_roots-requires : goal.lay_roots-requires
-lay_roots-requires c =
-    let within : WithinLimits (meaning c.args.schema) = c.requires.0 in
-    roots_fit _ within
-
-pub lay_roots-requires-2 : goal.lay_roots-requires-2
-lay_roots-requires-2 c =
-    let within : WithinLimits (meaning c.args.schema) = c.requires.0 in
-    roots_fit _ within
-
 pub returns : goal.returns
 returns c =
     let within : WithinLimits (meaning c.args.schema) = c.requires.0 in
@@ -62,3 +52,13 @@ returns c =
     let plainly = heads_plain v within c.args.ways c.requires.1 types_most (rw e at c.loop-a.invariant.1) v.roots (omega arith) in
     let both = heads_nil v within c.args.ways c.requires.1 types_most plainly v.roots (omega arith) in
     rw (c.lay_roots-2.ensures, c.lay_roots.ensures) (heads_all v within _ both)
+
+pub lay_roots-requires : goal.lay_roots-requires
+lay_roots-requires c =
+    let within : WithinLimits (meaning c.args.schema) = c.requires.0 in
+    roots_fit _ within
+
+pub lay_roots-requires-2 : goal.lay_roots-requires-2
+lay_roots-requires-2 c =
+    let within : WithinLimits (meaning c.args.schema) = c.requires.0 in
+    roots_fit _ within
