@@ -65,7 +65,7 @@ has_step_passes p j q (s ∷ ss) (Memᴰ.head e) =
     (and_both (eqb s.from p) (eqb s.by j && eqb s.to q) (eq_test s.from p (λ i. (sym e i).from))
     (and_both (eqb s.by j) (eqb s.to q) (eq_test s.by j (λ i. (sym e i).by)) (eq_test s.to q (λ i. (sym e i).to))))
 has_step_passes p j q (s ∷ ss) (Memᴰ.tail m) = or_right (same_step p j q s) (has_step p j q ss) (has_step_passes p j q ss m)
-has_step_passes p j q [] x' = elim x' [ ]
+has_step_passes p j q [] m = elim m [ ]
 
 -- a test beside others that fail
 alone_not : (b : Bool) → ¬ T b → T (not (b || false))

@@ -32,7 +32,7 @@ has_passes a (x ∷ xs) (Memᴰ.tail m) = later (eqb x a) (has_passes a xs m)
     later : (b : Bool) → T (has_root a xs) → T (b || has_root a xs)
     later true t = tt
     later false t = t
-has_passes a [] x' = elim x' [ ]
+has_passes a [] m = elim m [ ]
 
 has_append : (a : ℕ) (xs ys : List ℕ) → has_root a (xs ++ ys) ≡ (has_root a xs || has_root a ys)
 has_append a [] ys = refl

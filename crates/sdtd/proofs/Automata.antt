@@ -21,7 +21,7 @@ module _ {P : ℕ → Type 0} where
   pub all_mem : {j : ℕ} {w : List ℕ} → All P w → Memᴰ j w → P j
   all_mem (both p a) (Memᴰ.head e) = subst P (sym e) p
   all_mem (both p a) (Memᴰ.tail m) = all_mem a m
-  all_mem {j = j} none x3 = elim x3 [ ]
+  all_mem none m = elim m [ ]
 
   pub all_head : {j : ℕ} {w : List ℕ} → All P (j ∷ w) → P j
   all_head (both p a) = p

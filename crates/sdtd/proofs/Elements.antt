@@ -53,4 +53,4 @@ elements_run {S} {ts} {xs} past later (move {fs'' = hs} {τ = τ} (opens {κ = �
 elements_run past later (move (closes w) r) e (element k g p c m) =
     ⊎_elim (λ k. inl k) (λ f. inr (Memᴰ.tail f.0, f.1)) (elements_run past later r e m)
 elements_run past later (move (ends w) halt) e m = inr (Memᴰ.head refl, refl)
-elements_run {S = S} {ts = ts} {xs = xs} past later (move {fs'' = hs} (ends w) (move {τ = τ} x14 _)) e m = elim x14 [ ]
+elements_run past later (move (ends w) (move r _)) e m = elim r [ ]

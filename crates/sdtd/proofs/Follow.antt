@@ -103,7 +103,7 @@ grown_move (grown {o = o} r b g) opens s =
     grown (candidate_reached o r b c) none (grown r (all_append b (both (all_head (candidate_bears c)) none)) g)
 grown_move (grown r b g) (closes w) s = g
 grown_move (grown r b g) (ends w) s = g
-grown_move {S = S} grown_none x7 s = elim x7 [ ]
+grown_move grown_none m s = elim m [ ]
 
 pub candidate_goes_on : {S : Schema} {a : ℕ} {w : List ℕ} {κ : Kind} {j : ℕ}
     → AllBear S w → Candidate S (own plain a) w κ j → GoesOn S a w j
@@ -183,7 +183,7 @@ same_move (grown r b g) (closes v) s opens t e = let z : ◌≡◌ {A = ℕ} 0 1
 same_move (grown r b g) (closes v) s (closes w) t e = inr (record { event = refl; frames = refl })
 same_move (grown r b g) (ends v) s opens t e = let z : ◌≡◌ {A = ℕ} 0 1 = cc in absurd (omega arith)
 same_move (grown r b g) (ends v) s (ends w) t e = inr (record { event = refl; frames = refl })
-same_move {S = S} {fs₁ = fs₁} {fs₂ = fs₂} {y = y} grown_none x13 s _ t e = elim x13 [ ]
+same_move grown_none m s _ t e = elim m [ ]
 
 -- the typed events τ₂ begin with τ and go on from the frames fs
 pub record Follows (S : Schema) (τ τ₂ : List Event) (fs : List Frame) : Type 0 where

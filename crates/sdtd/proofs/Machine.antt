@@ -137,7 +137,7 @@ run_suspended (move (closes {κ = κ} {a = a} {w = w} x) r) =
     let s = run_suspended r in
     record { suspended = inner (no_future (own κ a) w x) s.suspended; events = ap {B = List Event} (λ ρ. closing a ∷ ρ) s.events }
 run_suspended (move (ends {w = w} x) halt) = record { suspended = outer (no_future top w x); events = refl }
-run_suspended {S = S} (move (ends {w = w} x) (move {τ = τ} x19 _)) = elim x19 [ ]
+run_suspended (move (ends x) (move r _)) = elim r [ ]
 
 -- the typed events are the stream of a derived tree with a type at its root that the root may have
 pub record TypedDocument (S : Schema) (τ : List Event) : Type 0 where

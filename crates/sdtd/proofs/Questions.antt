@@ -35,7 +35,7 @@ run_unfinished : {S : Schema} {fs gs : List Frame} {f : Frame} {τ : List Event}
 run_unfinished (move opens r) m = ⊎_elim (λ e. let z : ◌≡◌ {A = ℕ} 0 1 = cc in omega arith) (λ k. run_unfinished r k) (Memᴰ.cases_cons m)
 run_unfinished (move (closes w) r) m = ⊎_elim (λ e. let z : ◌≡◌ {A = ℕ} 0 1 = cc in omega arith) (λ k. run_unfinished r k) (Memᴰ.cases_cons m)
 run_unfinished (move (ends w) r) m = no_run r
-run_unfinished {S = S} {gs = gs} {f = f} halt m = elim m [ ]
+run_unfinished halt m = elim m [ ]
 
 -- the last event of a beginning: the position before it and its typed move
 record LastMove (S : Schema) (e : List Event) (x : Event) : Type 0 where
@@ -158,7 +158,7 @@ children_word {S} free {e} plain {a} {w} {fs} p = (
   λ c.
       let i = innermost_of (own_elements p (position_unfinished p)) in
       let b = position_begins p in
-      (given b.valid b.beginning).0 (c i.kind b.whole b.valid b.beginning),
+      (given b.valid b.beginning).0 (c (let k = i.kind in cc) b.whole b.valid b.beginning),
   λ x k d v b. (given v b).1 x,
 )
   where

@@ -14,7 +14,7 @@ use Rattle.expression.proofs.SetLaws.{smallest_member, smallest_out}
 use Rattle.commands.proofs.GroupLaws.{group_turn, named_turn}
 use Rattle.commands.proofs.laying.group.Goals as goal
 
--- src/laying.rt:32:5
+-- a turn takes the smallest state that is left and adds its place
 pub loop-rest-preserved : goal.loop-rest-preserved
 loop-rest-preserved c =
     let small : (count_trailing_zeros most_states c.loop-rest.rest < most_states) × T (member (count_trailing_zeros most_states c.loop-rest.rest) c.loop-rest.rest) = smallest_member most_states c.loop-rest.rest (omega arith) c.loop-rest.invariant.0 in
