@@ -14,7 +14,7 @@ use Rattle.expression.proofs.SetLaws.{smallest_member, smallest_out}
 use Rattle.commands.proofs.GroupLaws.{group_turn, named_turn}
 use Rattle.commands.proofs.laying.group.Goals as goal
 
--- a turn takes the smallest state that is left and adds its place
+-- a turn takes the smallest state that is left and adds it to the set of its type
 pub loop-rest-preserved : goal.loop-rest-preserved
 loop-rest-preserved c =
     let small : (count_trailing_zeros most_states c.loop-rest.rest < most_states) × T (member (count_trailing_zeros most_states c.loop-rest.rest) c.loop-rest.rest) = smallest_member most_states c.loop-rest.rest (omega arith) c.loop-rest.invariant.0 in
