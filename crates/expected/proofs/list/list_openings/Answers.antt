@@ -40,6 +40,11 @@ pub loop-g-init : goal.loop-g-init
 unfolding of_each
 loop-g-init c = (omega arith, refl)
 
+pub loop-g-preserved : goal.loop-g-preserved
+loop-g-preserved c =
+    let listed = after_nil (flags_in c.args.opens c.args.nils) c.loop-g.g (omega arith) c.loop-g.invariant.1 c.with_opening-plain.ensures in
+    (omega arith, listed c.with_opening-list.ensures)
+
 pub with_opening-plain-requires : goal.with_opening-plain-requires
 with_opening-plain-requires c =
     room (flags_in c.args.opens c.args.nils) c.loop-g.g (omega arith) c.loop-g.invariant.1
@@ -47,8 +52,3 @@ with_opening-plain-requires c =
 pub with_opening-list-requires : goal.with_opening-list-requires
 with_opening-list-requires c =
     more_room (flags_in c.args.opens c.args.nils) c.loop-g.g (omega arith) c.loop-g.invariant.1 c.with_opening-plain.ensures
-
-pub loop-g-preserved : goal.loop-g-preserved
-loop-g-preserved c =
-    let listed = after_nil (flags_in c.args.opens c.args.nils) c.loop-g.g (omega arith) c.loop-g.invariant.1 c.with_opening-plain.ensures in
-    (omega arith, listed c.with_opening-list.ensures)
