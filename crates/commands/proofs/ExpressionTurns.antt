@@ -9,7 +9,7 @@ use lib.Dec.{ltb}
 use lib.ListN.{length, length-map, set}
 use Rattle.sdtd.specs.Limits.{most_steps}
 use Rattle.sdtd.specs.Schema.{Step}
-use Rattle.sdtd.specs.declared.Verdict.TheVariants.{Fine, RefusedAt}
+use Rattle.sdtd.specs.Answer.{fine, refused_at}
 use Rattle.expression.specs.Expression.{Expression as Exp}
 use Rattle.expression.specs.Tests.{all_steps}
 use Rattle.expression.specs.Content.{Name, whole, content_at}
@@ -27,14 +27,14 @@ use Rattle.commands.proofs.ExpressionReads.{Found, refused, taken, names_told, s
 use Rattle.commands.proofs.OneByOne.{Reads, reads_broken, reads_too_many, reads_after}
 
 -- a verdict that is fine is no refusal, and a refusal has its own number and place
-fine_or_five : {R : Type 0} (b : Bool) (q : ℕ) {n p : ℕ} → cond b (RefusedAt 5 q) Fine ≡ RefusedAt n p → (b ≡ true → n ≡ 5 → p ≡ q → R) → R
+fine_or_five : {R : Type 0} (b : Bool) (q : ℕ) {n p : ℕ} → cond b (refused_at 5 q) fine ≡ refused_at n p → (b ≡ true → n ≡ 5 → p ≡ q → R) → R
 fine_or_five true q {n} {p} e f =
     let a : n ≡ 5 = cc in
     let b : p ≡ q = cc in
     f refl a b
 fine_or_five false q e f = absurd (let z : ◌≡◌ {A = ℕ} 0 1 = cc in omega arith)
 
-fits_fine : (b : Bool) (q : ℕ) → cond b (RefusedAt 5 q) Fine ≡ Fine → b ≡ false
+fits_fine : (b : Bool) (q : ℕ) → cond b (refused_at 5 q) fine ≡ fine → b ≡ false
 fits_fine true q e = absurd (let z : ◌≡◌ {A = ℕ} 0 1 = cc in omega arith)
 fits_fine false q e = refl
 
@@ -54,12 +54,12 @@ module _ {file : List ℕ} {i : ℕ} {s : Progress} {t : SchemaTables} {places :
       → total ≡ min (s.steps + length (all_steps e)) (most_steps + 1)
   total_is {e} q h = rw (← length-map (all_steps e) (λ (x : Step). x.from)) (own_laid q h).sources.count
 
-  pub turn_refused : {n p : ℕ} → fitting a.verdict a.end total ≡ RefusedAt n p → commands file ≡ stopped n p
+  pub turn_refused : {n p : ℕ} → fitting a.verdict a.end total ≡ refused_at n p → commands file ≡ stopped n p
   turn_refused {n} {p} e = go f e
     where
-      go : Found file i a → fitting a.verdict a.end total ≡ RefusedAt n p → commands file ≡ stopped n p
+      go : Found file i a → fitting a.verdict a.end total ≡ refused_at n p → commands file ≡ stopped n p
       go (refused m q c h) e =
-          let v : RefusedAt m q ≡ RefusedAt n p = rw h at e in
+          let v : refused_at m q ≡ refused_at n p = rw h at e in
           let x : m ≡ n = cc in
           let y : q ≡ p = cc in
           reads_broken r inside c ∙ (λ j. stopped (x j) (y j))
@@ -68,7 +68,7 @@ module _ {file : List ℕ} {i : ℕ} {s : Progress} {t : SchemaTables} {places :
           (λ b m k. rw (m, k) (reads_too_many r inside c (omega (arith, total_is c h, ltb-true most_steps total b))))
 
   -- where the verdict is fine
-  module _ (fine : fitting a.verdict a.end total ≡ Fine) where
+  module _ (is_fine : fitting a.verdict a.end total ≡ fine) where
     record Turned : Type 0 where
       expression : Exp
       names : List Name
@@ -78,10 +78,10 @@ module _ {file : List ℕ} {i : ℕ} {s : Progress} {t : SchemaTables} {places :
       count : total ≡ s.steps + length (all_steps expression)
 
     turned : Turned
-    turned = go f fine
+    turned = go f is_fine
       where
-        go : Found file i a → fitting a.verdict a.end total ≡ Fine → Turned
-        go (refused m q c h) e = absurd (let v : RefusedAt m q ≡ Fine = rw h at e in let z : ◌≡◌ {A = ℕ} 0 1 = cc in omega arith)
+        go : Found file i a → fitting a.verdict a.end total ≡ fine → Turned
+        go (refused m q c h) e = absurd (let v : refused_at m q ≡ fine = rw h at e in let z : ◌≡◌ {A = ℕ} 0 1 = cc in omega arith)
         go (taken x ns q c h) e =
             let l = ltb-false most_steps total (fits_fine (ltb most_steps total) q (rw h at e)) in
             let n = total_is c h in

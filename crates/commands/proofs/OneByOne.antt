@@ -11,7 +11,7 @@ use borrow.Author.Tests.{le-leb, lt-leb, lt-ltb, le-ltb, eqb-true, ne_eqb}
 use lib.Dec.{T}
 use lib.ListN.{length, replicate}
 use Rattle.sdtd.specs.Limits.{most_types, most_steps}
-use Rattle.sdtd.specs.declared.Verdict.TheVariants.{Fine}
+use Rattle.sdtd.specs.Answer.{fine}
 use Rattle.schema.specs.declared.value.Schema.{Schema}
 use Rattle.command.specs.Command.{is_command, command_at, size}
 use Rattle.command.specs.declared.Command.{Command}
@@ -203,7 +203,7 @@ module _ {file : List ℕ} {i : ℕ} {s : Progress} {t : SchemaTables} {places :
             let f = first_named r.named (length r.stated.blocks) least_stated l in
             answered (inl (f.0, rw (← f.1) e))
 
-        answer_known : length file ≤ p → a.verdict ≡ Fine → a.schema ≡ value_in s t → CommandsBy (commands file) a
+        answer_known : length file ≤ p → a.verdict ≡ fine → a.schema ≡ value_in s t → CommandsBy (commands file) a
         answer_known l o v =
             let none = none_named r.named (length r.stated.blocks) least_stated r.within l in
             answered (inr (none, (o, subst (StatedValue r.stated) (sym v) (stated_value r.holds))))

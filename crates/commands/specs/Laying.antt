@@ -2,8 +2,7 @@
 use Rattle.std.specs.Prelude.{◌≡◌, false, cond, ◌&&◌, List, [], ◌∷◌, map, ℕ, zero, suc, ◌+◌, ◌%◌, ◌^◌, ◌≤◌, ◌<◌, min, eqb, ltb, length, get_or}
 use Rattle.sdtd.specs.Limits.{most_types, most_states, most_steps}
 use Rattle.sdtd.specs.Schema.{Step, step}
-use Rattle.sdtd.specs.declared.Verdict.{Verdict}
-use Rattle.sdtd.specs.declared.Verdict.TheVariants.{Fine, RefusedAt}
+use Rattle.sdtd.specs.Answer.{Verdict, fine, refused_at}
 use Rattle.schema.specs.States.{member}
 use Rattle.schema.specs.Putting.{put_all}
 use Rattle.sdtd.specs.Lists.{of_each}
@@ -43,8 +42,8 @@ pub record LaidAs (xs : List Step) (n : ℕ) (from by to from' by' to' : List �
 
 -- "Its steps count toward the 1,024 (5, at the 3F)": the verdict on an expression that ends at the place p, with so many steps in all
 abbrev pub fitting : Verdict → ℕ → ℕ → Verdict
-fitting Fine p n = cond (ltb most_steps n) (RefusedAt 5 p) Fine
-fitting (RefusedAt k q) p n = RefusedAt k q
+fitting fine p n = cond (ltb most_steps n) (refused_at 5 p) fine
+fitting (refused_at k q) p n = refused_at k q
 
 -- what the n uses from s on name, by the tables of their types and places
 unfoldable pub names_from : List ℕ → List ℕ → ℕ → ℕ → List Name

@@ -1,7 +1,7 @@
 -- What the private steps over the commands compute: the progress and the tables after each command, and what is read from them.
 use Rattle.std.specs.Prelude.{Bool, true, false, cond, ◌&&◌, ◌||◌, List, [], ◌∷◌, ℕ, zero, suc, ◌+◌, ◌-◌, ◌%◌, min, max, eqb, leb, ltb, get_or, set, replicate}
 use Rattle.sdtd.specs.Limits.{most_types, most_roots, most_steps}
-use Rattle.sdtd.specs.declared.Verdict.TheVariants.{Fine}
+use Rattle.sdtd.specs.Answer.{fine}
 use Rattle.schema.specs.States.{insert}
 use Rattle.schema.specs.Value.{step_at, roots_of}
 use Rattle.schema.specs.declared.state_set.StateSet.{StateSet}
@@ -196,4 +196,4 @@ value_of s tag states accepting counts from by to =
 -- the answer after DONE, at the place i of a file of n bytes, where p is the first place at which a type that was not given is named, if that is
 -- below n
 abbrev pub ended_at : ℕ → ℕ → ℕ → Schema → StatedSchema
-ended_at i p n v = cond (ltb i n) (stopped_at 3 i) (cond (ltb p n) (stopped_at 7 p) (record { verdict = Fine; schema = v }))
+ended_at i p n v = cond (ltb i n) (stopped_at 3 i) (cond (ltb p n) (stopped_at 7 p) (record { verdict = fine; schema = v }))

@@ -3,8 +3,7 @@ use Rattle.std.specs.Prelude.{◌≡◌, List, [], ◌∷◌, ◌++◌, ℕ, len
 use Rattle.sdtd.specs.Schema.{Schema}
 use Rattle.sdtd.specs.Competition.{Witness}
 use Rattle.sdtd.specs.Reduced.{used_asked}
-use Rattle.sdtd.specs.Answer.{Question, Ordered, fine, refused_at, verdict_in}
-use Rattle.sdtd.specs.declared.Verdict.{Verdict}
+use Rattle.sdtd.specs.Answer.{Question, Ordered, fine, refused_at, Verdict}
 use Rattle.competition.specs.Questions.{buffer_asked, limits_asked, root_asked, competition_asked}
 use Rattle.competition.specs.declared.search.Searched.{Searched}
 use Rattle.competition.specs.declared.search.Searched.TheVariants.{ShortBuffer, OutsideLimits, Restrained, Competes}
@@ -36,16 +35,16 @@ pub record SearchMeans (S : Schema) (was is : List ℕ) (r : Searched) : Type 0 
 -- asked of the first n types whether they are used: "Just before competition, after 8, such a file gets 24"; the place is the number of the type.
 abbrev pub questions_of : Schema → List ℕ → ℕ → List (Question Verdict)
 questions_of S was n =
-    buffer_asked (verdict_in (refused_at 1 0)) was
-    ∷ limits_asked (verdict_in (refused_at 10 0)) S
-    ∷ root_asked (verdict_in (refused_at 8 0)) S
-    ∷ (used_asked (λ a. verdict_in (refused_at 24 a)) S 0 n ++ (competition_asked (verdict_in (refused_at 9 0)) S ∷ []))
+    buffer_asked (refused_at 1 0) was
+    ∷ limits_asked (refused_at 10 0) S
+    ∷ root_asked (refused_at 8 0) S
+    ∷ (used_asked (λ a. refused_at 24 a) S 0 n ++ (competition_asked (refused_at 9 0) S ∷ []))
 
 -- The verdict on a schema by these questions, and what the buffer holds: "on 9" a witness; "on every other answer it is all unchanged".
 pub record JudgedBy (questions : List (Question Verdict)) (S : Schema) (was is : List ℕ) (r : Verdict) : Type 0 where
-  pub answer : Ordered questions (λ a. a ≡ verdict_in fine) r
-  pub written : r ≡ verdict_in (refused_at 9 0) → Written S was is
-  pub unchanged : ¬ (r ≡ verdict_in (refused_at 9 0)) → is ≡ was
+  pub answer : Ordered questions (λ a. a ≡ fine) r
+  pub written : r ≡ refused_at 9 0 → Written S was is
+  pub unchanged : ¬ (r ≡ refused_at 9 0) → is ≡ was
 
 -- of no type, as files were judged that are stored
 abbrev pub JudgeMeans : Schema → List ℕ → List ℕ → Verdict → Type 0

@@ -1,7 +1,7 @@
 -- What the call on an expression answers.
 use Rattle.std.specs.Prelude.{◌≡◌, Bool, cond, List, map, ℕ, zero, suc, replicate}
 use Rattle.sdtd.specs.Limits.{most_states}
-use Rattle.sdtd.specs.Answer.{fine, refused_at, verdict_in}
+use Rattle.sdtd.specs.Answer.{fine, refused_at}
 use Rattle.schema.specs.States.{insert, no_states}
 use Rattle.schema.specs.Value.{up_from}
 use Rattle.schema.specs.Putting.{put_all}
@@ -27,7 +27,7 @@ of_uses xs = put_all xs 1 empty
 abbrev pub no_automaton : ℕ → ℕ → Automaton
 no_automaton n p =
     record {
-      verdict = verdict_in (refused_at n p);
+      verdict = refused_at n p;
       end = 0;
       uses = 0;
       accepting = record { 0 = no_states };
@@ -41,7 +41,7 @@ no_automaton n p =
 abbrev pub automaton_read : Expression → List Name → ℕ → Automaton
 automaton_read e names p =
     record {
-      verdict = verdict_in fine;
+      verdict = fine;
       end = p;
       uses = uses e;
       accepting = record { 0 = set_of (accepts e) most_states };

@@ -5,8 +5,7 @@ use mathlib.Core.List.{List}
 use Prim.Native.Nat.{ℕ}
 use lib.ListN.{take, replicate}
 use Rattle.sdtd.specs.Limits.{least_witness}
-use Rattle.sdtd.specs.declared.Verdict.{Verdict}
-use Rattle.sdtd.specs.declared.Verdict.TheVariants.{Fine, RefusedAt}
+use Rattle.sdtd.specs.Answer.{Verdict, fine, refused_at}
 use Rattle.schema_file.specs.Answer.{AnswerIs}
 use Rattle.expected.specs.declared.Expected.{Expected}
 use Rattle.typing.proofs.ExpectedJobs.{one_expected_job}
@@ -17,9 +16,9 @@ use Rattle.report.proofs.WitnessLaws.{NineTexts, from_expected, one_or_nine}
 use Rattle.report.proofs.PrintedLaws.{other_refused, one_printed}
 
 -- only a refusal with 9 prints of the witness
-by_answer : (v w : List ℕ) (a : Verdict) (e : Expected) → ((p : ℕ) → ¬ (a ≡ RefusedAt 9 p)) → expected_text_of v a e ≡ expected_text_of w a e
-by_answer v w Fine e h = refl
-by_answer v w (RefusedAt n p) e h = other_refused v w p (λ q. h p (ap (λ (k : ℕ). RefusedAt k p) q))
+by_answer : (v w : List ℕ) (a : Verdict) (e : Expected) → ((p : ℕ) → ¬ (a ≡ refused_at 9 p)) → expected_text_of v a e ≡ expected_text_of w a e
+by_answer v w fine e h = refl
+by_answer v w (refused_at n p) e h = other_refused v w p (λ q. h p (ap (λ (k : ℕ). refused_at k p) q))
 
 -- the texts of two jobs on the same files
 one_expected : {file events s t : List ℕ} → ExpectedPrinted file events s → ExpectedPrinted file events t → (s ≡ t) ⊎ NineTexts file s t

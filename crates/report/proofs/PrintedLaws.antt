@@ -11,7 +11,7 @@ use lib.Seq.{take_all, length-take-le}
 use Rattle.sdtd.specs.Limits.{least_witness}
 use Rattle.schema_file.specs.Answer.{AnswerIs}
 use Rattle.schema_file.specs.Samples.{FileSample, file_r, file_choice}
-use Rattle.sdtd.specs.declared.Verdict.TheVariants.{Fine, RefusedAt}
+use Rattle.sdtd.specs.Answer.{fine, refused_at}
 use Rattle.reading.specs.declared.event_file.EventFile.{EventFile}
 use Rattle.events.specs.Events.{events_of}
 use Rattle.typing.specs.Job.{JobMeans}
@@ -39,7 +39,7 @@ by_types events types v w (SchemaRefused n p) h = other_refused v w p (λ q. h p
 
 -- a job that refuses the schema has the schema file's answer
 job_answer : {file events was_witness is_witness was_types is_types : List ℕ} {n p : ℕ}
-    → JobMeans file events was_witness is_witness was_types is_types (SchemaRefused n p) → AnswerIs file was_witness (RefusedAt n p)
+    → JobMeans file events was_witness is_witness was_types is_types (SchemaRefused n p) → AnswerIs file was_witness (refused_at n p)
 job_answer {file} {was_witness = was} j = subst (AnswerIs file was) (job_refusal j) j.schema_file.answer
 
 -- the texts of two jobs on the same files
@@ -99,22 +99,22 @@ never_20 long a q =
     job_enough (subst (JobMeans _ _ _ a.witness _ a.types) q a.means) (omega (arith, long_enough types_held))
 
 -- the text of a sample whose schema is accepted
-read_prints : (file : FileSample) (s : EventSample) → file.answer ≡ Fine → SchemaGets file × EventsGet file s
+read_prints : (file : FileSample) (s : EventSample) → file.answer ≡ fine → SchemaGets file × EventsGet file s
     → length file.bytes ≤ most_schema → length s.bytes ≤ most_events → length s.types ≤ types_held → {text : List ℕ}
     → Printed file.bytes s.bytes text
     → (w : List ℕ) × (text ≡ text_of s.bytes w (s.types ++ drop (length s.types) (replicate types_held 0))
     (EventsRead (record { number = s.number; place = s.place; count = length s.types })))
-read_prints file s fine (schema, events) short long room x =
+read_prints file s is_fine (schema, events) short long room x =
     let a = short_job short long x in
     let j = a.means in
-    let accepted = (schema _ _ _ (long_enough least_witness) j.schema_file).0 ∙ fine in
+    let accepted = (schema _ _ _ (long_enough least_witness) j.schema_file).0 ∙ is_fine in
     let (e, q, m) = j.accepted accepted in
     let held : length s.types ≤ length (replicate {A = ℕ} types_held 0) = omega (arith, long_enough types_held) in
     let got = events _ _ _ (long_enough least_witness) j.schema_file _ _ e held m in
     (a.witness, a.prints ∙ (λ i. text_of s.bytes a.witness (got.1 i) ((q ∙ ap EventsRead got.0) i)))
 
 -- the text of a sample whose schema is refused
-refused_prints : (file : FileSample) (n p : ℕ) → file.answer ≡ RefusedAt n p → SchemaGets file → length file.bytes ≤ most_schema
+refused_prints : (file : FileSample) (n p : ℕ) → file.answer ≡ refused_at n p → SchemaGets file → length file.bytes ≤ most_schema
     → {events : List ℕ} → length events ≤ most_events → {text : List ℕ} → Printed file.bytes events text
     → (types : List ℕ)
     × (text ≡ text_of events (file.witness ++ drop (length file.witness) (replicate least_witness 0)) types (SchemaRefused n p))

@@ -10,8 +10,7 @@ use Rattle.text.specs.Line.{line_end}
 use Rattle.sdtd.specs.Limits.{least_witness}
 use Rattle.sdtd.specs.Schema.{Schema as Meaning}
 use Rattle.sdtd.specs.Competition.{Witness}
-use Rattle.sdtd.specs.declared.Verdict.{Verdict}
-use Rattle.sdtd.specs.declared.Verdict.TheVariants.{Fine, RefusedAt}
+use Rattle.sdtd.specs.Answer.{Verdict, fine, refused_at}
 use Rattle.sdtd.specs.declared.TypeNo.{TypeNo}
 use Rattle.sdtd.proofs.Verdicts.{other_number, refused_not_fine}
 use Rattle.sdtd.proofs.Witnesses.{parts_of}
@@ -53,7 +52,7 @@ pub record FromFile (file text : List ℕ) : Type 0 where
   pub witness : List ℕ
   pub read : SchemaFile
   pub means : FileMeans file (replicate least_witness 0) witness read
-  pub refused : (n p : ℕ) → read.answer ≡ RefusedAt n p → text ≡ schema_refused_text witness n p
+  pub refused : (n p : ℕ) → read.answer ≡ refused_at n p → text ≡ schema_refused_text witness n p
 
 -- so is the text of a job, and that of what would have been taken
 pub from_job : {file events text : List ℕ} → JobPrinted file events text → FromFile file text
@@ -76,14 +75,14 @@ from_expected a =
     }
 
 -- the schema file is answered 9, and its witness buffer left so
-abbrev answered : {file text : List ℕ} {p : ℕ} (x : FromFile file text) → AnswerIs file (replicate least_witness 0) (RefusedAt 9 p)
+abbrev answered : {file text : List ℕ} {p : ℕ} (x : FromFile file text) → AnswerIs file (replicate least_witness 0) (refused_at 9 p)
     → AnsweredNine file x.witness
 answered {file} {p = p} x r =
     let was : List ℕ = replicate least_witness 0 in
     record { was = was; read = x.read; means = x.means; place = p; answer = file_unique file was x.means.answer r }
 
 -- where the schema file is answered 9, the second line is that of a witness of the schema that the file states
-line_from : {file text : List ℕ} {p : ℕ} → FromFile file text → AnswerIs file (replicate least_witness 0) (RefusedAt 9 p) → NinePrinted file text
+line_from : {file text : List ℕ} {p : ℕ} → FromFile file text → AnswerIs file (replicate least_witness 0) (refused_at 9 p) → NinePrinted file text
 line_from x r =
     let was : List ℕ = replicate least_witness 0 in
     let k = answered x r in
@@ -102,7 +101,7 @@ line_from x r =
 
 -- Where the schema file is answered 9, the second line that a program prints is that of a witness of the schema that the file states.
 module _ {schema events text : List ℕ} {p : ℕ} (long : length events ≤ most_events)
-    (r : AnswerIs (take most_schema schema) (replicate least_witness 0) (RefusedAt 9 p)) where
+    (r : AnswerIs (take most_schema schema) (replicate least_witness 0) (refused_at 9 p)) where
   pub nine_line : Printed schema events text → NinePrinted (take most_schema schema) text
   nine_line x = line_from (from_job (x.answered long)) r
 
@@ -117,14 +116,14 @@ pub record NineText (a n : ℕ) (text : List ℕ) : Type 0 where
 
 -- The schema file is answered 9, and the two texts for it have one A and one n.
 pub record NineTexts (file s t : List ℕ) : Type 0 where
-  pub answer : AnswerIs file (replicate least_witness 0) (RefusedAt 9 0)
+  pub answer : AnswerIs file (replicate least_witness 0) (refused_at 9 0)
   pub a : ℕ
   pub n : ℕ
   pub first : NineText a n s
   pub second : NineText a n t
 
 -- the text of a file that is answered 9, by its witness buffer
-nine_text : {file text : List ℕ} (x : FromFile file text) → x.read.answer ≡ RefusedAt 9 0
+nine_text : {file text : List ℕ} (x : FromFile file text) → x.read.answer ≡ refused_at 9 0
     → NineText (head_of x.witness).of.0 (head_of x.witness).word text
 unfolding witness_line
 nine_text x q =
@@ -132,7 +131,7 @@ nine_text x q =
     record { j = h.first.0; k = h.second.0; prints = x.refused 9 0 q }
 
 -- Two texts that are printed for the same files, where the schema file is answered 9, differ at most in J and K.
-pub nine_texts : {file s t : List ℕ} {p : ℕ} → FromFile file s → FromFile file t → AnswerIs file (replicate least_witness 0) (RefusedAt 9 p)
+pub nine_texts : {file s t : List ℕ} {p : ℕ} → FromFile file s → FromFile file t → AnswerIs file (replicate least_witness 0) (refused_at 9 p)
     → NineTexts file s t
 nine_texts {file} {t = t} x y r =
     let u = answered x r in
@@ -148,17 +147,17 @@ nine_texts {file} {t = t} x y r =
     }
 
 -- a file is answered 9, or not
-nine_or_other : (v : Verdict) → ((p : ℕ) × (v ≡ RefusedAt 9 p)) ⊎ ((p : ℕ) → ¬ (v ≡ RefusedAt 9 p))
-nine_or_other Fine = inr (λ p q. refused_not_fine q refl)
-nine_or_other (RefusedAt n p) =
+nine_or_other : (v : Verdict) → ((p : ℕ) × (v ≡ refused_at 9 p)) ⊎ ((p : ℕ) → ¬ (v ≡ refused_at 9 p))
+nine_or_other fine = inr (λ p q. refused_not_fine q refl)
+nine_or_other (refused_at n p) =
     elim (ℕ_discrete n 9) [
-      | yes e ↦ inl (p, ap (λ (k : ℕ). RefusedAt k p) e)
+      | yes e ↦ inl (p, ap (λ (k : ℕ). refused_at k p) e)
       | no d ↦ inr (λ l. other_number refl d)
     ]
 
 -- Two texts that are printed for the same files are one, if they are so where the schema file is not answered 9; or they differ at most in J and K.
 pub one_or_nine : {file s t : List ℕ} → FromFile file s → FromFile file t
-    → (((p : ℕ) → ¬ AnswerIs file (replicate least_witness 0) (RefusedAt 9 p)) → s ≡ t) → (s ≡ t) ⊎ NineTexts file s t
+    → (((p : ℕ) → ¬ AnswerIs file (replicate least_witness 0) (refused_at 9 p)) → s ≡ t) → (s ≡ t) ⊎ NineTexts file s t
 one_or_nine {file} x y other =
     let was : List ℕ = replicate least_witness 0 in
     ⊎_elim (λ z. inr (nine_texts x y (subst (AnswerIs file was) z.1 x.means.answer)))

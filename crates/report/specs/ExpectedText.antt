@@ -1,7 +1,6 @@
 -- The text that the program `whatnext` prints for shop staff: what would have been taken where an event file is refused. Document 02, Req 07.
 use Rattle.std.specs.Prelude.{Bool, cond, List, [], ◌∷◌, ◌++◌, ℕ, eqb, take}
-use Rattle.sdtd.specs.declared.Verdict.{Verdict}
-use Rattle.sdtd.specs.declared.Verdict.TheVariants.{Fine, RefusedAt}
+use Rattle.sdtd.specs.Answer.{Verdict, fine, refused_at}
 use Rattle.expected.specs.declared.Expected.{Expected}
 use Rattle.text.specs.Line.{line_end}
 use Rattle.report.specs.Words.{refused, space, accepted_line, inside, open_plain, open_nil, close_line, finish_line}
@@ -42,5 +41,5 @@ expected_text e = cond (eqb e.number 0) accepted_line (refusal_line refused e.nu
 
 -- A refused schema prints what `typestock` prints for it.
 abbrev pub expected_text_of : List ℕ → Verdict → Expected → List ℕ
-expected_text_of witness Fine e = expected_text e
-expected_text_of witness (RefusedAt n p) e = schema_refused_text witness n p
+expected_text_of witness fine e = expected_text e
+expected_text_of witness (refused_at n p) e = schema_refused_text witness n p

@@ -6,40 +6,38 @@ use lib.ListN.{length, get_or}
 use Rattle.sdtd.specs.Trim.{SomeRootBears}
 use Rattle.sdtd.specs.Reduced.{EveryTypeUsed, used_asked}
 use Rattle.sdtd.specs.Competition.{Competition}
-use Rattle.sdtd.specs.Answer.{Ordered}
+use Rattle.sdtd.specs.Answer.{Ordered, Verdict, fine, refused_at}
 use Rattle.sdtd.proofs.UsedAsked.{FirstUnused, every_type_ordered}
 use Rattle.competition.specs.Questions.{competition_asked}
 use Rattle.commands.specs.File.{Stated, states, schema_by, type_place, unknown}
 use Rattle.schema_file.specs.Answer.{AnswerBy}
-use Rattle.sdtd.specs.declared.Verdict.{Verdict}
-use Rattle.sdtd.specs.declared.Verdict.TheVariants.{Fine, RefusedAt}
 
 -- of the types of the schema stated there is one that is not used, and the answer is 24 at the TYPE of the first of these
 abbrev pub UnusedAt : Stated → Verdict → Type 0
-UnusedAt g a = FirstUnused (schema_by g) 0 (length (schema_by g).blocks) (λ k. RefusedAt 24 (type_place g k)) a
+UnusedAt g a = FirstUnused (schema_by g) 0 (length (schema_by g).blocks) (λ k. refused_at 24 (type_place g k)) a
 
 -- which question decides, and the answer
 pub data AfterDone (g : Stated) (a : Verdict) : Type 0 where
-  unknown_type : ¬ (unknown g ≡ []) → a ≡ RefusedAt 7 (get_or (unknown g) 0 0) → AfterDone g a
-  treeless : unknown g ≡ [] → ¬ SomeRootBears (schema_by g) → a ≡ RefusedAt 8 0 → AfterDone g a
+  unknown_type : ¬ (unknown g ≡ []) → a ≡ refused_at 7 (get_or (unknown g) 0 0) → AfterDone g a
+  treeless : unknown g ≡ [] → ¬ SomeRootBears (schema_by g) → a ≡ refused_at 8 0 → AfterDone g a
   unused : unknown g ≡ [] → SomeRootBears (schema_by g) → UnusedAt g a → AfterDone g a
-  competing : unknown g ≡ [] → SomeRootBears (schema_by g) → EveryTypeUsed (schema_by g) → ¬ (¬ Competition (schema_by g)) → a ≡ RefusedAt 9 0
+  competing : unknown g ≡ [] → SomeRootBears (schema_by g) → EveryTypeUsed (schema_by g) → ¬ (¬ Competition (schema_by g)) → a ≡ refused_at 9 0
       → AfterDone g a
-  accepted : unknown g ≡ [] → SomeRootBears (schema_by g) → EveryTypeUsed (schema_by g) → ¬ Competition (schema_by g) → a ≡ Fine → AfterDone g a
+  accepted : unknown g ≡ [] → SomeRootBears (schema_by g) → EveryTypeUsed (schema_by g) → ¬ Competition (schema_by g) → a ≡ fine → AfterDone g a
 
 module _ (g : Stated) (a : Verdict) where
   -- question 9 alone
   abbrev LastAsked : Type 0
-  LastAsked = Ordered (competition_asked (RefusedAt 9 0) (schema_by g) ∷ []) (λ b. b ≡ Fine) a
+  LastAsked = Ordered (competition_asked (refused_at 9 0) (schema_by g) ∷ []) (λ b. b ≡ fine) a
 
   used_then :
       Ordered
-      (used_asked (λ k. RefusedAt 24 (type_place g k)) (schema_by g) 0 (length (schema_by g).blocks)
-      ++ (competition_asked (RefusedAt 9 0) (schema_by g) ∷ []))
-      (λ b. b ≡ Fine) a
+      (used_asked (λ k. refused_at 24 (type_place g k)) (schema_by g) 0 (length (schema_by g).blocks)
+      ++ (competition_asked (refused_at 9 0) (schema_by g) ∷ []))
+      (λ b. b ≡ fine) a
       ↔ (UnusedAt g a ⊎ (EveryTypeUsed (schema_by g) × LastAsked))
   used_then =
-      every_type_ordered (λ k. RefusedAt 24 (type_place g k)) (schema_by g) (competition_asked (RefusedAt 9 0) (schema_by g) ∷ []) (λ b. b ≡ Fine) a
+      every_type_ordered (λ k. refused_at 24 (type_place g k)) (schema_by g) (competition_asked (refused_at 9 0) (schema_by g) ∷ []) (λ b. b ≡ fine) a
 
   pub after_cases : AnswerBy (states g) a → AfterDone g a
   after_cases (inl o) = unknown_type o.0 o.1

@@ -10,7 +10,7 @@ use Rattle.sdtd.specs.Schema.{Schema as Meaning, WithinLimits}
 use Rattle.sdtd.specs.Trim.{SomeRootBears}
 use Rattle.sdtd.specs.Reduced.{EveryTypeUsed}
 use Rattle.sdtd.specs.Competition.{Competition}
-use Rattle.sdtd.specs.Answer.{Ordered}
+use Rattle.sdtd.specs.Answer.{Ordered, Verdict, fine, refused_at}
 use Rattle.sdtd.proofs.UsedAsked.{FirstUnused, every_type_ordered}
 use Rattle.sdtd.proofs.Verdicts.{same_number, same_place, other_number, refused_not_fine}
 use Rattle.schema.specs.Value.{meaning}
@@ -19,8 +19,6 @@ use Rattle.competition.specs.Search.{Written, questions_of, ReducedMeans}
 use Rattle.competition.proofs.Answers.{witness_competes}
 use Rattle.schema.specs.declared.value.Schema.{Schema}
 use Rattle.commands.specs.File.{Stated, Commands, stopped, states, commands, schema_by, type_place, unknown}
-use Rattle.sdtd.specs.declared.Verdict.{Verdict}
-use Rattle.sdtd.specs.declared.Verdict.TheVariants.{Fine, RefusedAt}
 use Rattle.commands.specs.declared.commands.StatedSchema.{StatedSchema}
 use Rattle.commands.proofs.Passing.{stopped_before}
 use Rattle.commands.proofs.StatedLimits.{stated_within}
@@ -34,17 +32,17 @@ use Rattle.schema_file.proofs.AfterDone.{UnusedAt, unused, competing, accepted, 
 
 -- a refusal with no schema beside it
 abbrev pub refusal : ℕ → ℕ → SchemaFile
-refusal n p = record { answer = RefusedAt n p; schema = no_schema }
+refusal n p = record { answer = refused_at n p; schema = no_schema }
 
-no_schema_lem : (k : Commands) (n p : ℕ) → SchemaBy k no_schema (RefusedAt n p)
+no_schema_lem : (k : Commands) (n p : ℕ) → SchemaBy k no_schema (refused_at n p)
 no_schema_lem k n p = (λ e. refused_not_fine refl e, λ d. refl)
 
-pub buffer_same : (k : Commands) (was : List ℕ) (n p : ℕ) → n ≢ 9 → BufferBy k was was (RefusedAt n p)
+pub buffer_same : (k : Commands) (was : List ℕ) (n p : ℕ) → n ≢ 9 → BufferBy k was was (refused_at n p)
 buffer_same k was n p l = (λ e. absurd (other_number refl l e), λ d. refl)
 
 module _ (file was : List ℕ) where
   -- a refusal other than 9 leaves the buffer as it was
-  refused_means : (n p : ℕ) → n ≢ 9 → AnswerIs file was (RefusedAt n p) → FileMeans file was was (refusal n p)
+  refused_means : (n p : ℕ) → n ≢ 9 → AnswerIs file was (refused_at n p) → FileMeans file was was (refusal n p)
   refused_means n p l a =
       record { answer = a; buffer = buffer_same (commands file) was n p l; schema = no_schema_lem (commands file) n p }
 
@@ -54,7 +52,7 @@ module _ (file was : List ℕ) where
   module _ (long : least_witness ≤ length was) where
     pub stopped_means : {n p : ℕ} → commands file ≡ stopped n p → FileMeans file was was (refusal n p)
     stopped_means {n} {p} e =
-        refused_means n p (λ z. stopped_before file e (omega arith) (omega arith)) (inr (long, subst (λ (k : Commands). AnswerBy k (RefusedAt n p)) (sym e) refl))
+        refused_means n p (λ z. stopped_before file e (omega arith) (omega arith)) (inr (long, subst (λ (k : Commands). AnswerBy k (refused_at n p)) (sym e) refl))
 
     module _ {g : Stated} (e : commands file ≡ states g) where
       answered : {a : Verdict} → AnswerBy (states g) a → AnswerIs file was a
@@ -68,29 +66,29 @@ module _ (file was : List ℕ) where
         treeless_means d = refused_means 8 0 (omega arith) (answered (inr (known, inl (d, refl))))
 
         module _ (bears : SomeRootBears (schema_by g)) where
-          pub unused_means : {p : ℕ} → UnusedAt g (RefusedAt 24 p) → FileMeans file was was (refusal 24 p)
-          unused_means {p} f = refused_means 24 p (omega arith) (answered (after_answer g (RefusedAt 24 p) (unused known bears f)))
+          pub unused_means : {p : ℕ} → UnusedAt g (refused_at 24 p) → FileMeans file was was (refusal 24 p)
+          unused_means {p} f = refused_means 24 p (omega arith) (answered (after_answer g (refused_at 24 p) (unused known bears f)))
 
           module _ (used : EveryTypeUsed (schema_by g)) where
             pub compete_means : (is : List ℕ) → Written (schema_by g) was is → FileMeans file was is (refusal 9 0)
             compete_means is w =
                 record {
-                  answer = answered (after_answer g (RefusedAt 9 0) (competing known bears used (λ n. n (witness_competes w.witness)) refl));
-                  buffer = subst (λ (k : Commands). BufferBy k was is (RefusedAt 9 0)) (sym e) (λ q. w, λ d. absurd (d refl));
+                  answer = answered (after_answer g (refused_at 9 0) (competing known bears used (λ n. n (witness_competes w.witness)) refl));
+                  buffer = subst (λ (k : Commands). BufferBy k was is (refused_at 9 0)) (sym e) (λ q. w, λ d. absurd (d refl));
                   schema = no_schema_lem (commands file) 9 0;
                 }
 
             pub accepted_means : (v : Schema) → StatedValue g v → ¬ Competition (schema_by g)
-                → FileMeans file was was (record { answer = Fine; schema = v })
+                → FileMeans file was was (record { answer = fine; schema = v })
             accepted_means v m n =
                 record {
-                  answer = answered (after_answer g Fine (accepted known bears used n refl));
-                  buffer = subst (λ (k : Commands). BufferBy k was was Fine) (sym e) (λ q. refused_not_fine q refl, λ d. refl);
-                  schema = subst (λ (k : Commands). SchemaBy k v Fine) (sym e) (λ q. m, λ d. absurd (d refl));
+                  answer = answered (after_answer g fine (accepted known bears used n refl));
+                  buffer = subst (λ (k : Commands). BufferBy k was was fine) (sym e) (λ q. refused_not_fine q refl, λ d. refl);
+                  schema = subst (λ (k : Commands). SchemaBy k v fine) (sym e) (λ q. m, λ d. absurd (d refl));
                 }
 
 -- the same for a result whose answer is the refusal
-pub as_refusal : {file was is : List ℕ} {r : SchemaFile} {n p : ℕ} → (r.answer ≡ RefusedAt n p) × (r.schema ≡ no_schema)
+pub as_refusal : {file was is : List ℕ} {r : SchemaFile} {n p : ℕ} → (r.answer ≡ refused_at n p) × (r.schema ≡ no_schema)
     → FileMeans file was is (refusal n p) → FileMeans file was is r
 as_refusal {file} {was} {is} e m = subst (FileMeans file was is) (λ i. record { answer = sym e.0 i; schema = sym e.1 i }) m
 
@@ -98,10 +96,10 @@ abbrev verdict_of : StatedSchema → Verdict
 verdict_of r = r.verdict
 
 -- The refusal of questions 2 to 7 or 21 to 23 is the file's.
-module _ (file was : List ℕ) (long : least_witness ≤ length was) (r : StatedSchema) {n p : ℕ} (o : r.verdict ≡ RefusedAt n p) where
-  same_refusal : {m q : ℕ} → r.verdict ≡ RefusedAt m q → FileMeans file was was (refusal m q) → FileMeans file was was (refusal n p)
+module _ (file was : List ℕ) (long : least_witness ≤ length was) (r : StatedSchema) {n p : ℕ} (o : r.verdict ≡ refused_at n p) where
+  same_refusal : {m q : ℕ} → r.verdict ≡ refused_at m q → FileMeans file was was (refusal m q) → FileMeans file was was (refusal n p)
   same_refusal {m} {q} e f =
-      let d : RefusedAt m q ≡ RefusedAt n p = sym e ∙ o in
+      let d : refused_at m q ≡ refused_at n p = sym e ∙ o in
       subst (λ (x : ℕ). FileMeans file was was (refusal n x)) (same_place d)
       (subst (λ (x : ℕ). FileMeans file was was (refusal x q)) (same_number d) f)
 
@@ -120,7 +118,7 @@ pub record Passed (file : List ℕ) (v : Schema) : Type 0 where
   pub known : unknown stated ≡ []
   pub value : StatedValue stated v
 
-module _ (file : List ℕ) (r : StatedSchema) (o : r.verdict ≡ Fine) where
+module _ (file : List ℕ) (r : StatedSchema) (o : r.verdict ≡ fine) where
   by_passed : (k : Commands) → commands file ≡ k → CommandsBy k r → Passed file r.schema
   by_passed (stopped m q) e b = refused_not_fine (ap verdict_of b) o
   by_passed (states g) e (inl b) = refused_not_fine (ap verdict_of b.1) o
@@ -136,29 +134,29 @@ value_within {file} s =
 
 -- the answer to a file whose value gets the verdict
 abbrev pub judged_file : List ℕ → Schema → Verdict → SchemaFile
-judged_file file v (RefusedAt n p) = refusal n (place_in file n p)
-judged_file file v Fine = record { answer = Fine; schema = v }
+judged_file file v (refused_at n p) = refusal n (place_in file n p)
+judged_file file v fine = record { answer = fine; schema = v }
 
 -- what the questions of a schema inside the limits leave, where the buffer is long enough
 abbrev Unused : Meaning → Verdict → Type 0
-Unused S r = FirstUnused S 0 (length S.blocks) (λ k. RefusedAt 24 k) r
+Unused S r = FirstUnused S 0 (length S.blocks) (λ k. refused_at 24 k) r
 
 judged_cases : {R : Type 0} {S : Meaning} {was is : List ℕ} {r : Verdict} → ReducedMeans S was is r → least_witness ≤ length was → WithinLimits S
-    → (¬ SomeRootBears S → r ≡ RefusedAt 8 0 → R) → (SomeRootBears S → Unused S r → R)
-    → (SomeRootBears S → EveryTypeUsed S → r ≡ RefusedAt 9 0 → R)
-    → (SomeRootBears S → EveryTypeUsed S → ¬ Competition S → r ≡ Fine → R) → R
+    → (¬ SomeRootBears S → r ≡ refused_at 8 0 → R) → (SomeRootBears S → Unused S r → R)
+    → (SomeRootBears S → EveryTypeUsed S → r ≡ refused_at 9 0 → R)
+    → (SomeRootBears S → EveryTypeUsed S → ¬ Competition S → r ≡ fine → R) → R
 judged_cases {R} {S} {was} {is} {r} m long within f8 f24 f9 f0 = by_answer m.answer
   where
-    by_answer : Ordered (questions_of S was (length S.blocks)) (λ a. a ≡ Fine) r → R
+    by_answer : Ordered (questions_of S was (length S.blocks)) (λ a. a ≡ fine) r → R
     by_answer (inl o) = absurd (o.0 long)
     by_answer (inr (l, inl o)) = absurd (o.0 within)
     by_answer (inr (l, inr (w, inl o))) = f8 o.0 o.1
     by_answer (inr (l, inr (w, inr (b, o)))) =
         ⊎_elim (λ u. f24 b u) (λ p. ⊎_elim (λ c. f9 b p.0 c.1) (λ n. f0 b p.0 n.0 n.1) p.1)
-        ((every_type_ordered (λ k. RefusedAt 24 k) S (competition_asked (RefusedAt 9 0) S ∷ []) (λ a. a ≡ Fine) r).0 o)
+        ((every_type_ordered (λ k. refused_at 24 k) S (competition_asked (refused_at 9 0) S ∷ []) (λ a. a ≡ fine) r).0 o)
 
 -- the place of a 24 is a type
-pub judged_type : {S : Meaning} {was is : List ℕ} {n p : ℕ} → ReducedMeans S was is (RefusedAt n p) → least_witness ≤ length was → WithinLimits S
+pub judged_type : {S : Meaning} {was is : List ℕ} {n p : ℕ} → ReducedMeans S was is (refused_at n p) → least_witness ≤ length was → WithinLimits S
     → n ≡ 24 → p < most_types
 judged_type {n = n} {p = p} m long within z =
     judged_cases m long within
@@ -180,7 +178,7 @@ module _ {file : List ℕ} {v : Schema} (s : Passed file v) (was : List ℕ) (lo
   judged_as e f = subst (λ (a : Verdict). FileMeans file was is (judged_file file v a)) (sym e) f
 
   -- with another verdict than 9 the buffer is as it was
-  unchanged_as : {a : Verdict} → r ≡ a → ¬ (a ≡ RefusedAt 9 0) → FileMeans file was was (judged_file file v a)
+  unchanged_as : {a : Verdict} → r ≡ a → ¬ (a ≡ refused_at 9 0) → FileMeans file was was (judged_file file v a)
       → FileMeans file was is (judged_file file v r)
   unchanged_as {a} e n f =
       judged_as e (subst (λ (l : List ℕ). FileMeans file was l (judged_file file v a)) (sym (m.unchanged (λ q. n (sym e ∙ q)))) f)
@@ -189,7 +187,7 @@ module _ {file : List ℕ} {v : Schema} (s : Passed file v) (was : List ℕ) (lo
   unused_as : SomeRootBears (schema_by stated) → Unused (schema_by stated) r → FileMeans file was is (judged_file file v r)
   unused_as bears u =
       let here = type_place_stated file u.type s.commands_state in
-      let first : UnusedAt stated (RefusedAt 24 (type_place stated u.type)) =
+      let first : UnusedAt stated (refused_at 24 (type_place stated u.type)) =
       record { type = u.type; from = u.from; below = u.below; unused = u.unused; before = u.before; answer = refl } in
       unchanged_as u.answer (other_number refl (λ z. omega arith))
       (subst (λ (p : ℕ). FileMeans file was was (refusal 24 p)) (sym here) (unused_means file was long s.commands_state s.known bears first))

@@ -11,7 +11,7 @@ use Rattle.sdtd.specs.Schema.{Schema as Meaning}
 use Rattle.sdtd.specs.Reduced.{EveryTypeUsed}
 use Rattle.sdtd.specs.Competition.{Competition}
 use Rattle.sdtd.specs.Competition.{Accepted as IsAccepted}
-use Rattle.sdtd.specs.Answer.{ask, Ordered}
+use Rattle.sdtd.specs.Answer.{ask, Ordered, Verdict, fine, refused_at}
 use Rattle.sdtd.proofs.Answers.{ordered_unique}
 use Rattle.sdtd.proofs.Ambiguity.{competition_is_ambiguity}
 use Rattle.sdtd.proofs.Trimming.{root_bears}
@@ -25,22 +25,20 @@ use Rattle.commands.proofs.StatedLimits.{stated_within}
 use Rattle.commands.proofs.Lengths.{longest}
 use Rattle.competition.proofs.Answers.{witness_competes}
 use Rattle.schema_file.proofs.AfterDone.{AfterDone, unknown_type, treeless, unused, competing, accepted, after_cases}
-use Rattle.sdtd.specs.declared.Verdict.{Verdict}
-use Rattle.sdtd.specs.declared.Verdict.TheVariants.{Fine, RefusedAt}
 
 -- at most one answer where the buffer is long enough
 by_unique : (x : Commands) {a b : Verdict} → AnswerBy x a → AnswerBy x b → a ≡ b
 by_unique (stopped n p) r s = r ∙ sym s
-by_unique (states g) r s = ordered_unique (λ c. c ≡ Fine) (after_done g) (λ all u v. u ∙ sym v) r s
+by_unique (states g) r s = ordered_unique (λ c. c ≡ fine) (after_done g) (λ all u v. u ∙ sym v) r s
 
 -- a file has at most one answer
 pub file_unique : (file was : List ℕ) {a b : Verdict} → AnswerIs file was a → AnswerIs file was b → a ≡ b
 file_unique file was r s =
-    ordered_unique (AnswerBy (commands file)) (ask (RefusedAt 1 0) (least_witness ≤ length was) ∷ []) (λ all u v. by_unique (commands file) u v) r s
+    ordered_unique (AnswerBy (commands file)) (ask (refused_at 1 0) (least_witness ≤ length was) ∷ []) (λ all u v. by_unique (commands file) u v) r s
 
 -- the answer where the questions before 9 hold
 last_question : (g : Stated) {a : Verdict} → unknown g ≡ [] → SomeValid (schema_by g) → EveryTypeUsed (schema_by g) → AfterDone g a
-    → Ordered (ask (RefusedAt 9 0) (¬ Competition (schema_by g)) ∷ []) (λ b. b ≡ Fine) a
+    → Ordered (ask (refused_at 9 0) (¬ Competition (schema_by g)) ∷ []) (λ b. b ≡ fine) a
 last_question g known some used (unknown_type n e) = absurd (n known)
 last_question g known some used (treeless k n e) = absurd (n (root_bears.1 some))
 last_question g known some used (unused k b f) = absurd (f.unused (used f.type (omega (arith, f.below))))
@@ -48,8 +46,8 @@ last_question g known some used (competing k b u c e) = inl (c, e)
 last_question g known some used (accepted k b u n e) = inr (n, e)
 
 -- the answer to question 9, with a competition where it is refused for one
-demanded : {S : Meaning} {a : Verdict} → Ordered (ask (RefusedAt 9 0) (¬ Competition S) ∷ []) (λ b. b ≡ Fine) a
-    → (a ≡ RefusedAt 9 0 → Competition S) → Demand3File S a
+demanded : {S : Meaning} {a : Verdict} → Ordered (ask (refused_at 9 0) (¬ Competition S) ∷ []) (λ b. b ≡ fine) a
+    → (a ≡ refused_at 9 0 → Competition S) → Demand3File S a
 demanded (inl o) found =
     record {
       refused = (λ e. competition_is_ambiguity.0 (found e), λ m. o.1);
@@ -89,7 +87,7 @@ pub record AcceptedFile (file : List ℕ) (v : Schema) : Type 0 where
   pub used : EveryTypeUsed (meaning v)
   pub short : OldWithOneRoot file → length file ≤ most_bytes
 
-module _ (file : List ℕ) {g : Stated} {v : Schema} {a : Verdict} (e : commands file ≡ states g) (s : SchemaBy (states g) v a) (q : a ≡ Fine) where
+module _ (file : List ℕ) {g : Stated} {v : Schema} {a : Verdict} (e : commands file ≡ states g) (s : SchemaBy (states g) v a) (q : a ≡ fine) where
   accepted_after : AfterDone g a → AcceptedFile file v
   accepted_after (unknown_type n o) = refused_not_fine o q
   accepted_after (treeless k n o) = refused_not_fine o q
@@ -104,14 +102,14 @@ module _ (file : List ℕ) {g : Stated} {v : Schema} {a : Verdict} (e : commands
         short = λ old. longest file old g e;
       }
 
-accepted_by : (file : List ℕ) (k : Commands) {v : Schema} {a : Verdict} → commands file ≡ k → AnswerBy k a → SchemaBy k v a → a ≡ Fine
+accepted_by : (file : List ℕ) (k : Commands) {v : Schema} {a : Verdict} → commands file ≡ k → AnswerBy k a → SchemaBy k v a → a ≡ fine
     → AcceptedFile file v
 accepted_by file (stopped n p) e r s q = refused_not_fine r q
 accepted_by file (states g) {a = a} e r s q = accepted_after file e s q (after_cases g a r)
 
 -- The schema beside an accepting answer is inside question 10's limits and accepted, and a valid document uses each of its types; a file with
 -- one ROOT and only old commands is no longer than 8,389 bytes.
-pub accepted_file : {file was is : List ℕ} {r : SchemaFile} → FileMeans file was is r → r.answer ≡ Fine → AcceptedFile file r.schema
+pub accepted_file : {file was is : List ℕ} {r : SchemaFile} → FileMeans file was is r → r.answer ≡ fine → AcceptedFile file r.schema
 accepted_file {file} {was} {is} {r} m q = from m.answer
   where
     from : AnswerIs file was r.answer → AcceptedFile file r.schema

@@ -7,7 +7,7 @@ use native.Mathlib.Omega.{arith}
 use lib.ListN.{length, drop}
 use Rattle.sdtd.specs.Limits.{least_witness}
 use Rattle.sdtd.specs.Schema.{Schema as Meaning, WithinLimits}
-use Rattle.sdtd.specs.Answer.{ask}
+use Rattle.sdtd.specs.Answer.{ask, Verdict, fine, refused_at}
 use Rattle.sdtd.specs.Competition.{Competition}
 use Rattle.sdtd.proofs.Answers.{Decided, ordered_exists}
 use Rattle.sdtd.proofs.Tests.{to_dec, le_means}
@@ -22,33 +22,31 @@ use Rattle.competition.specs.Questions.{competition_asked}
 use Rattle.competition.specs.Search.{Written}
 use Rattle.commands.specs.File.{Stated, Commands, stopped, states, commands, schema_by, type_place, unknown}
 use Rattle.schema_file.specs.Answer.{after_done, AnswerBy, AnswerIs, BufferBy}
-use Rattle.sdtd.specs.declared.Verdict.{Verdict}
-use Rattle.sdtd.specs.declared.Verdict.TheVariants.{Fine, RefusedAt}
 use Rattle.commands.proofs.Passing.{stopped_before}
 use Rattle.commands.proofs.StatedLimits.{stated_within}
 use Rattle.schema_file.proofs.AfterDone.{AfterDone, unknown_type, treeless, unused, competing, accepted, after_cases}
 use Rattle.schema_file.proofs.FileAnswers.{file_unique}
 
 -- the questions after DONE are decided
-after_decided : (g : Stated) → Decided (after_done g) (λ b. b ≡ Fine)
+after_decided : (g : Stated) → Decided (after_done g) (λ b. b ≡ fine)
 after_decided g = (
   none_decided (unknown g),
   λ k. (
     to_dec (some_root_bears_means (live_table (schema_by g)).1),
     λ b.
-        used_asked_decided (λ a. RefusedAt 24 (type_place g a)) (schema_by g) (competition_asked (RefusedAt 9 0) (schema_by g) ∷ []) (λ c. c ≡ Fine)
-        0 (length (schema_by g).blocks) (λ u. (restrained_decided (schema_by g), λ n. (Fine, refl))),
+        used_asked_decided (λ a. refused_at 24 (type_place g a)) (schema_by g) (competition_asked (refused_at 9 0) (schema_by g) ∷ []) (λ c. c ≡ fine)
+        0 (length (schema_by g).blocks) (λ u. (restrained_decided (schema_by g), λ n. (fine, refl))),
   ),
 )
 
 -- there is an answer where the buffer is long enough
 by_exists : (k : Commands) → (a : Verdict) × AnswerBy k a
-by_exists (stopped n p) = (RefusedAt n p, refl)
-by_exists (states g) = ordered_exists (λ b. b ≡ Fine) (after_done g) (after_decided g)
+by_exists (stopped n p) = (refused_at n p, refl)
+by_exists (states g) = ordered_exists (λ b. b ≡ fine) (after_done g) (after_decided g)
 
 pub file_exists : (file was : List ℕ) → (a : Verdict) × AnswerIs file was a
 file_exists file was =
-    ordered_exists (AnswerBy (commands file)) (ask (RefusedAt 1 0) (least_witness ≤ length was) ∷ [])
+    ordered_exists (AnswerBy (commands file)) (ask (refused_at 1 0) (least_witness ≤ length was) ∷ [])
     (to_dec (le_means least_witness (length was)), λ l. by_exists (commands file))
 
 -- Every file has exactly one answer by the ordered questions.
@@ -62,10 +60,10 @@ written_exists S was w c =
     (x.0 ++ drop (length x.0) was, record { bytes = x.0; witness = x.1; filled = refl })
 
 -- on every answer but 9 the buffer as it was; on 9 one with a witness
-unchanged : (k : Commands) (was : List ℕ) {a : Verdict} → ¬ (a ≡ RefusedAt 9 0) → BufferBy k was was a
+unchanged : (k : Commands) (was : List ℕ) {a : Verdict} → ¬ (a ≡ refused_at 9 0) → BufferBy k was was a
 unchanged k was d = (λ q. absurd (d q), λ e. refl)
 
-filled : (g : Stated) {was is : List ℕ} {a : Verdict} → a ≡ RefusedAt 9 0 → Written (schema_by g) was is → BufferBy (states g) was is a
+filled : (g : Stated) {was is : List ℕ} {a : Verdict} → a ≡ refused_at 9 0 → Written (schema_by g) was is → BufferBy (states g) was is a
 filled g e w = (λ q. w, λ d. absurd (d e))
 
 after_buffer : (file was : List ℕ) (g : Stated) (a : Verdict) → commands file ≡ states g → AfterDone g a

@@ -34,8 +34,7 @@ use Rattle.commands.proofs.TypePlaces.{type_place_stated}
 use Rattle.competition.proofs.Answers.{witness_competes}
 use Rattle.schema_file.proofs.AfterDone.{UnusedAt, unused, competing, accepted, after_answer}
 use Rattle.schema_file.proofs.Answered.{buffer_same}
-use Rattle.sdtd.specs.declared.Verdict.{Verdict}
-use Rattle.sdtd.specs.declared.Verdict.TheVariants.{Fine, RefusedAt}
+use Rattle.sdtd.specs.Answer.{Verdict, fine, refused_at}
 
 -- what is stated where the commands passed
 abbrev stated_in : Commands → Stated
@@ -81,38 +80,38 @@ module _ {file : List ℕ} {S : Schema} (x : StatesSchema file S) (was : List �
   used : EveryTypeUsed S → EveryTypeUsed (schema_by x.stated)
   used u = subst EveryTypeUsed (sym x.schema) u
 
-  accepted_file : IsAccepted S → EveryTypeUsed S → AnswerIs file was Fine × BufferBy (commands file) was was Fine
+  accepted_file : IsAccepted S → EveryTypeUsed S → AnswerIs file was fine × BufferBy (commands file) was was fine
   accepted_file a u = (
     by_schema
-        (after_answer x.stated Fine
+        (after_answer x.stated fine
         (accepted x.known (bears a.bears) (used u) (subst (λ (R : Schema). ¬ Competition R) (sym x.schema) a.no_competition) refl)),
     (λ e. refused_not_fine e refl, λ n. refl),
   )
 
   -- the type k is the first that is not used
   unused_file : SomeRootBears S → (k : ℕ) → k < length S.blocks → ((b : ℕ) → b < k → Used S b) → ¬ Used S k → (p : ℕ)
-      → place_of_type file k ≡ p → AnswerIs file was (RefusedAt 24 p) × BufferBy (commands file) was was (RefusedAt 24 p)
+      → place_of_type file k ≡ p → AnswerIs file was (refused_at 24 p) × BufferBy (commands file) was was (refused_at 24 p)
   unused_file b k l before not_used p e =
       let given : k < length (schema_by x.stated).blocks = subst (λ (R : Schema). k < length R.blocks) (sym x.schema) l in
-      let f : UnusedAt x.stated (RefusedAt 24 p) =
+      let f : UnusedAt x.stated (refused_at 24 p) =
       record {
         type = k;
         from = omega arith;
         below = omega (arith, given);
         unused = λ u. not_used (subst (λ (R : Schema). Used R k) x.schema u);
         before = λ j z h. subst (λ (R : Schema). Used R j) (sym x.schema) (before j h);
-        answer = ap (λ (q : ℕ). RefusedAt 24 q) (sym e ∙ type_place_stated file k x.passes);
+        answer = ap (λ (q : ℕ). refused_at 24 q) (sym e ∙ type_place_stated file k x.passes);
       } in
-      (by_schema (after_answer x.stated (RefusedAt 24 p) (unused x.known (bears b) f)), buffer_same (commands file) was 24 p (omega arith))
+      (by_schema (after_answer x.stated (refused_at 24 p) (unused x.known (bears b) f)), buffer_same (commands file) was 24 p (omega arith))
 
-  treeless_file : ¬ SomeRootBears S → AnswerIs file was (RefusedAt 8 0) × BufferBy (commands file) was was (RefusedAt 8 0)
+  treeless_file : ¬ SomeRootBears S → AnswerIs file was (refused_at 8 0) × BufferBy (commands file) was was (refused_at 8 0)
   treeless_file n = (by_schema (inr (x.known, inl (none_bears n, refl))), buffer_same (commands file) was 8 0 (omega arith))
 
   competing_file : {bytes : List ℕ} → SomeRootBears S → EveryTypeUsed S → Witness S bytes
-      → AnswerIs file was (RefusedAt 9 0) × BufferBy (commands file) was (bytes ++ drop (length bytes) was) (RefusedAt 9 0)
+      → AnswerIs file was (refused_at 9 0) × BufferBy (commands file) was (bytes ++ drop (length bytes) was) (refused_at 9 0)
   competing_file {bytes} b u w = (
     by_schema
-        (after_answer x.stated (RefusedAt 9 0)
+        (after_answer x.stated (refused_at 9 0)
         (competing x.known (bears b) (used u) (λ n. n (subst Competition (sym x.schema) (witness_competes w))) refl)),
     by_buffer (
       λ e.
@@ -140,8 +139,8 @@ starred_files_hold =
 
 -- the commands stop each file with the answer's number and place
 abbrev StopsAs : List ℕ → Verdict → Type 0
-StopsAs file Fine = ⊥
-StopsAs file (RefusedAt n p) = commands file ≡ stopped n p
+StopsAs file fine = ⊥
+StopsAs file (refused_at n p) = commands file ≡ stopped n p
 
 abbrev AllStop : List FileSample → Type 0
 AllStop [] = Unit
@@ -149,10 +148,10 @@ AllStop (s ∷ ss) = (StopsAs s.bytes s.answer × (s.witness ≡ [])) × AllStop
 
 stops : (file : List ℕ) (a : Verdict) {witness : List ℕ} → StopsAs file a → witness ≡ [] → (was : List ℕ) → least_witness ≤ length was
     → AnswerIs file was a × BufferBy (commands file) was (witness ++ drop (length witness) was) a
-stops file Fine k e was l = absurd k
-stops file (RefusedAt n p) k e was l =
+stops file fine k e was l = absurd k
+stops file (refused_at n p) k e was l =
     rw e (
-      inr (l, subst (λ (c : Commands). AnswerBy c (RefusedAt n p)) (sym k) refl),
+      inr (l, subst (λ (c : Commands). AnswerBy c (refused_at n p)) (sym k) refl),
       buffer_same (commands file) was n p (λ z. stopped_before file k (omega arith) (omega arith)),
     )
 

@@ -20,8 +20,7 @@ use Rattle.schema.proofs.RootLaws.{roots_count}
 use Rattle.commands.specs.File.{Commands, stopped, states, commands}
 use Rattle.commands.specs.Value.{HoldsFrom, EmptyFrom, UnusedEmpty, StatedValue}
 use Rattle.schema_file.specs.Answer.{OfStated, FileMeans}
-use Rattle.sdtd.specs.declared.Verdict.{Verdict}
-use Rattle.sdtd.specs.declared.Verdict.TheVariants.{Fine, RefusedAt}
+use Rattle.sdtd.specs.Answer.{Verdict, fine, refused_at}
 use Rattle.schema_file.specs.declared.file.SchemaFile.{SchemaFile}
 use Rattle.schema_file.proofs.FileAnswers.{file_unique}
 
@@ -165,6 +164,6 @@ one_result {file} {was} {is} {is'} {r} {s} m n k l i = record { answer = same i;
     same = file_unique file was m.answer n.answer
 
     schema : (a : Verdict) → r.answer ≡ a → r.schema ≡ s.schema
-    schema Fine q = by_stated (commands file) k l (m.schema.0 q) (n.schema.0 (sym same ∙ q))
-    schema (RefusedAt b p) q =
+    schema fine q = by_stated (commands file) k l (m.schema.0 q) (n.schema.0 (sym same ∙ q))
+    schema (refused_at b p) q =
         m.schema.1 (λ z. refused_not_fine q z) ∙ sym (n.schema.1 (λ z. refused_not_fine (sym same ∙ q) z))

@@ -12,7 +12,7 @@ use Rattle.competition.proofs.OneWitness.{SameTypeAndLength, same_written}
 use Rattle.commands.specs.File.{Stated, Commands, stopped, states, commands, schema_by, unknown, StatesSchema}
 use Rattle.commands.proofs.Passing.{stopped_before}
 use Rattle.schema_file.specs.Answer.{AnswerBy, AnswerIs, OfStated, FileMeans}
-use Rattle.sdtd.specs.declared.Verdict.TheVariants.{RefusedAt}
+use Rattle.sdtd.specs.Answer.{refused_at}
 use Rattle.schema_file.specs.declared.file.SchemaFile.{SchemaFile}
 use Rattle.schema_file.proofs.AfterDone.{AfterDone, unknown_type, treeless, unused, competing, accepted, after_cases}
 
@@ -23,18 +23,18 @@ record Nine (file : List ℕ) (place : ℕ) : Type 0 where
   passes : commands file ≡ states stated
   known : unknown stated ≡ []
 
-nine_after : (file : List ℕ) {p : ℕ} (g : Stated) → commands file ≡ states g → AfterDone g (RefusedAt 9 p) → Nine file p
+nine_after : (file : List ℕ) {p : ℕ} (g : Stated) → commands file ≡ states g → AfterDone g (refused_at 9 p) → Nine file p
 nine_after file g e (unknown_type n o) = absurd (omega (arith, ap verdict_number o))
 nine_after file g e (treeless k n o) = absurd (omega (arith, ap verdict_number o))
 nine_after file g e (unused k b f) = absurd (omega (arith, ap verdict_number f.answer))
 nine_after file g e (competing k b u c o) = record { first_place = ap verdict_place o; stated = g; passes = e; known = k }
 nine_after file g e (accepted k b u n o) = refused_not_fine refl o
 
-nine_by : (file : List ℕ) {p : ℕ} (k : Commands) → commands file ≡ k → AnswerBy k (RefusedAt 9 p) → Nine file p
+nine_by : (file : List ℕ) {p : ℕ} (k : Commands) → commands file ≡ k → AnswerBy k (refused_at 9 p) → Nine file p
 nine_by file (stopped n l) e r = let z = ap verdict_number r in absurd (stopped_before file e (omega arith) (omega arith))
-nine_by file {p} (states g) e r = nine_after file g e (after_cases g (RefusedAt 9 p) r)
+nine_by file {p} (states g) e r = nine_after file g e (after_cases g (refused_at 9 p) r)
 
-nine : (file was : List ℕ) {p : ℕ} → AnswerIs file was (RefusedAt 9 p) → Nine file p
+nine : (file was : List ℕ) {p : ℕ} → AnswerIs file was (refused_at 9 p) → Nine file p
 nine file was (inl o) = absurd (omega (arith, ap verdict_number o.1))
 nine file was (inr o) = nine_by file (commands file) refl o.1
 
@@ -44,7 +44,7 @@ pub record AnsweredNine (file is : List ℕ) : Type 0 where
   pub read : SchemaFile
   pub means : FileMeans file was is read
   pub place : ℕ
-  pub answer : read.answer ≡ RefusedAt 9 place
+  pub answer : read.answer ≡ refused_at 9 place
 
 -- what it left: a witness of the schema that the file states
 pub record NineWritten (file was is : List ℕ) : Type 0 where
@@ -57,8 +57,8 @@ module _ {file is : List ℕ} (x : AnsweredNine file is) where
   nine_of = nine file x.was (subst (AnswerIs file x.was) x.answer x.means.answer)
 
   -- the place is 0
-  pub nine_zero : x.read.answer ≡ RefusedAt 9 0
-  nine_zero = x.answer ∙ ap (λ (p : ℕ). RefusedAt 9 p) nine_of.first_place
+  pub nine_zero : x.read.answer ≡ refused_at 9 0
+  nine_zero = x.answer ∙ ap (λ (p : ℕ). refused_at 9 p) nine_of.first_place
 
   pub nine_written : NineWritten file x.was is
   nine_written =

@@ -4,14 +4,12 @@ use Rattle.sdtd.specs.Schema.{Schema as Meaning}
 use Rattle.sdtd.specs.Document.{Ambiguous}
 use Rattle.sdtd.specs.Trim.{SomeRootBears, Used}
 use Rattle.sdtd.specs.Reduced.{used_asked}
-use Rattle.sdtd.specs.Answer.{Question, Ordered, fine, refused_at, verdict_in}
+use Rattle.sdtd.specs.Answer.{Question, Ordered, fine, refused_at, Verdict}
 use Rattle.competition.specs.Questions.{buffer_asked, root_asked, competition_asked}
 use Rattle.competition.specs.Search.{Written}
 use Rattle.schema.specs.declared.value.Schema.{Schema}
 use Rattle.commands.specs.File.{Stated, Commands, stopped, states, commands, schema_by, type_place, unknown, known_asked}
 use Rattle.commands.specs.Value.{no_schema, StatedValue}
-use Rattle.sdtd.specs.declared.Verdict.{Verdict}
-use Rattle.sdtd.specs.declared.Verdict.TheVariants.{Fine, RefusedAt}
 use Rattle.schema_file.specs.declared.file.SchemaFile.{SchemaFile}
 
 -- "After DONE": "Does each STEP name a type that was given? No: 7, at the first that does not." "[Q]uestion 7 covers each 32." "The root
@@ -19,19 +17,19 @@ use Rattle.schema_file.specs.declared.file.SchemaFile.{SchemaFile}
 -- before competition, after 8, such a file gets 24, place that of the first such TYPE". "Is there no competition? No: 9, place 0."
 abbrev pub after_done : Stated → List (Question Verdict)
 after_done g =
-    known_asked (λ p. verdict_in (refused_at 7 p)) (unknown g)
-    ∷ root_asked (verdict_in (refused_at 8 0)) (schema_by g)
-    ∷ (used_asked (λ a. verdict_in (refused_at 24 (type_place g a))) (schema_by g) 0 (length (schema_by g).blocks)
-    ++ (competition_asked (verdict_in (refused_at 9 0)) (schema_by g) ∷ []))
+    known_asked (λ p. refused_at 7 p) (unknown g)
+    ∷ root_asked (refused_at 8 0) (schema_by g)
+    ∷ (used_asked (λ a. refused_at 24 (type_place g a)) (schema_by g) 0 (length (schema_by g).blocks)
+    ++ (competition_asked (refused_at 9 0) (schema_by g) ∷ []))
 
 -- the answer where the buffer is long enough
 abbrev pub AnswerBy : Commands → Verdict → Type 0
-AnswerBy (stopped n p) a = a ≡ verdict_in (refused_at n p)
-AnswerBy (states g) a = Ordered (after_done g) (λ b. b ≡ verdict_in fine) a
+AnswerBy (stopped n p) a = a ≡ refused_at n p
+AnswerBy (states g) a = Ordered (after_done g) (λ b. b ≡ fine) a
 
 -- "Has the witness buffer at least 532 bytes? No: 1, place 0." Then the questions of each command, and those after DONE.
 abbrev pub AnswerIs : List ℕ → List ℕ → Verdict → Type 0
-AnswerIs file was a = Ordered (buffer_asked (verdict_in (refused_at 1 0)) was ∷ []) (AnswerBy (commands file)) a
+AnswerIs file was a = Ordered (buffer_asked (refused_at 1 0) was ∷ []) (AnswerBy (commands file)) a
 
 -- the commands pass, and P holds of what they state
 abbrev pub OfStated : Commands → (Stated → Type 0) → Type 0
@@ -41,12 +39,12 @@ OfStated (states g) P = P g
 -- "On 9 the witness fills 5 + n bytes and the rest of the buffer is unchanged; on every other answer it is all unchanged."
 abbrev pub BufferBy : Commands → List ℕ → List ℕ → Verdict → Type 0
 BufferBy k was is a =
-    (a ≡ verdict_in (refused_at 9 0) → OfStated k (λ g. Written (schema_by g) was is))
-    × (¬ (a ≡ verdict_in (refused_at 9 0)) → is ≡ was)
+    (a ≡ refused_at 9 0 → OfStated k (λ g. Written (schema_by g) was is))
+    × (¬ (a ≡ refused_at 9 0) → is ≡ was)
 
 -- "The accepted schema is the one that the file states." Beside a refusal stands the value of no schema.
 abbrev pub SchemaBy : Commands → Schema → Verdict → Type 0
-SchemaBy k v a = (a ≡ verdict_in fine → OfStated k (λ g. StatedValue g v)) × (¬ (a ≡ verdict_in fine) → v ≡ no_schema)
+SchemaBy k v a = (a ≡ fine → OfStated k (λ g. StatedValue g v)) × (¬ (a ≡ fine) → v ≡ no_schema)
 
 -- What the schema file's call answers.
 pub record FileMeans (file was is : List ℕ) (r : SchemaFile) : Type 0 where
@@ -70,6 +68,6 @@ pub record FirstUnusedAt (file : List ℕ) (p : ℕ) : Type 0 where
 -- third demand supposes a file without one"): "It is refused for competition exactly when two valid documents [..] agree in every event through
 -- some opening tag and differ in that element's type. Otherwise it is accepted".
 pub record Demand3File (S : Meaning) (a : Verdict) : Type 0 where
-  pub refused : (a ≡ RefusedAt 9 0) ↔ Ambiguous S
-  pub accepted : (a ≡ Fine) ↔ (¬ Ambiguous S)
-  pub either : (a ≡ RefusedAt 9 0) ⊎ (a ≡ Fine)
+  pub refused : (a ≡ refused_at 9 0) ↔ Ambiguous S
+  pub accepted : (a ≡ fine) ↔ (¬ Ambiguous S)
+  pub either : (a ≡ refused_at 9 0) ⊎ (a ≡ fine)

@@ -6,8 +6,7 @@ use Rattle.sdtd.specs.Samples.{schema_r, schema_choice, schema_no_d, schema_two_
 use Rattle.sdtd.specs.Samples.{schema_endless, schema_racks, witness_choice, witness_two_ways}
 use Rattle.commands.specs.File.{commands, StatesSchema}
 use Rattle.schema_file.specs.Answer.{AnswerIs, BufferBy}
-use Rattle.sdtd.specs.declared.Verdict.{Verdict}
-use Rattle.sdtd.specs.declared.Verdict.TheVariants.{Fine, RefusedAt}
+use Rattle.sdtd.specs.Answer.{Verdict, fine, refused_at}
 
 -- a file, the answer that it gets, and where that is 9 a witness, else no byte
 pub record FileSample : Type 0 where
@@ -32,7 +31,7 @@ abbrev gets : List ℕ → Verdict → FileSample
 gets bytes answer = record { bytes = bytes; answer = answer; witness = [] }
 
 abbrev gets_witness : List ℕ → List ℕ → FileSample
-gets_witness bytes witness = record { bytes = bytes; answer = RefusedAt 9 0; witness = witness }
+gets_witness bytes witness = record { bytes = bytes; answer = refused_at 9 0; witness = witness }
 
 -- the files' parts: a leaf's block, the root and the end
 abbrev leaf : ℕ → List ℕ → List ℕ
@@ -48,7 +47,7 @@ file_r =
     (0x10 ∷ 0x03 ∷ 0x11 ∷ 0x00 ∷ 0x02 ∷ 0x12 ∷ 0x01 ∷ 0x13 ∷ 0x00 ∷ 0x01 ∷ 0x00 ∷ 0x13 ∷ 0x00 ∷ 0x02 ∷ 0x01 ∷ 0x13 ∷ 0x01 ∷ 0x03 ∷ 0x01
     ∷ 0x11 ∷ 0x01 ∷ 0x01 ∷ 0x12 ∷ 0x00 ∷ 0x11 ∷ 0x02 ∷ 0x01 ∷ 0x12 ∷ 0x00 ∷ 0x11 ∷ 0x01 ∷ 0x01 ∷ 0x12 ∷ 0x00 ∷ 0x14 ∷ 0x00 ∷ 0x1f ∷ []
     )
-    Fine
+    fine
 
 -- 000's schema, whose last block is d's
 abbrev choice_with : List ℕ → List ℕ
@@ -65,7 +64,7 @@ file_choice = gets_witness (choice_with (leaf 3 done)) witness_choice
 
 -- the fifth, "d without an accepting state": "24, place that of the first such TYPE (the fifth sample among them)", which is that of b2
 abbrev pub file_no_d : FileSample
-file_no_d = gets (choice_with (0x11 ∷ 3 ∷ 1 ∷ done)) (RefusedAt 24 24)
+file_no_d = gets (choice_with (0x11 ∷ 3 ∷ 1 ∷ done)) (refused_at 24 24)
 
 -- the sixth: 9
 abbrev pub file_two_ways : FileSample
@@ -85,7 +84,7 @@ file_two_types =
     ∷ 0x11 ∷ 0 ∷ 3 ∷ 0x12 ∷ 2 ∷ 0x13 ∷ 0 ∷ 1 ∷ 1 ∷ 0x13 ∷ 1 ∷ 2 ∷ 2 ∷ 0x13 ∷ 1 ∷ 3 ∷ 2
     ∷ leaf 1 (leaf 1 (leaf 2 done))
     )
-    Fine
+    fine
 
 -- the eighth: "accepted"
 abbrev pub file_last_but_one : FileSample
@@ -95,7 +94,7 @@ file_last_but_one =
     ∷ 0x11 ∷ 0 ∷ 3 ∷ 0x12 ∷ 2 ∷ 0x13 ∷ 0 ∷ 1 ∷ 0 ∷ 0x13 ∷ 0 ∷ 2 ∷ 0 ∷ 0x13 ∷ 0 ∷ 1 ∷ 1 ∷ 0x13 ∷ 1 ∷ 1 ∷ 2 ∷ 0x13 ∷ 1 ∷ 2 ∷ 2
     ∷ leaf 1 (leaf 2 done)
     )
-    Fine
+    fine
 
 -- the ninth
 abbrev pub file_optional : FileSample
@@ -106,11 +105,11 @@ file_optional =
     ∷ 0x13 ∷ 2 ∷ 4 ∷ 3 ∷ 0x13 ∷ 3 ∷ 3 ∷ 4
     ∷ leaf 1 (leaf 2 (leaf 3 (leaf 1 done)))
     )
-    Fine
+    fine
 
 -- the tenth: "8."
 abbrev pub file_endless : FileSample
-file_endless = gets (0x10 ∷ 1 ∷ 0x11 ∷ 0 ∷ 2 ∷ 0x12 ∷ 1 ∷ 0x13 ∷ 0 ∷ 0 ∷ 1 ∷ done) (RefusedAt 8 0)
+file_endless = gets (0x10 ∷ 1 ∷ 0x11 ∷ 0 ∷ 2 ∷ 0x12 ∷ 1 ∷ 0x13 ∷ 0 ∷ 0 ∷ 1 ∷ done) (refused_at 8 0)
 
 -- The starred samples that are schema files: R, and the fourth to the tenth.
 abbrev pub starred_files : List FileSample
@@ -118,7 +117,7 @@ starred_files = file_r ∷ file_choice ∷ file_no_d ∷ file_two_ways ∷ file_
 
 -- two short files, not starred: `10 20` and `10 21`
 abbrev pub short_files : List FileSample
-short_files = gets (0x10 ∷ 0x20 ∷ []) (RefusedAt 2 2) ∷ gets (0x10 ∷ 0x21 ∷ []) (RefusedAt 4 0) ∷ []
+short_files = gets (0x10 ∷ 0x20 ∷ []) (refused_at 2 2) ∷ gets (0x10 ∷ 0x21 ∷ []) (refused_at 4 0) ∷ []
 
 -- a wall of racks of one boot each, where a rack may be empty on purpose: the rack's block is in between
 abbrev racks_with : List ℕ → List ℕ
@@ -126,10 +125,10 @@ racks_with rack = 0x10 ∷ 3 ∷ 0x11 ∷ 0 ∷ 1 ∷ 0x12 ∷ 0 ∷ 0x13 ∷ 0 
 
 -- by states, NIL between FINAL and STEP; by an expression, NIL after its 3F
 abbrev pub file_racks : FileSample
-file_racks = gets (racks_with (0x11 ∷ 1 ∷ 2 ∷ 0x12 ∷ 1 ∷ 0x15 ∷ 0x13 ∷ 0 ∷ 2 ∷ 1 ∷ [])) Fine
+file_racks = gets (racks_with (0x11 ∷ 1 ∷ 2 ∷ 0x12 ∷ 1 ∷ 0x15 ∷ 0x13 ∷ 0 ∷ 2 ∷ 1 ∷ [])) fine
 
 abbrev pub file_racks_written : FileSample
-file_racks_written = gets (racks_with (0x11 ∷ 1 ∷ 0 ∷ 0x32 ∷ 2 ∷ 0x3f ∷ 0x15 ∷ [])) Fine
+file_racks_written = gets (racks_with (0x11 ∷ 1 ∷ 0 ∷ 0x32 ∷ 2 ∷ 0x3f ∷ 0x15 ∷ [])) fine
 
 -- they state one schema
 pub record RacksState : Type 0 where
@@ -140,12 +139,12 @@ pub record RacksState : Type 0 where
 -- behind a 3F
 abbrev pub refused_nils : List FileSample
 refused_nils =
-    gets (0x10 ∷ 1 ∷ 0x15 ∷ []) (RefusedAt 3 2)
-    ∷ gets (0x10 ∷ 1 ∷ 0x11 ∷ 0 ∷ 1 ∷ 0x14 ∷ 0 ∷ 0x15 ∷ []) (RefusedAt 3 7)
-    ∷ gets (0x10 ∷ 1 ∷ 0x11 ∷ 0 ∷ 0 ∷ 0x15 ∷ 0x3f ∷ []) (RefusedAt 3 5)
-    ∷ gets (0x10 ∷ 1 ∷ 0x11 ∷ 0 ∷ 1 ∷ 0x15 ∷ 0x12 ∷ 0 ∷ 0x15 ∷ []) (RefusedAt 6 8)
-    ∷ gets (0x10 ∷ 1 ∷ 0x11 ∷ 0 ∷ 0 ∷ 0x3f ∷ 0x15 ∷ 0x15 ∷ []) (RefusedAt 6 7)
-    ∷ gets (0x10 ∷ 1 ∷ 0x11 ∷ 0 ∷ 0 ∷ 0x3f ∷ 0x15 ∷ 0x12 ∷ 0 ∷ []) (RefusedAt 3 7) ∷ []
+    gets (0x10 ∷ 1 ∷ 0x15 ∷ []) (refused_at 3 2)
+    ∷ gets (0x10 ∷ 1 ∷ 0x11 ∷ 0 ∷ 1 ∷ 0x14 ∷ 0 ∷ 0x15 ∷ []) (refused_at 3 7)
+    ∷ gets (0x10 ∷ 1 ∷ 0x11 ∷ 0 ∷ 0 ∷ 0x15 ∷ 0x3f ∷ []) (refused_at 3 5)
+    ∷ gets (0x10 ∷ 1 ∷ 0x11 ∷ 0 ∷ 1 ∷ 0x15 ∷ 0x12 ∷ 0 ∷ 0x15 ∷ []) (refused_at 6 8)
+    ∷ gets (0x10 ∷ 1 ∷ 0x11 ∷ 0 ∷ 0 ∷ 0x3f ∷ 0x15 ∷ 0x15 ∷ []) (refused_at 6 7)
+    ∷ gets (0x10 ∷ 1 ∷ 0x11 ∷ 0 ∷ 0 ∷ 0x3f ∷ 0x15 ∷ 0x12 ∷ 0 ∷ []) (refused_at 3 7) ∷ []
 
 abbrev pub nil_files : List FileSample
 nil_files = file_racks ∷ file_racks_written ∷ refused_nils

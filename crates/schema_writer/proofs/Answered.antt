@@ -11,12 +11,9 @@ use lib.Seq.{sets, take_all}
 use Rattle.sdtd.specs.Limits.{most_types, least_witness}
 use Rattle.sdtd.specs.Schema.{Schema as Meaning, WithinLimits}
 use Rattle.sdtd.specs.Trim.{Used}
-use Rattle.sdtd.specs.Answer.{Ordered}
+use Rattle.sdtd.specs.Answer.{Ordered, Verdict, fine, refused_at}
 use Rattle.sdtd.specs.Reduced.{TellsUsed}
-use Rattle.sdtd.specs.Output.{Output, writes, writes_nothing}
-use Rattle.sdtd.specs.declared.Verdict.{Verdict}
-use Rattle.sdtd.specs.declared.Verdict.TheVariants.{Fine, RefusedAt}
-use Rattle.sdtd.specs.declared.FileWritten.TheVariants.{Length}
+use Rattle.sdtd.specs.Output.{Output, writes, writes_nothing, Length}
 use Rattle.sdtd.proofs.Basics.{and_parts, and_both}
 use Rattle.sdtd.proofs.Trimming.{used_useful}
 use Rattle.sdtd.proofs.Verdicts.{same_number, refused_not_fine}
@@ -42,11 +39,11 @@ abbrev verdict_of : StatedSchema → Verdict
 verdict_of r = r.verdict
 
 -- a verdict is one refusal
-same_refusal : (was : List ℕ) {a : Verdict} {n p m q : ℕ} → a ≡ RefusedAt n p → a ≡ RefusedAt m q → writes_nothing was n ≡ writes_nothing was m
+same_refusal : (was : List ℕ) {a : Verdict} {n p m q : ℕ} → a ≡ refused_at n p → a ≡ refused_at m q → writes_nothing was n ≡ writes_nothing was m
 same_refusal was o e = ap (λ (k : ℕ). writes_nothing was k) (same_number (sym o ∙ e))
 
 -- The refusal of questions 2 to 7 or 21 to 23 is the writer's.
-module _ (file was : List ℕ) (r : StatedSchema) {n p : ℕ} (o : r.verdict ≡ RefusedAt n p) where
+module _ (file was : List ℕ) (r : StatedSchema) {n p : ℕ} (o : r.verdict ≡ refused_at n p) where
   by_commands : (k : Commands) → CommandsBy k r → OutputBy file k was (writes_nothing was n)
   by_commands (stopped m q) b = same_refusal was o (ap verdict_of b)
   by_commands (states g) (inl b) = inl (b.0, same_refusal was o (ap verdict_of b.1))
@@ -56,7 +53,7 @@ module _ (file was : List ℕ) (r : StatedSchema) {n p : ℕ} (o : r.verdict ≡
   commands_refused b = by_commands (commands file) b
 
 -- Questions 2 to 7 and 21 to 23 are passed: the file states the schema of the value.
-module _ (file : List ℕ) (r : StatedSchema) (o : r.verdict ≡ Fine) where
+module _ (file : List ℕ) (r : StatedSchema) (o : r.verdict ≡ fine) where
   by_passed : (k : Commands) → commands file ≡ k → CommandsBy k r → StatesSchema file (meaning r.schema)
   by_passed (stopped m q) e b = refused_not_fine (ap verdict_of b) o
   by_passed (states g) e (inl b) = refused_not_fine (ap verdict_of b.1) o
@@ -82,7 +79,7 @@ module _ {file : List ℕ} {S : Meaning} (x : StatesSchema file S) where
         ))
 
     module _ {buffer is : List ℕ} {r : Verdict} (long : least_witness ≤ length buffer) (m : JudgeMeans S buffer is r) where
-      pub judged_refused : {n p : ℕ} → r ≡ RefusedAt n p → OutputBy file (commands file) was (writes_nothing was n)
+      pub judged_refused : {n p : ℕ} → r ≡ refused_at n p → OutputBy file (commands file) was (writes_nothing was n)
       judged_refused o =
           ⊎_elim (λ a. absurd (a.0 long))
           (λ a.
@@ -92,7 +89,7 @@ module _ {file : List ℕ} {S : Meaning} (x : StatesSchema file S) where
           (λ d. ⊎_elim (λ e. by_schema (inr (d.0, inl (e.0, same_refusal was o e.1)))) (λ e. refused_not_fine o e.1) d.1) b.1) a.1)
           m.answer
 
-      pub judged_fine : r ≡ Fine → {o : Output} → Writes file S was o → OutputBy file (commands file) was o
+      pub judged_fine : r ≡ fine → {o : Output} → Writes file S was o → OutputBy file (commands file) was o
       judged_fine f w =
           ⊎_elim (λ a. absurd (a.0 long))
           (λ a.

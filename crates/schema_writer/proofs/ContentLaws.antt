@@ -7,7 +7,7 @@ use native.Mathlib.Numerals.{add-one}
 use native.Mathlib.Omega.{arith}
 use lib.Dec.{T}
 use lib.ListN.{length, get_or}
-use Rattle.sdtd.specs.declared.Verdict.TheVariants.{Fine, RefusedAt}
+use Rattle.sdtd.specs.Answer.{fine, refused_at}
 use Rattle.sdtd.proofs.Verdicts.{refused_not_fine}
 use Rattle.command.specs.declared.Command.{Command}
 use Rattle.expression.specs.Content.{Content, broken, whole, content_at}
@@ -37,16 +37,16 @@ module _ (kept : ℕ → Bool) (types places : List ℕ) (uses q : ℕ) (l : q �
   first_kept e = first_use ∙ rw e
 
 -- an expression that was read whole ends inside the file
-pub ends_inside : {file : List ℕ} {i : ℕ} {r : Automaton} → Found file i r → r.verdict ≡ Fine → r.end < length file
+pub ends_inside : {file : List ℕ} {i : ℕ} {r : Automaton} → Found file i r → r.verdict ≡ fine → r.end < length file
 ends_inside (refused n p e h) q = refused_not_fine {n = n} {p = p} (ap (λ (x : Automaton). x.verdict) h) q
 ends_inside {file} {i} (taken e ns p h s) q = rw s (whole_content file i h).ends
 
 module _ (kept : ℕ → Bool) {file : List ℕ} {i : ℕ} {r : Automaton} where
-  pub written_broken : Found file i r → {n p : ℕ} → r.verdict ≡ RefusedAt n p → AsGiven ≡ content_written kept (content_at file i)
+  pub written_broken : Found file i r → {n p : ℕ} → r.verdict ≡ refused_at n p → AsGiven ≡ content_written kept (content_at file i)
   written_broken (refused n p e h) q = rw e
   written_broken (taken e ns p h s) q = refused_not_fine q (ap (λ (x : Automaton). x.verdict) s)
 
-  pub written_whole : Found file i r → r.verdict ≡ Fine → {b : Bool} → b ≡ names_dropped kept (names_from r.types r.places 1 r.uses)
+  pub written_whole : Found file i r → r.verdict ≡ fine → {b : Bool} → b ≡ names_dropped kept (names_from r.types r.places 1 r.uses)
       → cond b (ByStates (r.end + 1)) AsGiven ≡ content_written kept (content_at file i)
   written_whole (refused n p e h) q s = refused_not_fine {n = n} {p = p} (ap (λ (x : Automaton). x.verdict) h) q
   written_whole (taken e ns p h s) q t = rw (t, h, s, names_told (whole_content file i h))

@@ -11,7 +11,7 @@ use Rattle.sdtd.specs.Trim.{SomeRootBears}
 use Rattle.sdtd.specs.Competition.{Competition}
 use Rattle.sdtd.specs.Reduced.{TellsUsed}
 use Rattle.sdtd.specs.Answer.{Ordered}
-use Rattle.sdtd.specs.Output.{Output, written_length, writes, writes_nothing}
+use Rattle.sdtd.specs.Output.{Output, written_length, writes, writes_nothing, FileWritten, Length, Refused}
 use Rattle.sdtd.proofs.Basics.{same_test, none_decided}
 use Rattle.sdtd.proofs.Answers.{ordered_unique, ordered_exists}
 use Rattle.sdtd.proofs.Tests.{to_dec, le_means}
@@ -19,8 +19,6 @@ use Rattle.sdtd.proofs.Roots.{some_root_bears_means}
 use Rattle.sdtd.proofs.LiveStates.{live_table}
 use Rattle.sdtd.proofs.Competing.{restrained_decided}
 use Rattle.sdtd.proofs.UsedAsked.{used_test}
-use Rattle.sdtd.specs.declared.FileWritten.{FileWritten}
-use Rattle.sdtd.specs.declared.FileWritten.TheVariants.{Length, Refused}
 use Rattle.command.specs.Command.{file_of}
 use Rattle.commands.specs.File.{Stated, Commands, stopped, states, commands, schema_by, unknown}
 use Rattle.schema_writer.specs.Left.{commands_left}

@@ -3,8 +3,7 @@ use Rattle.std.specs.Prelude.{◌≡◌, Bool, List, [], ◌∷◌, ℕ, ◌≤�
 use Rattle.sdtd.specs.Schema.{Schema}
 use Rattle.sdtd.specs.Reduced.{TellsUsed}
 use Rattle.sdtd.specs.Answer.{Question, ask, Ordered}
-use Rattle.sdtd.specs.Output.{Output, writes, writes_nothing}
-use Rattle.sdtd.specs.declared.FileWritten.{FileWritten}
+use Rattle.sdtd.specs.Output.{Output, writes, writes_nothing, FileWritten}
 use Rattle.competition.specs.Questions.{root_asked, competition_asked}
 use Rattle.command.specs.Command.{file_of}
 use Rattle.commands.specs.File.{Stated, Commands, stopped, states, commands, schema_by, unknown, known_asked}

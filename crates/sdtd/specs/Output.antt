@@ -1,8 +1,18 @@
 -- Calls that write a file into a lent buffer: document 02, Req 06, "From here on a call that writes a file answers 0 and the length written, bytes
 -- past it unchanged; or a number, alone unless a place is stated, with its output untouched."
-use Rattle.std.specs.Prelude.{List, ◌++◌, ℕ, length, drop}
-use Rattle.sdtd.specs.declared.FileWritten.{FileWritten}
-use Rattle.sdtd.specs.declared.FileWritten.TheVariants.{Length, Refused}
+use Rattle.std.specs.Prelude.{List, ◌++◌, ℕ, length, drop, Result, Ok, Err}
+use Rattle.sdtd.specs.Answer.{question_number}
+use Rattle.sdtd.specs.declared.Refused.{Refused as Why}
+
+-- the length of the file that was written, or a refusal's number
+pub data FileWritten : Type 0 where
+  Length : ℕ → FileWritten
+  Refused : ℕ → FileWritten
+
+-- each answer of the code as one of these
+abbrev pub written_of : Result ℕ Why → FileWritten
+written_of (Ok n) = Length n
+written_of (Err why) = Refused (question_number why)
 
 -- the number and the length of each case: "0 and the length written"; "or a number, alone"
 abbrev pub written_number : FileWritten → ℕ

@@ -8,8 +8,7 @@ use Rattle.commands.specs.File.{Stated, Commands, stopped, states, commands}
 use Rattle.commands.proofs.Passing.{stopped_number, stopped_least}
 use Rattle.sdtd.proofs.Verdicts.{verdict_number, refused_not_fine}
 use Rattle.schema_file.specs.Answer.{AnswerBy, AnswerIs}
-use Rattle.sdtd.specs.declared.Verdict.{Verdict}
-use Rattle.sdtd.specs.declared.Verdict.TheVariants.{Fine, RefusedAt}
+use Rattle.sdtd.specs.Answer.{Verdict, fine, refused_at}
 use Rattle.reading.specs.declared.event_file.EventFile.{EventFile}
 use Rattle.schema_file.proofs.AfterDone.{AfterDone, unknown_type, treeless, unused, competing, accepted, after_cases}
 use Rattle.schema_file.proofs.OneWitness.{AnsweredNine}
@@ -33,9 +32,9 @@ record InRange (n : ℕ) : Type 0 where
 
 -- accepted, or refused with one of these numbers
 abbrev Known : Verdict → Type 0
-Known a = (a ≡ Fine) ⊎ InRange (verdict_number a)
+Known a = (a ≡ fine) ⊎ InRange (verdict_number a)
 
-numbered : {a : Verdict} {n p : ℕ} → a ≡ RefusedAt n p → 1 ≤ n → SchemaNumber n → InRange (verdict_number a)
+numbered : {a : Verdict} {n p : ℕ} → a ≡ refused_at n p → 1 ≤ n → SchemaNumber n → InRange (verdict_number a)
 numbered e l m = subst InRange (sym (ap verdict_number e)) (record { above = l; among = m })
 
 -- a command is refused with 2 to 6 or 21 to 23, and after them come 7 to 9 and 24
@@ -56,9 +55,9 @@ known file was a (inl o) = inr (numbered o.1 (omega arith) (inl (omega arith)))
 known file was a (inr o) = known_by file (commands file) a refl o.1
 
 numbers_among : (a : Verdict) → Known a → SchemaNumber (schema_numbers a).number
-numbers_among Fine k = inl (omega arith)
-numbers_among (RefusedAt n p) (inl f) = refused_not_fine refl f
-numbers_among (RefusedAt n p) (inr r) = r.among
+numbers_among fine k = inl (omega arith)
+numbers_among (refused_at n p) (inl f) = refused_not_fine refl f
+numbers_among (refused_at n p) (inr r) = r.among
 
 -- A schema's number is 0 to 9 or 21 to 24.
 pub schema_range : {file was is : List ℕ} {r : TypestockSchema} → SchemaMeans file was is r → SchemaNumber r.number
@@ -66,21 +65,21 @@ schema_range {file} {was} m =
     subst (λ (x : TypestockSchema). SchemaNumber x.number) (sym m.numbers)
     (numbers_among m.read.answer (known file was m.read.answer m.means.answer))
 
-accepted_by : (a : Verdict) → Known a → (schema_numbers a).number ≡ 0 → a ≡ Fine
+accepted_by : (a : Verdict) → Known a → (schema_numbers a).number ≡ 0 → a ≡ fine
 accepted_by a (inl f) z = f
-accepted_by Fine (inr r) z = refl
-accepted_by (RefusedAt n p) (inr r) z = absurd (omega (arith, r.above))
+accepted_by fine (inr r) z = refl
+accepted_by (refused_at n p) (inr r) z = absurd (omega (arith, r.above))
 
 -- A schema that is answered 0 is accepted.
 pub zero_accepted : {file was is : List ℕ} {r : TypestockSchema} (m : SchemaMeans file was is r) → r.number ≡ 0
-    → m.read.answer ≡ Fine
+    → m.read.answer ≡ fine
 zero_accepted {file} {was} m z =
     accepted_by m.read.answer (known file was m.read.answer m.means.answer)
     (sym (ap (λ (x : TypestockSchema). x.number) m.numbers) ∙ z)
 
-nine_by : (a : Verdict) → (schema_numbers a).number ≡ 9 → a ≡ RefusedAt 9 (schema_numbers a).place
-nine_by Fine z = absurd (omega arith)
-nine_by (RefusedAt n p) z = ap (λ (k : ℕ). RefusedAt k p) z
+nine_by : (a : Verdict) → (schema_numbers a).number ≡ 9 → a ≡ refused_at 9 (schema_numbers a).place
+nine_by fine z = absurd (omega arith)
+nine_by (refused_at n p) z = ap (λ (k : ℕ). refused_at k p) z
 
 -- A schema that is answered 9 left a witness, of the A and the n of every other call on the file (`one_witness`).
 pub schema_nine : {file was is : List ℕ} {r : TypestockSchema} → SchemaMeans file was is r → r.number ≡ 9 → AnsweredNine file is
@@ -105,8 +104,8 @@ pub record RefusedNumbers (r : TypestockDocument) : Type 0 where
 read_or_refused : {schema events was_witness is_witness was_types is_types : List ℕ} {r : TypestockDocument}
     (m : DocumentMeans schema events was_witness is_witness was_types is_types r) (a : Verdict) → m.means.file.answer ≡ a
     → ((e : EventFile) × (m.job ≡ EventsRead e)) ⊎ RefusedNumbers r
-read_or_refused m Fine q = let (e, s, h) = m.means.accepted q in inl (e, s)
-read_or_refused {schema} {was_witness = was_witness} m (RefusedAt n p) q =
+read_or_refused m fine q = let (e, s, h) = m.means.accepted q in inl (e, s)
+read_or_refused {schema} {was_witness = was_witness} m (refused_at n p) q =
     inr (subst RefusedNumbers (sym (m.numbers ∙ ap document_numbers (m.means.refused n p q).0))
     (⊎_elim (refused_not_fine q)
     (λ r.

@@ -11,8 +11,7 @@ use Rattle.sdtd.specs.Limits.{most_levels}
 use Rattle.sdtd.specs.Schema.{Schema as Meaning}
 use Rattle.sdtd.specs.Document.{Event}
 use Rattle.sdtd.specs.Calls.{ValidWithin}
-use Rattle.sdtd.specs.declared.Verdict.{Verdict}
-use Rattle.sdtd.specs.declared.Verdict.TheVariants.{Fine, RefusedAt}
+use Rattle.sdtd.specs.Answer.{Verdict, fine, refused_at}
 use Rattle.commands.specs.File.{StatesSchema}
 use Rattle.schema_file.proofs.OneWitness.{AnsweredNine}
 use Rattle.events.specs.Events.{bytes_of}
@@ -62,7 +61,7 @@ pub record RefusedExpected (r : TypestockExpected) : Type 0 where
 -- The numbers under an accepted schema, and what they say: `meets` that they are by valid documents, and that 0 is a whole one's.
 pub record ReadExpected (schema events : List ℕ) (r : TypestockExpected) : Type 0 where
   pub answer : Expected
-  pub numbers : r ≡ expected_numbers (record { schema = Fine; expected = answer })
+  pub numbers : r ≡ expected_numbers (record { schema = fine; expected = answer })
   pub meets : ExpectedJobMeets schema events answer
   -- 0, or 11 to 19: never 20
   pub range : (r.number ≡ 0) ⊎ ((11 ≤ r.number) × (r.number ≤ 19))
@@ -107,7 +106,7 @@ module _ {schema events was is : List ℕ} {r : TypestockExpected} (m : Expected
   -- Where it is 0 the schema is accepted, and the rest is the event file's.
   pub zero_read : r.schema_number ≡ 0 → ReadExpected schema events r
   zero_read z =
-      let fit : m.job.schema ≡ Fine = m.means.schema ∙ zero_accepted schema_told z in
+      let fit : m.job.schema ≡ fine = m.means.schema ∙ zero_accepted schema_told z in
       let meets = expected_meets m.means fit in
       let number : r.number ≡ m.job.expected.number = ap (λ (x : TypestockExpected). x.number) m.numbers in
       record {
@@ -118,10 +117,10 @@ module _ {schema events was is : List ℕ} {r : TypestockExpected} (m : Expected
       }
 
   refused_by : (a : Verdict) → m.job.schema ≡ a → r.schema_number ≢ 0 → r ≡ twice r.schema_number r.schema_place
-  refused_by Fine q n =
+  refused_by fine q n =
       let number = ap (λ (x : TypestockExpected). x.schema_number) m.numbers in
       absurd (n (number ∙ ap (λ (a : Verdict). (schema_numbers a).number) q))
-  refused_by (RefusedAt k l) q n =
+  refused_by (refused_at k l) q n =
       let e = m.means.refused k l (sym m.means.schema ∙ q) in
       let same : r ≡ twice k l = same_job (λ i. record { schema = q i; expected = e i }) in
       let x = ap (λ (x : TypestockExpected). x.schema_number) same in
@@ -169,7 +168,7 @@ module _ {schema events was is : List ℕ} {r : TypestockExpected} (m : Expected
         document = w.document;
         bytes = w.bytes;
         valid = w.valid;
-        nothing_else = x.numbers ∙ ap (λ (e : Expected). expected_numbers (record { schema = Fine; expected = e })) w.empty;
+        nothing_else = x.numbers ∙ ap (λ (e : Expected). expected_numbers (record { schema = fine; expected = e })) w.empty;
       })
       (λ (x, same). absurd (omega (arith, x.above)))
       (read_by r.schema_number refl)

@@ -4,9 +4,7 @@ use mathlib.Core.Logic.{◌↔◌, ◌⊎◌, inl, inr, ⊎_elim}
 use mathlib.Core.List.{List}
 use Prim.Native.Nat.{ℕ, ◌≤◌}
 use native.Mathlib.Omega.{arith}
-use Rattle.sdtd.specs.Output.{Output, writes_nothing}
-use Rattle.sdtd.specs.declared.FileWritten.{FileWritten}
-use Rattle.sdtd.specs.declared.FileWritten.TheVariants.{Length, Refused}
+use Rattle.sdtd.specs.Output.{Output, writes_nothing, FileWritten, Length, Refused}
 use Rattle.commands.specs.File.{Commands, stopped, states, commands}
 use Rattle.commands.proofs.Passing.{CommandNumber, stopped_number}
 use Rattle.schema_writer.specs.Answer.{OutputBy, WriteMeans}

@@ -2,7 +2,7 @@
 use Rattle.std.specs.Prelude.{◌≡◌, List, ℕ}
 use Rattle.schema_file.specs.Answer.{FileMeans}
 use Rattle.schema_file.specs.declared.file.SchemaFile.{SchemaFile}
-use Rattle.sdtd.specs.declared.FileWritten.{FileWritten}
+use Rattle.sdtd.specs.Output.{FileWritten}
 use Rattle.schema_writer.specs.Answer.{WriteMeans}
 use Rattle.typing.specs.Job.{JobMeans}
 use Rattle.typing.specs.declared.job.Job.{Job}

@@ -1,9 +1,7 @@
 -- The answers as numbers: of each case of an answer, what each field of the exported struct is.
 use Rattle.std.specs.Prelude.{true, false, ℕ}
-use Rattle.sdtd.specs.declared.Verdict.{Verdict}
-use Rattle.sdtd.specs.declared.Verdict.TheVariants.{Fine, RefusedAt}
-use Rattle.sdtd.specs.declared.FileWritten.{FileWritten}
-use Rattle.sdtd.specs.Output.{written_number, written_length}
+use Rattle.sdtd.specs.Answer.{Verdict, fine, refused_at}
+use Rattle.sdtd.specs.Output.{written_number, written_length, FileWritten}
 use Rattle.typing.specs.declared.job.Job.{Job}
 use Rattle.typing.specs.declared.job.Job.TheVariants.{SchemaRefused, EventsRead}
 use Rattle.typing.specs.declared.expect.ExpectedJob.{ExpectedJob}
@@ -18,8 +16,8 @@ use Rattle.typestock_c.specs.declared.TypestockOpening.{TypestockOpening}
 
 -- "A refusal answers number and place". Document 01 gives an accepted schema neither: it has 0 and 0, and no refusal has the number 0.
 abbrev pub schema_numbers : Verdict → TypestockSchema
-schema_numbers Fine = record { number = 0; place = 0 }
-schema_numbers (RefusedAt n p) = record { number = n; place = p }
+schema_numbers fine = record { number = 0; place = 0 }
+schema_numbers (refused_at n p) = record { number = n; place = p }
 
 -- "a call that writes a file answers 0 and the length written [..]; or a number, alone": the length is then 0
 abbrev pub written_numbers : FileWritten → TypestockWritten

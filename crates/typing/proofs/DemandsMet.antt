@@ -19,8 +19,7 @@ use Rattle.commands.specs.File.{Stated, Commands, stopped, states, commands, sch
 use Rattle.commands.proofs.StatedLimits.{stated_within}
 use Rattle.commands.proofs.StatedExpressions.{stated_written}
 use Rattle.schema_file.specs.Answer.{AnswerBy, OfStated, FileMeans}
-use Rattle.sdtd.specs.declared.Verdict.{Verdict}
-use Rattle.sdtd.specs.declared.Verdict.TheVariants.{RefusedAt}
+use Rattle.sdtd.specs.Answer.{Verdict, refused_at}
 use Rattle.schema_file.specs.declared.file.SchemaFile.{SchemaFile}
 use Rattle.competition.proofs.Answers.{written_competes}
 use Rattle.schema_file.proofs.FileAnswers.{file_ambiguous, accepted_file}
@@ -87,12 +86,12 @@ demand_3 file was is f m =
     }
 
 -- a file that is answered 9 has passed question 7
-nine_known : (g : Stated) (a : Verdict) → a ≡ RefusedAt 9 0 → AnswerBy (states g) a → unknown g ≡ []
+nine_known : (g : Stated) (a : Verdict) → a ≡ refused_at 9 0 → AnswerBy (states g) a → unknown g ≡ []
 nine_known g a q (inl o) = let z : ◌≡◌ {A = ℕ} 9 7 = cc in absurd (omega arith)
 nine_known g a q (inr o) = o.0
 
 -- it states a schema, which is ambiguous: its witness shows two rivals
-nine_ambiguous : (file was is : List ℕ) (k : Commands) → commands file ≡ k → (a : Verdict) → a ≡ RefusedAt 9 0 → AnswerBy k a
+nine_ambiguous : (file was is : List ℕ) (k : Commands) → commands file ≡ k → (a : Verdict) → a ≡ refused_at 9 0 → AnswerBy k a
     → OfStated k (λ g. Written (schema_by g) was is) → (S : Meaning) × StatesSchema file S × Ambiguous S
 nine_ambiguous file was is (stopped n p) e a q b w = absurd w
 nine_ambiguous file was is (states g) e a q b w = (
@@ -101,7 +100,7 @@ nine_ambiguous file was is (states g) e a q b w = (
   competition_is_ambiguity.0 (written_competes w),
 )
 
-refused_ambiguous : {file was is : List ℕ} {f : SchemaFile} → FileMeans file was is f → f.answer ≡ RefusedAt 9 0
+refused_ambiguous : {file was is : List ℕ} {f : SchemaFile} → FileMeans file was is f → f.answer ≡ refused_at 9 0
     → (S : Meaning) × StatesSchema file S × Ambiguous S
 refused_ambiguous {file} {was} {is} {f} m q =
     ⊎_elim (λ o. let z : ◌≡◌ {A = ℕ} 9 1 = cc in absurd (omega arith))

@@ -5,9 +5,7 @@ use Prim.Native.Nat.{ℕ}
 use native.Mathlib.Omega.{arith}
 use lib.ListN.{length}
 use Rattle.sdtd.specs.Schema.{Schema as Meaning}
-use Rattle.sdtd.specs.Answer.{refused_at}
-use Rattle.sdtd.specs.declared.Verdict.{Verdict}
-use Rattle.sdtd.specs.declared.Verdict.TheVariants.{Fine, RefusedAt}
+use Rattle.sdtd.specs.Answer.{refused_at, Verdict, fine}
 use Rattle.sdtd.proofs.Verdicts.{refused_not_fine}
 use Rattle.schema.specs.Value.{meaning}
 use Rattle.commands.specs.File.{commands}
@@ -27,7 +25,7 @@ use Rattle.typing.proofs.Jobs.{one_meaning}
 use Rattle.typing.proofs.ExpectingMet.{expecting_met}
 
 module _ {file events was is : List ℕ} {f : SchemaFile} (m : FileMeans file was is f) {r : ExpectedJob} where
-  pub expected_refused : {n p : ℕ} → f.answer ≡ RefusedAt n p → r.schema ≡ RefusedAt n p
+  pub expected_refused : {n p : ℕ} → f.answer ≡ refused_at n p → r.schema ≡ refused_at n p
       → r.expected ≡ laid_out p (nothing (refused_at n p)) → ExpectedJobMeans file events was is r
   expected_refused {n} {p} q s e =
       record {
@@ -35,14 +33,14 @@ module _ {file events was is : List ℕ} {f : SchemaFile} (m : FileMeans file wa
         schema_file = m;
         schema = s ∙ sym q;
         refused = λ k l h.
-            let same : RefusedAt n p ≡ RefusedAt k l = sym q ∙ h in
+            let same : refused_at n p ≡ refused_at k l = sym q ∙ h in
             let x : n ≡ k = cc in
             let y : p ≡ l = cc in
             e ∙ (λ i. laid_out (y i) (nothing (refused_at (x i) (y i))));
         accepted = λ a. refused_not_fine q a;
       }
 
-  pub expected_read : f.answer ≡ Fine → r.schema ≡ Fine → ExpectedMeans (meaning f.schema) events r.expected
+  pub expected_read : f.answer ≡ fine → r.schema ≡ fine → ExpectedMeans (meaning f.schema) events r.expected
       → ExpectedJobMeans file events was is r
   expected_read q s e =
       record {
@@ -56,9 +54,9 @@ module _ {file events was is : List ℕ} {f : SchemaFile} (m : FileMeans file wa
 -- Whatever the schema's answer is, the counts are at most the tables' lengths, and the entries past them are 0.
 module _ {file events was is : List ℕ} {r : ExpectedJob} (j : ExpectedJobMeans file events was is r) where
   tables_by : (a : Verdict) → j.file.answer ≡ a → Tables r.expected
-  tables_by (RefusedAt n p) q =
+  tables_by (refused_at n p) q =
       subst Tables (sym (j.refused n p q)) (laid_tables p (nothing (refused_at n p)) (omega arith) (omega arith))
-  tables_by Fine q = expected_tables (j.accepted q)
+  tables_by fine q = expected_tables (j.accepted q)
 
   pub job_tables : Tables r.expected
   job_tables = tables_by j.file.answer refl
@@ -70,8 +68,8 @@ module _ {file events was is₁ is₂ : List ℕ} {r₁ r₂ : ExpectedJob} (j :
   same_answer = file_unique file was j.schema_file.answer k.schema_file.answer
 
   same_expected : (a : Verdict) → j.file.answer ≡ a → r₁.expected ≡ r₂.expected
-  same_expected (RefusedAt n p) q = j.refused n p q ∙ sym (k.refused n p (sym same_answer ∙ q))
-  same_expected Fine q =
+  same_expected (refused_at n p) q = j.refused n p q ∙ sym (k.refused n p (sym same_answer ∙ q))
+  same_expected fine q =
       let p = sym same_answer ∙ q in
       let one = one_meaning (commands file) _ _ (j.schema_file.schema.0 q) (k.schema_file.schema.0 p) in
       let answer = expecting_met.one k.file.schema events in
@@ -85,8 +83,8 @@ module _ {file events was is₁ is₂ : List ℕ} {r₁ r₂ : ExpectedJob} (j :
       λ i. record { schema = schema i; expected = expected i }
 
 -- A job whose schema is accepted.
-module _ {file events was is : List ℕ} {r : ExpectedJob} (j : ExpectedJobMeans file events was is r) (fit : r.schema ≡ Fine) where
-  file_fit : j.file.answer ≡ Fine
+module _ {file events was is : List ℕ} {r : ExpectedJob} (j : ExpectedJobMeans file events was is r) (fit : r.schema ≡ fine) where
+  file_fit : j.file.answer ≡ fine
   file_fit = sym j.schema ∙ fit
 
   means : ExpectedMeans (meaning j.file.schema) events r.expected

@@ -11,8 +11,7 @@ use Rattle.schema.specs.declared.value.Schema.{Schema}
 use Rattle.commands.specs.File.{Commands, stopped, states, commands}
 use Rattle.commands.specs.Value.{StatedValue}
 use Rattle.schema_file.specs.Answer.{OfStated, FileMeans}
-use Rattle.sdtd.specs.declared.Verdict.{Verdict}
-use Rattle.sdtd.specs.declared.Verdict.TheVariants.{Fine, RefusedAt}
+use Rattle.sdtd.specs.Answer.{Verdict, fine, refused_at}
 use Rattle.schema_file.specs.declared.file.SchemaFile.{SchemaFile}
 use Rattle.sdtd.proofs.Verdicts.{refused_not_fine}
 use Rattle.schema_file.proofs.FileAnswers.{file_unique, accepted_file}
@@ -31,17 +30,17 @@ use Rattle.typing.proofs.Lines.{line_tags, lines_enough}
 use Rattle.typing.proofs.EventNumbers.{Range, judged_range, always_enough}
 
 module _ {file was_witness is_witness : List ℕ} {f : SchemaFile} (m : FileMeans file was_witness is_witness f) where
-  pub job_refused : {events types : List ℕ} {n p : ℕ} → f.answer ≡ RefusedAt n p
+  pub job_refused : {events types : List ℕ} {n p : ℕ} → f.answer ≡ refused_at n p
       → JobMeans file events was_witness is_witness types types (SchemaRefused n p)
   job_refused {n = n} {p} q =
       record {
         file = f;
         schema_file = m;
-        refused = λ k l h. let same : RefusedAt n p ≡ RefusedAt k l = sym q ∙ h in (cc, refl);
+        refused = λ k l h. let same : refused_at n p ≡ refused_at k l = sym q ∙ h in (cc, refl);
         accepted = λ a. refused_not_fine q a;
       }
 
-  pub job_read : {events was_types is_types : List ℕ} {e : EventFile} → f.answer ≡ Fine
+  pub job_read : {events was_types is_types : List ℕ} {e : EventFile} → f.answer ≡ fine
       → EventsMean (meaning f.schema) events was_types is_types e
       → JobMeans file events was_witness is_witness was_types is_types (EventsRead e)
   job_read {e = e} q k =
@@ -55,17 +54,17 @@ module _ {file was_witness is_witness : List ℕ} {f : SchemaFile} (m : FileMean
 -- a job that refuses the schema has the schema file's answer
 module _ {file events was_witness is_witness was_types is_types : List ℕ} {n p : ℕ}
     (j : JobMeans file events was_witness is_witness was_types is_types (SchemaRefused n p)) where
-  refusal_by : (a : Verdict) → j.file.answer ≡ a → j.file.answer ≡ RefusedAt n p
-  refusal_by (RefusedAt k l) q =
+  refusal_by : (a : Verdict) → j.file.answer ≡ a → j.file.answer ≡ refused_at n p
+  refusal_by (refused_at k l) q =
       let s = (j.refused k l q).0 in
       let x : k ≡ n = cc in
       let y : l ≡ p = cc in
-      q ∙ (λ i. RefusedAt (x i) (y i))
-  refusal_by Fine q =
+      q ∙ (λ i. refused_at (x i) (y i))
+  refusal_by fine q =
       let (e, s, m) = j.accepted q in
       let z : ◌≡◌ {A = ℕ} 0 1 = cc in absurd (omega arith)
 
-  pub job_refusal : j.file.answer ≡ RefusedAt n p
+  pub job_refusal : j.file.answer ≡ refused_at n p
   job_refusal = refusal_by j.file.answer refl
 
 -- a job that refuses the schema with 9 left a witness as the schema file's call does
@@ -87,11 +86,11 @@ module _ {file events was_witness is₁ is₂ was_types types₁ types₂ : List
   same_answer = file_unique file was_witness j.schema_file.answer k.schema_file.answer
 
   by_answer : (a : Verdict) → j.file.answer ≡ a → (r₁ ≡ r₂) × (types₁ ≡ types₂)
-  by_answer (RefusedAt n p) q =
+  by_answer (refused_at n p) q =
       let x = j.refused n p q in
       let y = k.refused n p (sym same_answer ∙ q) in
       (x.0 ∙ sym y.0, x.1 ∙ sym y.1)
-  by_answer Fine q =
+  by_answer fine q =
       let p = sym same_answer ∙ q in
       let (e, s, m) = j.accepted q in
       let (d, t, n) = k.accepted p in
@@ -106,17 +105,17 @@ module _ {file events was_witness is₁ is₂ was_types types₁ types₂ : List
 module _ {file events was_witness is_witness was_types is_types : List ℕ} {e : EventFile}
     (j : JobMeans file events was_witness is_witness was_types is_types (EventsRead e)) where
   read_by : (a : Verdict) → j.file.answer ≡ a
-      → (j.file.answer ≡ Fine) × EventsMean (meaning j.file.schema) events was_types is_types e
-  read_by (RefusedAt n p) q =
+      → (j.file.answer ≡ fine) × EventsMean (meaning j.file.schema) events was_types is_types e
+  read_by (refused_at n p) q =
       let s = (j.refused n p q).0 in
       let z : ◌≡◌ {A = ℕ} 0 1 = cc in absurd (omega arith)
-  read_by Fine q =
+  read_by fine q =
       let (d, s, n) = j.accepted q in
       let same : d ≡ e = cc in
       (q, subst (EventsMean (meaning j.file.schema) events was_types is_types) same n)
 
   -- its schema was accepted, and the answer is the events'
-  was_read : (j.file.answer ≡ Fine) × EventsMean (meaning j.file.schema) events was_types is_types e
+  was_read : (j.file.answer ≡ fine) × EventsMean (meaning j.file.schema) events was_types is_types e
   was_read = read_by j.file.answer refl
 
   -- It meets demands 2 and 3, and its lines belong to the openings taken.

@@ -11,7 +11,7 @@ use Rattle.sdtd.specs.Schema.{Schema as Meaning}
 use Rattle.sdtd.specs.Trim.{SomeRootBears}
 use Rattle.sdtd.specs.Competition.{Competition}
 use Rattle.sdtd.specs.Reduced.{EveryTypeUsed, TellsUsed, new_number, reduced}
-use Rattle.sdtd.specs.Output.{writes}
+use Rattle.sdtd.specs.Output.{writes, FileWritten}
 use Rattle.sdtd.proofs.Trimming.{root_bears}
 use Rattle.sdtd.proofs.UsedAsked.{used_test}
 use Rattle.sdtd.proofs.ReducedTypings.{old_typing}
@@ -25,8 +25,7 @@ use Rattle.schema_writer.specs.Answer.{OutputBy, WriteMeans}
 use Rattle.schema_writer.proofs.Outcomes.{written_of, one_outcome}
 use Rattle.schema_writer.proofs.SecondPass.{written_states}
 use Rattle.schema_writer.proofs.SecondPass.{written_same as same_bytes}
-use Rattle.sdtd.specs.declared.FileWritten.{FileWritten}
-use Rattle.sdtd.specs.declared.Verdict.TheVariants.{Fine}
+use Rattle.sdtd.specs.Answer.{fine}
 use Rattle.schema_file.specs.declared.file.SchemaFile.{SchemaFile}
 use Rattle.typing.specs.Reducing.{TypingsRenumbered, Reduces, WriterMeets}
 
@@ -39,12 +38,12 @@ module _ {file : List ℕ} {S : Meaning} (s : StatesSchema file S) (bears : Some
   stated_free = subst (λ (R : Meaning). ¬ Competition R) (sym s.schema) free
 
   -- the reader accepts it
-  reader_accepts : (was is : List ℕ) (f : SchemaFile) → least_witness ≤ length was → FileMeans file was is f → f.answer ≡ Fine
+  reader_accepts : (was is : List ℕ) (f : SchemaFile) → least_witness ≤ length was → FileMeans file was is f → f.answer ≡ fine
   reader_accepts was is f long m =
       let every = subst EveryTypeUsed (sym s.schema) used in
-      let last : AnswerBy (states s.stated) Fine =
-      after_answer s.stated Fine (accepted s.known stated_bears every stated_free refl) in
-      file_unique file was m.answer (inr (long, subst (λ (k : Commands). AnswerBy k Fine) (sym s.passes) last))
+      let last : AnswerBy (states s.stated) fine =
+      after_answer s.stated fine (accepted s.known stated_bears every stated_free refl) in
+      file_unique file was m.answer (inr (long, subst (λ (k : Commands). AnswerBy k fine) (sym s.passes) last))
 
   -- and it is written as it is
   written_same : (was : List ℕ) → length file ≤ length was → OutputBy file (commands file) was (writes was file)

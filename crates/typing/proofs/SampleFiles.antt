@@ -10,7 +10,7 @@ use Rattle.sdtd.proofs.Decide.{LiveTable, LiveExact}
 use Rattle.schema.specs.Value.{meaning}
 use Rattle.commands.specs.File.{StatesSchema}
 use Rattle.schema_file.specs.Samples.{FileSample, HoldsFor}
-use Rattle.sdtd.specs.declared.Verdict.TheVariants.{Fine, RefusedAt}
+use Rattle.sdtd.specs.Answer.{fine, refused_at}
 use Rattle.schema_file.proofs.FileAnswers.{file_unique, accepted_file}
 use Rattle.reading.specs.EventFile.{EventsMean}
 use Rattle.reading.specs.declared.event_file.EventFile.{EventFile}
@@ -18,7 +18,7 @@ use Rattle.reading.proofs.EventModel.{EventsGot, got_of, events_got}
 use Rattle.typing.specs.Samples.{EventSample, SchemaGets, EventsGet}
 
 -- a sample whose answer is not 9
-pub plain_gets : (s : FileSample) → ¬ (s.answer ≡ RefusedAt 9 0) → HoldsFor s → SchemaGets s
+pub plain_gets : (s : FileSample) → ¬ (s.answer ≡ refused_at 9 0) → HoldsFor s → SchemaGets s
 plain_gets s d h was is f l m =
     let same = file_unique s.bytes was m.answer (h was l).0 in
     (same, m.buffer.1 (λ e. d (sym same ∙ e)) ∙ sym ((h was l).1.1 d))
@@ -37,10 +37,10 @@ abbrev pub got_in : EventSample → EventsGot
 got_in s = record { number = s.number; place = s.place; types = s.types }
 
 -- an event file under an accepted schema, where it gets from the model what the sample states
-pub events_get : (file : FileSample) {S : Meaning} {L : LiveTable} → file.answer ≡ Fine → StatesSchema file.bytes S → IsAccepted S
+pub events_get : (file : FileSample) {S : Meaning} {L : LiveTable} → file.answer ≡ fine → StatesSchema file.bytes S → IsAccepted S
     → LiveExact S L → SchemaGets file → (s : EventSample) → got_of S L s.bytes ≡ got_in s → EventsGet file s
-events_get file {S} fine x a exact file_gets s q was is f l m lent after r h e =
-    let accepted = (file_gets was is f l m).0 ∙ fine in
+events_get file {S} is_fine x a exact file_gets s q was is f l m lent after r h e =
+    let accepted = (file_gets was is f l m).0 ∙ is_fine in
     let same : meaning f.schema ≡ S = states_one (accepted_file m accepted).states x in
     let enough = subst (λ (g : EventsGot). length g.types ≤ length lent) (sym q) h in
     let got = events_got a exact (subst (λ (R : Meaning). EventsMean R s.bytes lent after r) same e) enough in

@@ -14,7 +14,7 @@ use Rattle.competition.specs.Search.{Written}
 use Rattle.commands.specs.File.{Commands, schema_by, StatesSchema}
 use Rattle.schema_file.specs.Answer.{OfStated}
 use Rattle.schema_file.specs.Samples.{FileSample, HoldsFor}
-use Rattle.sdtd.specs.declared.Verdict.TheVariants.{RefusedAt}
+use Rattle.sdtd.specs.Answer.{refused_at}
 use Rattle.schema_file.proofs.FileAnswers.{file_unique}
 use Rattle.typing.specs.Samples.{SchemaGets}
 
@@ -34,7 +34,7 @@ pub ways_witness : (bytes : List ℕ) → Witness schema_two_ways bytes → byte
 ways_witness bytes x = only_bytes {j = 2} {k = 3} {w = 1 ∷ []} x refused_two_ways.2 ways_only
 
 -- A sample that is answered 9, where its witness is the schema's only one.
-pub nine_gets : (s : FileSample) {S : Schema} → s.answer ≡ RefusedAt 9 0 → StatesSchema s.bytes S → HoldsFor s
+pub nine_gets : (s : FileSample) {S : Schema} → s.answer ≡ refused_at 9 0 → StatesSchema s.bytes S → HoldsFor s
     → ((other : List ℕ) → Witness S other → other ≡ s.witness) → SchemaGets s
 nine_gets s nine x h only was is f l m =
     let same = file_unique s.bytes was m.answer (h was l).0 in

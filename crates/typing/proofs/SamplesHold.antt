@@ -4,7 +4,7 @@ use native.Mathlib.Omega.{arith}
 use Rattle.sdtd.proofs.Basics.{◌&◌}
 use Rattle.sdtd.proofs.SampleSchemas.{exact_r, accepted_r, exact_last_but_one, accepted_last_but_one, exact_optional, accepted_optional, exact_racks, accepted_racks}
 use Rattle.schema_file.specs.Samples.{file_r, file_choice, file_no_d, file_two_ways, file_two_types, file_last_but_one, file_optional, file_endless, file_racks, file_racks_written}
-use Rattle.sdtd.specs.declared.Verdict.TheVariants.{Fine, RefusedAt}
+use Rattle.sdtd.specs.Answer.{fine, refused_at}
 use Rattle.sdtd.proofs.Verdicts.{other_number, refused_not_fine}
 use Rattle.schema_file.proofs.FileSamples.{files_state, starred_files_hold, racks_state, nil_files_hold}
 use Rattle.typing.specs.Samples.{SchemaGets, HoldAll, starred, first, second, third, eighth, ninth}
@@ -12,13 +12,13 @@ use Rattle.typing.specs.Samples.{nil_elements, racks_taken, inside_nil, plainly_
 use Rattle.typing.proofs.SampleFiles.{plain_gets, events_get}
 use Rattle.typing.proofs.SampleWitnesses.{choice_witness, ways_witness, nine_gets}
 
-accepted_not_9 : ¬ (Fine ≡ RefusedAt 9 0)
+accepted_not_9 : ¬ (fine ≡ refused_at 9 0)
 accepted_not_9 q = refused_not_fine q refl
 
-eight_not_9 : ¬ (RefusedAt 8 0 ≡ RefusedAt 9 0)
+eight_not_9 : ¬ (refused_at 8 0 ≡ refused_at 9 0)
 eight_not_9 = other_number refl (λ z. omega arith)
 
-unused_not_9 : ¬ (RefusedAt 24 24 ≡ RefusedAt 9 0)
+unused_not_9 : ¬ (refused_at 24 24 ≡ refused_at 9 0)
 unused_not_9 = other_number refl (λ z. omega arith)
 
 gets_R : SchemaGets file_r

@@ -11,7 +11,7 @@ use Rattle.sdtd.specs.Tree.{Tree, IsTyping}
 use Rattle.sdtd.specs.Document.{Event, Valid, SomeValid, openings, types_of, BeginningOf, Ambiguous}
 use Rattle.sdtd.specs.Trim.{Trimmed}
 use Rattle.sdtd.specs.Reduced.{EveryTypeUsed}
-use Rattle.sdtd.specs.Answer.{Verdict}
+use Rattle.sdtd.specs.Answer.{Verdict, fine, refused_at}
 use Rattle.sdtd.specs.Calls.{Exchange, ListMeets, WholeMeets}
 use Rattle.schema.specs.Value.{meaning}
 use Rattle.schema.specs.Trimming.{TrimMeans, trimmed_by_tables}
@@ -20,8 +20,6 @@ use Rattle.schema.specs.declared.tables.Trimming.{Trimming}
 use Rattle.commands.specs.File.{commands, StatesSchema}
 use Rattle.commands.specs.Written.{Written}
 use Rattle.schema_file.specs.Answer.{AnswerIs, BufferBy, FileMeans, FirstUnusedAt, Demand3File}
-use Rattle.sdtd.specs.declared.Verdict.{Verdict as CodeVerdict}
-use Rattle.sdtd.specs.declared.Verdict.TheVariants.{Fine, RefusedAt}
 use Rattle.schema_file.specs.declared.file.SchemaFile.{SchemaFile}
 use Rattle.reading.specs.Levels.{fresh}
 use Rattle.reading.specs.Questions.{CallMeans}
@@ -52,7 +50,7 @@ pub record Demand1 : Type 0 where
   -- a schema file has one answer, whatever its bytes and the buffer's are; what the buffer holds after that answer can be had, and what the
   -- call leaves there is that
   pub file : (file was : List ℕ) → One (AnswerIs file was)
-  pub lent : (file was : List ℕ) (a : CodeVerdict) → AnswerIs file was a → (is : List ℕ) × BufferBy (commands file) was is a
+  pub lent : (file was : List ℕ) (a : Verdict) → AnswerIs file was a → (is : List ℕ) × BufferBy (commands file) was is a
   pub left : (file was is : List ℕ) (f : SchemaFile) → FileMeans file was is f → BufferBy (commands file) was is f.answer
   -- a call has one answer, with the whole reading beside it, whatever the schema value and the reading are
   pub call : (v : Schema) (r : Reading) (x : Event) → One (CallMeans (meaning v) r x)
@@ -67,7 +65,7 @@ pub record Demand1 : Type 0 where
 -- by the published definition of specialised DTDs, nested at most 64 deep; the types given out are then that tree's typing."
 abbrev pub Demand2 : Type 0
 Demand2 =
-    (file was is : List ℕ) (f : SchemaFile) → FileMeans file was is f → f.answer ≡ Fine
+    (file was is : List ℕ) (f : SchemaFile) → FileMeans file was is f → f.answer ≡ fine
     → (xs : List Exchange) → Called (meaning f.schema) fresh xs
     → WholeMeets (meaning f.schema) xs
 
@@ -76,7 +74,7 @@ Demand2 =
 -- typing.
 abbrev pub Demand2File : Type 0
 Demand2File =
-    (file was is : List ℕ) (f : SchemaFile) → FileMeans file was is f → f.answer ≡ Fine
+    (file was is : List ℕ) (f : SchemaFile) → FileMeans file was is f → f.answer ≡ fine
     → (events lent after : List ℕ) (r : EventFile) → EventsMean (meaning f.schema) events lent after r
     → (v : Verdict) × (types : List ℕ) × EventsTold events lent after v types r × EventFileMeets (meaning f.schema) (length lent) events v types
 
@@ -88,16 +86,16 @@ pub record Demand3Of (file was : List ℕ) (f : SchemaFile) : Type 0 where
   -- are among the questions that `StatesSchema` has passed. "[T]he third demand supposes a file without" a type that no valid document uses.
   pub refused_exactly : (S : Meaning) → least_witness ≤ length was → StatesSchema file S → SomeValid S → EveryTypeUsed S → Demand3File S f.answer
   -- "A file with a type that no valid document uses is refused from now on"; "after 8, such a file gets 24, place that of the first such TYPE"
-  pub every_used : f.answer ≡ Fine → EveryTypeUsed (meaning f.schema)
-  pub unused_refused : least_witness ≤ length was → (p : ℕ) → (f.answer ≡ RefusedAt 24 p) ↔ FirstUnusedAt file p
+  pub every_used : f.answer ≡ fine → EveryTypeUsed (meaning f.schema)
+  pub unused_refused : least_witness ≤ length was → (p : ℕ) → (f.answer ≡ refused_at 24 p) ↔ FirstUnusedAt file p
   -- "The accepted schema is the one that the file states": each block is begun by a TYPE, and has the automaton of the expression after it if
   -- that has state count 0
-  pub states : f.answer ≡ Fine → StatesSchema file (meaning f.schema)
-  pub written : f.answer ≡ Fine → (b : Block) → Memᴰ b (meaning f.schema).blocks → Written file b
+  pub states : f.answer ≡ fine → StatesSchema file (meaning f.schema)
+  pub written : f.answer ≡ fine → (b : Block) → Memᴰ b (meaning f.schema).blocks → Written file b
   -- "and then what follows holds for every list of opening, closing and finishing calls from a fresh reading, with any tags and refused
   -- calls included, where each call gets the reading as the last one left it." "A nil opening [..] stands in the third demand's lists as an
   -- opening call."
-  pub calls : f.answer ≡ Fine → (xs : List Exchange) → Called (meaning f.schema) fresh xs → ListMeets (meaning f.schema) xs
+  pub calls : f.answer ≡ fine → (xs : List Exchange) → Called (meaning f.schema) fresh xs → ListMeets (meaning f.schema) xs
 
 abbrev pub Demand3 : Type 0
 Demand3 = (file was is : List ℕ) (f : SchemaFile) → FileMeans file was is f → Demand3Of file was f
@@ -105,12 +103,12 @@ Demand3 = (file was is : List ℕ) (f : SchemaFile) → FileMeans file was is f 
 -- "What could not be tested", of a file and what its call gave.
 pub record NotTestableOf (file : List ℕ) (f : SchemaFile) : Type 0 where
   -- "That no schema we accept has two readings"
-  pub one_reading : f.answer ≡ Fine → ¬ Ambiguous (meaning f.schema)
+  pub one_reading : f.answer ≡ fine → ¬ Ambiguous (meaning f.schema)
   -- "That a refused schema had to be refused": for competition
-  pub had_to_be : f.answer ≡ RefusedAt 9 0 → (S : Meaning) × StatesSchema file S × Ambiguous S
+  pub had_to_be : f.answer ≡ refused_at 9 0 → (S : Meaning) × StatesSchema file S × Ambiguous S
   -- "That an element typed early keeps its type, however the supplier goes on": whatever follows the events e in valid documents, each
   -- opening of e has one type in all of them. Demand 3 says that this type is given out.
-  pub keeps_type : f.answer ≡ Fine
+  pub keeps_type : f.answer ≡ fine
       → (e d₁ d₂ : List Event) (v₁ : Valid (meaning f.schema) d₁) (v₂ : Valid (meaning f.schema) d₂) → BeginningOf e d₁ → BeginningOf e d₂
       → take (openings e) (types_of v₁) ≡ take (openings e) (types_of v₂)
   -- "That trimming unused types loses no document": a schema that a file states, accepted or not, can be trimmed, and the tables that

@@ -4,7 +4,7 @@ use Rattle.sdtd.specs.Schema.{Schema as Meaning}
 use Rattle.sdtd.specs.Document.{Event}
 use Rattle.sdtd.specs.Calls.{ValidWithin}
 use Rattle.schema.specs.Value.{meaning}
-use Rattle.sdtd.specs.Answer.{fine, refused_at, verdict_in}
+use Rattle.sdtd.specs.Answer.{fine, refused_at}
 use Rattle.commands.specs.File.{StatesSchema}
 use Rattle.schema_file.specs.Answer.{FileMeans}
 use Rattle.schema_file.specs.declared.file.SchemaFile.{SchemaFile}
@@ -20,8 +20,8 @@ pub record ExpectedJobMeans (schema_bytes events was is : List ℕ) (r : Expecte
   pub file : SchemaFile
   pub schema_file : FileMeans schema_bytes was is file
   pub schema : r.schema ≡ file.answer
-  pub refused : (n p : ℕ) → file.answer ≡ verdict_in (refused_at n p) → r.expected ≡ laid_out p (nothing (refused_at n p))
-  pub accepted : file.answer ≡ verdict_in fine → ExpectedMeans (meaning file.schema) events r.expected
+  pub refused : (n p : ℕ) → file.answer ≡ refused_at n p → r.expected ≡ laid_out p (nothing (refused_at n p))
+  pub accepted : file.answer ≡ fine → ExpectedMeans (meaning file.schema) events r.expected
 
 -- What 0 says of the event file: its bytes are those of a valid document, nested at most 64 deep, and nothing is open or listed.
 pub record WholeFile (S : Meaning) (events : List ℕ) (e : Expected) : Type 0 where

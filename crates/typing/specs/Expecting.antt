@@ -4,7 +4,6 @@ use Rattle.std.specs.Prelude.{◌≡◌, ◌≢◌, true, List, ℕ, length}
 use Rattle.sdtd.specs.Answer.{fine}
 use Rattle.schema.specs.Value.{meaning}
 use Rattle.schema.specs.declared.value.Schema.{Schema}
-use Rattle.sdtd.specs.declared.Verdict.TheVariants.{Fine}
 use Rattle.schema_file.specs.Answer.{FileMeans}
 use Rattle.schema_file.specs.declared.file.SchemaFile.{SchemaFile}
 use Rattle.expected.specs.Expected.{nothing, laid_out, ExpectedMeans}
@@ -25,5 +24,5 @@ pub record ExpectingMeets : Type 0 where
   pub taken_whole : (v : Schema) (file : List ℕ) (r : Expected) → ExpectedMeans (meaning v) file r → r.number ≡ 0
       → r ≡ laid_out (length file) (nothing fine)
   -- under an accepted schema the answer is by valid documents
-  pub accepted : (file was is : List ℕ) (f : SchemaFile) → FileMeans file was is f → f.answer ≡ Fine
+  pub accepted : (file was is : List ℕ) (f : SchemaFile) → FileMeans file was is f → f.answer ≡ fine
       → (events : List ℕ) (r : Expected) → ExpectedMeans (meaning f.schema) events r → ExpectedMeets (meaning f.schema) events r

@@ -4,7 +4,7 @@ use Rattle.sdtd.specs.Schema.{Schema as Meaning, tag_of}
 use Rattle.schema.specs.Value.{meaning}
 use Rattle.commands.specs.File.{StatesSchema}
 use Rattle.schema_file.specs.Answer.{FileMeans}
-use Rattle.sdtd.specs.Answer.{Verdict, fine, refused_at, verdict_in}
+use Rattle.sdtd.specs.Answer.{Verdict, fine, refused_at}
 use Rattle.schema_file.specs.declared.file.SchemaFile.{SchemaFile}
 use Rattle.events.specs.Events.{events_of}
 use Rattle.reading.specs.EventFile.{EventsTold, EventsMean}
@@ -31,9 +31,9 @@ pub record JobMeans (schema_bytes events was_witness is_witness was_types is_typ
   pub file : SchemaFile
   pub schema_file : FileMeans schema_bytes was_witness is_witness file
   -- "A refused schema prints only `schema refused N at P`": no event is read, and no type is given out
-  pub refused : (n p : ℕ) → file.answer ≡ verdict_in (refused_at n p) → (r ≡ job_in (schema_refused n p)) × (is_types ≡ was_types)
+  pub refused : (n p : ℕ) → file.answer ≡ refused_at n p → (r ≡ job_in (schema_refused n p)) × (is_types ≡ was_types)
   -- under an accepted schema the event file's answer: "the last [line has] the count of openings, or `refused N at P`"
-  pub accepted : file.answer ≡ verdict_in fine
+  pub accepted : file.answer ≡ fine
       → (e : EventFile) × (r ≡ job_in (events_read e.number e.place e.count))
       × EventsMean (meaning file.schema) events was_types is_types e
 

@@ -7,13 +7,11 @@ use Rattle.sdtd.specs.Schema.{Schema as Meaning}
 use Rattle.sdtd.specs.Tree.{Tree, relabel, IsTyping}
 use Rattle.sdtd.specs.Document.{Event, Valid}
 use Rattle.sdtd.specs.Reduced.{TellsUsed, new_number, reduced}
-use Rattle.sdtd.specs.Output.{writes}
+use Rattle.sdtd.specs.Output.{writes, FileWritten, Length}
 use Rattle.commands.specs.File.{commands, StatesSchema}
 use Rattle.schema_file.specs.Answer.{FileMeans}
 use Rattle.schema_writer.specs.Answer.{OutputBy, WriteMeans}
-use Rattle.sdtd.specs.declared.FileWritten.{FileWritten}
-use Rattle.sdtd.specs.declared.FileWritten.TheVariants.{Length}
-use Rattle.sdtd.specs.declared.Verdict.TheVariants.{Fine}
+use Rattle.sdtd.specs.Answer.{fine}
 use Rattle.schema_file.specs.declared.file.SchemaFile.{SchemaFile}
 use Rattle.typing.specs.Demands.{One}
 
@@ -32,7 +30,7 @@ pub record Reduces (file written : List ℕ) : Type 0 where
   pub tells_used : TellsUsed schema kept
   pub states_written : StatesSchema written (reduced kept schema)
   -- "The written file passes": the reader accepts it, with any buffer that is long enough
-  pub passes : (was is : List ℕ) (f : SchemaFile) → least_witness ≤ length was → FileMeans written was is f → f.answer ≡ Fine
+  pub passes : (was is : List ℕ) (f : SchemaFile) → least_witness ≤ length was → FileMeans written was is f → f.answer ≡ fine
   -- "the same documents are valid"
   pub same_documents : (d : List Event) → Valid schema d ↔ Valid (reduced kept schema) d
   -- "and each typing is the old one renumbered"
@@ -46,6 +44,6 @@ pub record Reduces (file written : List ℕ) : Type 0 where
 pub record WriterMeets : Type 0 where
   pub outcome : (file was : List ℕ) → One (OutputBy file (commands file) was)
   pub written : (file was is : List ℕ) (n : ℕ) → WriteMeans file was is (Length n) → Reduces file (take n is)
-  pub same : (file was is : List ℕ) (f : SchemaFile) → FileMeans file was is f → f.answer ≡ Fine
+  pub same : (file was is : List ℕ) (f : SchemaFile) → FileMeans file was is f → f.answer ≡ fine
       → (lent after : List ℕ) (r : FileWritten) → length file ≤ length lent → WriteMeans file lent after r
       → record { answer = r; buffer = after } ≡ writes lent file

@@ -12,7 +12,7 @@ use Rattle.commands.specs.Questions.{same_phase, failed}
 use Rattle.commands.specs.declared.progress.Phase.TheVariants.{InExpression, AfterDone}
 use Rattle.commands.proofs.Holding.{seen_in}
 use Rattle.commands.proofs.Drafts.{zeros_empty}
-use Rattle.sdtd.specs.declared.Verdict.TheVariants.{Fine}
+use Rattle.sdtd.specs.Answer.{fine}
 use Rattle.commands.specs.Laying.{fitting}
 use Rattle.commands.proofs.ExpressionReads.{Found, found, uses_few}
 use Rattle.commands.proofs.ExpressionTurns.{turn_refused, turn_end, turn_reads}
@@ -69,26 +69,26 @@ pub overflow_add-at : goal.overflow_add-at
 overflow_add-at c =
     let inside : same_phase c.loop-read.progress.phase InExpression ≡ true = sym c.is_in_expression.ensures ∙ c.if-is_in_expression.true in
     let read : Found c.args.file.now c.loop-read.at c.read_content-read.result = found _ _ _ c.read_content-read.ensures in
-    let fine : fitting c.read_content-read.result.verdict c.read_content-read.result.end c.lay_steps-total.result ≡ Fine = sym c.fits.ensures ∙ c.in_default.is in
+    let is_fine : fitting c.read_content-read.result.verdict c.read_content-read.result.end c.lay_steps-total.result ≡ fine = sym c.fits.ensures ∙ c.in_default.is in
     let ends_at : (c.read_content-read.result.end + 1 ≤ length c.args.file.now)
-    × (c.loop-read.at < c.read_content-read.result.end + 1) = turn_end c.loop-read.invariant inside read c.lay_steps-total.ensures fine in
+    × (c.loop-read.at < c.read_content-read.result.end + 1) = turn_end c.loop-read.invariant inside read c.lay_steps-total.ensures is_fine in
     omega (arith, ends_at)
 
 pub loop-read-smaller-then-is_in_expression : goal.loop-read-smaller-then-is_in_expression
 loop-read-smaller-then-is_in_expression c =
     let inside : same_phase c.loop-read.progress.phase InExpression ≡ true = sym c.is_in_expression.ensures ∙ c.if-is_in_expression.true in
     let read : Found c.args.file.now c.loop-read.at c.read_content-read.result = found _ _ _ c.read_content-read.ensures in
-    let fine : fitting c.read_content-read.result.verdict c.read_content-read.result.end c.lay_steps-total.result ≡ Fine = sym c.fits.ensures ∙ c.in_default.is in
+    let is_fine : fitting c.read_content-read.result.verdict c.read_content-read.result.end c.lay_steps-total.result ≡ fine = sym c.fits.ensures ∙ c.in_default.is in
     let ends_at : (c.read_content-read.result.end + 1 ≤ length c.args.file.now)
-    × (c.loop-read.at < c.read_content-read.result.end + 1) = turn_end c.loop-read.invariant inside read c.lay_steps-total.ensures fine in
+    × (c.loop-read.at < c.read_content-read.result.end + 1) = turn_end c.loop-read.invariant inside read c.lay_steps-total.ensures is_fine in
     omega (arith, ends_at)
 
 pub loop-read-preserved-then-is_in_expression : goal.loop-read-preserved-then-is_in_expression
 loop-read-preserved-then-is_in_expression c =
     let inside : same_phase c.loop-read.progress.phase InExpression ≡ true = sym c.is_in_expression.ensures ∙ c.if-is_in_expression.true in
     let read : Found c.args.file.now c.loop-read.at c.read_content-read.result = found _ _ _ c.read_content-read.ensures in
-    let fine : fitting c.read_content-read.result.verdict c.read_content-read.result.end c.lay_steps-total.result ≡ Fine = sym c.fits.ensures ∙ c.in_default.is in
-    turn_reads c.loop-read.invariant inside read c.lay_steps-total.ensures fine c.progress_with-progress.ensures
+    let is_fine : fitting c.read_content-read.result.verdict c.read_content-read.result.end c.lay_steps-total.result ≡ fine = sym c.fits.ensures ∙ c.in_default.is in
+    turn_reads c.loop-read.invariant inside read c.lay_steps-total.ensures is_fine c.progress_with-progress.ensures
     c.lay_states.ensures.0 c.lay_states.ensures.1 c.count_steps.ensures c.add_names-bound.ensures.0 c.add_names-bound.ensures.1
 
 pub returns-then-number-ne0 : goal.returns-then-number-ne0
