@@ -6,5 +6,5 @@ mod numbers;
 mod table;
 
 pub use limits::{ORDERED_PAIRS, PAIRS};
-pub use numbers::{PairNumber, number_in, pair_number, pair_numbers};
+pub use numbers::{number_in, pair_number, pair_numbers};
 pub use table::PAIR_NUMBERS;

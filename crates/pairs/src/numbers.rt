@@ -7,13 +7,6 @@ use crate::limits::ORDERED_PAIRS;
 use crate::table::PAIR_NUMBERS;
 use schema::STATES;
 
-// The number of a pair of states, or that one of them is no state.
-#[derive(Clone, Copy)]
-pub enum PairNumber {
-    At(u16),
-    Outside,
-}
-
 // The table, for a caller that looks up many pairs: it makes the array once and lends it.
 pub fn pair_numbers() -> [u16; ORDERED_PAIRS]
     ensures { PairTable result }
@@ -25,23 +18,17 @@ pub fn pair_numbers() -> [u16; ORDERED_PAIRS]
 pub fn number_in(table: &[u16], s: u8, t: u8) -> u16
     ensures { result ≡ get_or table.now (pair_place s t) 0 }
 {
-    let place = STATES as usize * s as usize + t as usize;
-    if place < table.len() {
-        return table[place];
-    }
-    0
+    let place = usize::from(STATES) * usize::from(s) + usize::from(t);
+    table.get(place).copied().unwrap_or(0)
 }
 
-// The number of the pair, or Outside where one of the two is no state.
-pub fn pair_number(s: u8, t: u8) -> PairNumber
+// The number of the pair, or None where one of the two is no state.
+pub fn pair_number(s: u8, t: u8) -> Option<u16>
     ensures { result ≡ pair_answer s t }
 {
-    if STATES <= s {
-        return PairNumber::Outside;
-    }
-    if STATES <= t {
-        return PairNumber::Outside;
+    if STATES <= s || STATES <= t {
+        return None;
     }
     let table = pair_numbers();
-    PairNumber::At(number_in(&table, s, t))
+    Some(number_in(&table, s, t))
 }
