@@ -1,26 +1,22 @@
 -- Laying a byte, nothing, and one text after another.
 use mathlib.Core.Path.{◌≡◌, refl, sym, ap, ◌∙◌}
-use mathlib.Core.List.{List, [], ◌∷◌, ◌++◌}
-use Prim.Native.Nat.{ℕ, suc, ◌+◌, ◌≤◌, ◌<◌}
+use mathlib.Core.List.{List, [], ◌∷◌, ◌++◌, append_assoc}
+use Prim.Native.Nat.{ℕ, suc, ◌+◌, ◌-◌, ◌≤◌}
+use Rattle.std.specs.Prelude.{min}
 use native.Mathlib.Decide.{dec_le}
 use native.Mathlib.Omega.{arith}
 use lib.ListN.{length, set, take, drop, take-append-drop, drop_of_length-le, length-append}
+use Rattle.std.proofs.lemmas.List.{drop-drop}
 use lib.Seq.{sets, sets-eq, length-sets, set_out, take_all, length-take-le, take_at}
 use Rattle.text.specs.Laid.{Laid}
 
 pub laid_none : (was : List ℕ) (at : ℕ) → Laid was at [] was at
 laid_none was at = record { bytes = refl; place = omega arith }
 
-pub laid_byte : (was : List ℕ) (at b : ℕ) → at < length was → Laid was at (b ∷ []) (set was at b) (at + 1)
-laid_byte was at b h = record { bytes = refl; place = omega arith }
-
 -- past the end nothing is put
 pub laid_past : (was : List ℕ) (at : ℕ) (text : List ℕ) → length was ≤ at → sets was at text ≡ was
 laid_past was at [] h = refl
 laid_past was at (b ∷ text) h = rw (set_out was at b h) (laid_past was (suc at) text (omega arith))
-
-pub laid_out : (was : List ℕ) (at b : ℕ) → length was ≤ at → Laid was at (b ∷ []) was at
-laid_out was at b h = record { bytes = sym (laid_past was at (b ∷ []) h); place = omega arith }
 
 pub sets_then : (was : List ℕ) (at : ℕ) (s t : List ℕ) → sets was at (s ++ t) ≡ sets (sets was at s) (at + length s) t
 sets_then was at [] t = ap (λ (n : ℕ). sets was n t) (omega arith)
@@ -61,6 +57,24 @@ sets_start was text =
           ∙ ap (λ (l : List ℕ). some ++ l)
           (drop_of_length-le was {i = length some} (omega arith) ∙ sym (drop_of_length-le was {i = length text} (omega arith)))
     ]
+
+-- what a copy of the bytes that fit leaves
+pub copied : (was : List ℕ) (at n : ℕ) (text : List ℕ) → at ≤ length was → n ≡ min (length text) (length was - at)
+    → sets was at text ≡ take at was ++ (take n text ++ drop n (drop at was))
+copied was at n text h q =
+    let some = take n text in
+    let long : length some ≡ n = length-take-le n text (omega arith) in
+    let rest : sets (sets was at some) (at + length some) (drop n text) ≡ sets was at some =
+    elim (dec_le (length text) n) [
+      | yes all ↦ ap (sets (sets was at some) (at + length some)) (drop_of_length-le text all)
+      | no more ↦ laid_past (sets was at some) (at + length some) (drop n text) (omega (arith, length-sets was at some))
+    ] in
+    ap (sets was at) (sym (take-append-drop n text))
+    ∙ sets_then was at some (drop n text)
+    ∙ rest
+    ∙ sets-eq some was at (omega arith)
+    ∙ append_assoc (take at was) some (drop (at + length some) was)
+    ∙ ap (λ (l : List ℕ). take at was ++ (some ++ l)) (ap (λ (k : ℕ). drop (at + k) was) long ∙ sym (drop-drop n at was))
 
 module _ {was : List ℕ} {at : ℕ} {s m : List ℕ} {r : ℕ} {t is : List ℕ} {q : ℕ} (x : Laid was at s m r) (y : Laid m r t is q) where
   long : length m ≡ length was

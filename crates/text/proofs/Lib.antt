@@ -1,3 +1,3 @@
--- Laws of laying texts and numbers.
+-- Laws of laying texts, on a page and at a place.
 pub mod LaidLaws
-pub mod DecimalLaws
+pub mod PageLaws

@@ -1,4 +1,4 @@
--- Text in a buffer: what laying leaves there, a number's digits, and a line's end.
+-- Text in a buffer: what laying leaves there, on a page or at a place, and a line's end.
+pub mod Page
 pub mod Laid
-pub mod Decimal
 pub mod Line

@@ -1,6 +1,10 @@
-// Bytes put into a buffer from a place on, as far as they fit.
-ghost use Rattle.std.specs.Prelude.{[], ◌∷◌};
+// A byte, bytes and a number put into a buffer at a place, as far as they fit: a page of one text. Where it does not fit, the place after it is
+// the buffer's end.
+ghost use Rattle.std.specs.Prelude.{[], ◌∷◌, decimal};
 ghost use Rattle.text.specs.Laid.{Laid};
+
+use crate::page::Page;
+use itoa::Buffer;
 
 // Each line ends in byte 0A.
 pub const LINE_END: u8 = 0x0a;
@@ -9,22 +13,22 @@ pub const LINE_END: u8 = 0x0a;
 pub fn put_byte(out: &mut [u8], at: usize, byte: u8) -> usize
     ensures { Laid out.old at (byte ∷ []) out.new result }
 {
-    if at >= out.len() {
-        return at;
-    }
-    out[at] = byte;
-    at + 1
+    put_bytes(out, at, &[byte])
 }
 
-// Puts the bytes of a text one after another, and gives the place after the last that fits.
+// Puts the bytes of a text, and gives the place after the last that fits.
+#[tactic(auto, unfolding(crate::specs::Page::laid))]
 pub fn put_bytes(out: &mut [u8], at: usize, text: &[u8]) -> usize
     ensures { Laid out.old at text.now out.new result }
 {
-    let mut place = at;
-    let mut i: usize = 0;
-    while i < text.len() {
-        place = put_byte(out, place, text[i]);
-        i += 1;
-    }
-    place
+    let mut page = Page::new(out, at);
+    page.bytes(text);
+    at.max(page.held())
+}
+
+// Puts the number's digits, the most significant first, and gives the place after the last that fits.
+pub fn put_decimal(out: &mut [u8], at: usize, n: usize) -> usize
+    ensures { Laid out.old at (decimal n) out.new result }
+{
+    put_bytes(out, at, Buffer::new().format(n).as_bytes())
 }

@@ -1,8 +1,8 @@
-// Text laid into a lent buffer, as far as it fits: bytes, and numbers in decimal digits.
+// Text laid into a lent buffer, as far as it fits: a page to write to, and bytes and numbers at a place.
 #![tactic(auto)]
 
 mod bytes;
-mod decimal;
+mod page;
 
-pub use bytes::{LINE_END, put_byte, put_bytes};
-pub use decimal::put_decimal;
+pub use bytes::{LINE_END, put_byte, put_bytes, put_decimal};
+pub use page::Page;
