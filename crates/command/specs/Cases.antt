@@ -1,8 +1,8 @@
 -- What a command of one kind gives, by its operands; any other gives what stands beside.
-use Rattle.std.specs.Prelude.{ℕ}
+use Rattle.std.specs.Prelude.{Bool, true, false, ℕ}
 use Rattle.command.specs.declared.Command.{Command}
 use Rattle.command.specs.declared.Part.{Part}
-use Rattle.command.specs.declared.Command.TheVariants.{Tags, TypeBlock, Final, Step, Root, Nil, Done, Expression, NoCommand}
+use Rattle.command.specs.declared.Command.TheVariants.{Tags, TypeBlock, Final, Step, Root, Nil, Done, Expression}
 
 abbrev pub on_type : {A : Type 0} → (ℕ → ℕ → A) → A → Command → A
 on_type f x (Tags n) = x
@@ -13,7 +13,10 @@ on_type f x (Root a) = x
 on_type f x Nil = x
 on_type f x Done = x
 on_type f x (Expression y) = x
-on_type f x NoCommand = x
+
+-- it is a TYPE
+abbrev pub is_type : Command → Bool
+is_type c = on_type (λ g s. true) false c
 
 abbrev pub on_final : {A : Type 0} → (ℕ → A) → A → Command → A
 on_final f x (Tags n) = x
@@ -24,7 +27,6 @@ on_final f x (Root a) = x
 on_final f x Nil = x
 on_final f x Done = x
 on_final f x (Expression y) = x
-on_final f x NoCommand = x
 
 abbrev pub on_step : {A : Type 0} → (ℕ → ℕ → ℕ → A) → A → Command → A
 on_step f x (Tags n) = x
@@ -35,7 +37,6 @@ on_step f x (Root a) = x
 on_step f x Nil = x
 on_step f x Done = x
 on_step f x (Expression y) = x
-on_step f x NoCommand = x
 
 abbrev pub on_root : {A : Type 0} → (ℕ → A) → A → Command → A
 on_root f x (Tags n) = x
@@ -46,7 +47,6 @@ on_root f x (Root a) = f a.0
 on_root f x Nil = x
 on_root f x Done = x
 on_root f x (Expression y) = x
-on_root f x NoCommand = x
 
 abbrev pub on_nil : {A : Type 0} → A → A → Command → A
 on_nil y x (Tags n) = x
@@ -57,7 +57,6 @@ on_nil y x (Root a) = x
 on_nil y x Nil = y
 on_nil y x Done = x
 on_nil y x (Expression z) = x
-on_nil y x NoCommand = x
 
 abbrev pub on_expression : {A : Type 0} → (Part → A) → A → Command → A
 on_expression f x (Tags n) = x
@@ -68,4 +67,3 @@ on_expression f x (Root a) = x
 on_expression f x Nil = x
 on_expression f x Done = x
 on_expression f x (Expression y) = f y
-on_expression f x NoCommand = x

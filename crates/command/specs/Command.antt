@@ -1,22 +1,10 @@
 -- "One-byte commands, hexadecimal, with one-byte operands": their bytes, and the command at a place of a file.
-use Rattle.std.specs.Prelude.{Bool, true, false, cond, List, [], ◌∷◌, ◌++◌, ℕ, ◌+◌, eqb, leb, length, get_or}
+use Rattle.std.specs.Prelude.{Bool, true, false, cond, Option, Some, None, List, [], ◌∷◌, ◌++◌, ℕ, ◌+◌, eqb, leb, length, get_or}
 use Rattle.sdtd.specs.Numbered.{tag_no, type_no}
 use Rattle.command.specs.declared.Command.{Command}
-use Rattle.command.specs.declared.Command.TheVariants.{Tags, TypeBlock, Final, Step, Root, Nil, Done, Expression, NoCommand}
+use Rattle.command.specs.declared.Command.TheVariants.{Tags, TypeBlock, Final, Step, Root, Nil, Done, Expression}
 use Rattle.command.specs.declared.Part.{Part}
 use Rattle.command.specs.declared.Part.TheVariants.{OpenBracket, CloseBracket, Use, Or, Repeat, End}
-
--- one of document 01's six, or of those that document 02 adds
-abbrev pub is_command : Command → Bool
-is_command (Tags n) = true
-is_command (TypeBlock g s) = true
-is_command (Final q) = true
-is_command (Step p j q) = true
-is_command (Root a) = true
-is_command Nil = true
-is_command Done = true
-is_command (Expression x) = true
-is_command NoCommand = false
 
 -- one of document 01's six
 abbrev pub is_old : Command → Bool
@@ -28,7 +16,6 @@ is_old (Root a) = true
 is_old Nil = false
 is_old Done = true
 is_old (Expression x) = false
-is_old NoCommand = false
 
 -- the bytes of a command of an expression: 30 and 31 around a choice, 32 with a type, 33 between sequences, 34 after what is repeated, 3F
 -- at the end
@@ -41,7 +28,7 @@ part_bytes Repeat = 0x34 ∷ []
 part_bytes End = 0x3f ∷ []
 
 -- "10 TAGS (count); 11 TYPE (tag, state count), which starts the next type's block; 12 FINAL (state); 13 STEP (from, type, to);
--- 14 ROOT (type); 1F DONE"; "Command 15 NIL": a command's bytes; where there is no command, none.
+-- 14 ROOT (type); 1F DONE"; "Command 15 NIL": a command's bytes.
 abbrev pub bytes_of : Command → List ℕ
 bytes_of (Tags n) = 0x10 ∷ n ∷ []
 bytes_of (TypeBlock g s) = 0x11 ∷ g.0 ∷ s ∷ []
@@ -51,7 +38,6 @@ bytes_of (Root a) = 0x14 ∷ a.0 ∷ []
 bytes_of Nil = 0x15 ∷ []
 bytes_of Done = 0x1f ∷ []
 bytes_of (Expression x) = part_bytes x
-bytes_of NoCommand = []
 
 -- the file of the commands: their bytes in order
 unfoldable pub file_of : List Command → List ℕ
@@ -70,11 +56,11 @@ abbrev operand : List ℕ → ℕ → ℕ → ℕ
 operand file i k = get_or file (i + k) 0
 
 -- the command, if the file has its bytes from the place i on
-abbrev whole : List ℕ → ℕ → Command → Command
-whole file i c = cond (leb (i + size c) (length file)) c NoCommand
+abbrev whole : List ℕ → ℕ → Command → Option Command
+whole file i c = cond (leb (i + size c) (length file)) (Some c) None
 
 -- the command of document 02 that begins with the byte b at the place i: NIL, or one of an expression
-unfoldable pub added_command : List ℕ → ℕ → ℕ → Command
+unfoldable pub added_command : List ℕ → ℕ → ℕ → Option Command
 added_command file i b =
     cond (eqb b 0x15) (whole file i Nil)
     (cond (eqb b 0x30) (whole file i (Expression OpenBracket))
@@ -82,10 +68,10 @@ added_command file i b =
     (cond (eqb b 0x32) (whole file i (Expression (Use (type_no (operand file i 1)))))
     (cond (eqb b 0x33) (whole file i (Expression Or))
     (cond (eqb b 0x34) (whole file i (Expression Repeat))
-    (cond (eqb b 0x3f) (whole file i (Expression End)) NoCommand))))))
+    (cond (eqb b 0x3f) (whole file i (Expression End)) None))))))
 
 -- the command that begins with the byte b at the place i
-unfoldable pub command_of : List ℕ → ℕ → ℕ → Command
+unfoldable pub command_of : List ℕ → ℕ → ℕ → Option Command
 command_of file i b =
     cond (eqb b 0x10) (whole file i (Tags (operand file i 1)))
     (cond (eqb b 0x11) (whole file i (TypeBlock (tag_no (operand file i 1)) (operand file i 2)))
@@ -95,5 +81,5 @@ command_of file i b =
     (cond (eqb b 0x1f) (whole file i Done) (added_command file i b))))))
 
 -- The command at the place i: none where the file ends, where the byte begins none, or where its operands run past the end.
-abbrev pub command_at : List ℕ → ℕ → Command
-command_at file i = cond (leb (i + 1) (length file)) (command_of file i (get_or file i 0)) NoCommand
+abbrev pub command_at : List ℕ → ℕ → Option Command
+command_at file i = cond (leb (i + 1) (length file)) (command_of file i (get_or file i 0)) None

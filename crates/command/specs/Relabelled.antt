@@ -2,7 +2,7 @@
 use Rattle.std.specs.Prelude.{ℕ}
 use Rattle.sdtd.specs.Numbered.{type_no}
 use Rattle.command.specs.declared.Command.{Command}
-use Rattle.command.specs.declared.Command.TheVariants.{Tags, TypeBlock, Final, Step, Root, Nil, Done, Expression, NoCommand}
+use Rattle.command.specs.declared.Command.TheVariants.{Tags, TypeBlock, Final, Step, Root, Nil, Done, Expression}
 use Rattle.command.specs.declared.Part.{Part}
 use Rattle.command.specs.declared.Part.TheVariants.{OpenBracket, CloseBracket, Use, Or, Repeat, End}
 
@@ -23,4 +23,3 @@ relabel_command image (Root a) = Root (type_no (image a.0))
 relabel_command image Nil = Nil
 relabel_command image Done = Done
 relabel_command image (Expression x) = Expression (relabel_part image x)
-relabel_command image NoCommand = NoCommand

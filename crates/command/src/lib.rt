@@ -1,22 +1,14 @@
 // The commands of the schema file, as bytes.
 #![tactic(auto)]
 
-ghost use Rattle.std.specs.Prelude.{◌≡◌, ◌<◌, length};
-ghost use Rattle.command.specs.Command.{added_command, command_at, part_size, size};
+ghost use Rattle.std.specs.Prelude.{◌≡◌};
+ghost use Rattle.command.specs.Cases.{is_type};
+ghost use Rattle.command.specs.Command.{command_at, part_size, size};
 
 use sdtd::{Tag, TypeNo};
 
-// the bytes of a command with no operand, with one, with two, with three
-const ALONE: usize = 1;
-
-const WITH_ONE: usize = 2;
-
-const WITH_TWO: usize = 3;
-
-const WITH_THREE: usize = 4;
-
 // A command of an expression: 30 and 31 around a choice, 32 with a type, 33 between sequences, 34 after what it repeats, 3F at the end.
-#[derive(Clone, Copy)]
+#[derive(Clone, Copy, Debug, PartialEq, Eq)]
 pub enum Part {
     OpenBracket,
     CloseBracket,
@@ -26,8 +18,20 @@ pub enum Part {
     End,
 }
 
-// A command with its operands, or that there is none.
-#[derive(Clone, Copy)]
+impl Part {
+    // How many bytes it has.
+    fn size(self) -> usize
+        ensures { result ≡ part_size self }
+    {
+        match self {
+            Part::OpenBracket | Part::CloseBracket | Part::Or | Part::Repeat | Part::End => 1,
+            Part::Use(_) => 2,
+        }
+    }
+}
+
+// A command with its operands.
+#[derive(Clone, Copy, Debug, PartialEq, Eq)]
 pub enum Command {
     Tags(u8),
     TypeBlock(Tag, u8),
@@ -37,115 +41,49 @@ pub enum Command {
     Nil,
     Done,
     Expression(Part),
-    NoCommand,
 }
 
-// The command of document 02 that begins with the byte b at a place of the file: NIL, or one of an expression.
-#[tactic(auto, unfolding(crate::specs::Command::added_command))]
-fn added_command(file: &[u8], at: usize, b: u8) -> Command
-    requires { at < length file.now }
-    ensures { result ≡ added_command file.now at b }
-{
-    if b == 0x15 {
-        return Command::Nil;
-    }
-    if b == 0x30 {
-        return Command::Expression(Part::OpenBracket);
-    }
-    if b == 0x31 {
-        return Command::Expression(Part::CloseBracket);
-    }
-    if b == 0x32 {
-        if file.len() - at < WITH_ONE {
-            return Command::NoCommand;
+impl Command {
+    // How many bytes it has.
+    pub fn size(self) -> usize
+        ensures { result ≡ size self }
+    {
+        match self {
+            Command::Nil | Command::Done => 1,
+            Command::Tags(_) | Command::Final(_) | Command::Root(_) => 2,
+            Command::TypeBlock(_, _) => 3,
+            Command::Step(_, _, _) => 4,
+            Command::Expression(part) => part.size(),
         }
-        return Command::Expression(Part::Use(TypeNo(file[at + 1])));
     }
-    if b == 0x33 {
-        return Command::Expression(Part::Or);
+
+    // Is it a TYPE?
+    pub fn is_type(self) -> bool
+        ensures { result ≡ is_type self }
+    {
+        matches!(self, Command::TypeBlock(_, _))
     }
-    if b == 0x34 {
-        return Command::Expression(Part::Repeat);
-    }
-    if b == 0x3f {
-        return Command::Expression(Part::End);
-    }
-    Command::NoCommand
 }
 
-// The command at a place of the file.
+// The command at a place of the file, if one begins there and its operands stand inside the file.
 #[tactic(auto, unfolding(crate::specs::Command::command_of, crate::specs::Command::added_command))]
-pub fn command_at(file: &[u8], at: usize) -> Command
+pub fn command_at(file: &[u8], at: usize) -> Option<Command>
     ensures { result ≡ command_at file.now at }
 {
-    if file.len() <= at {
-        return Command::NoCommand;
-    }
-    let left = file.len() - at;
-    let b = file[at];
-    if b == 0x10 {
-        if left < WITH_ONE {
-            return Command::NoCommand;
-        }
-        return Command::Tags(file[at + 1]);
-    }
-    if b == 0x11 {
-        if left < WITH_TWO {
-            return Command::NoCommand;
-        }
-        return Command::TypeBlock(Tag(file[at + 1]), file[at + 2]);
-    }
-    if b == 0x12 {
-        if left < WITH_ONE {
-            return Command::NoCommand;
-        }
-        return Command::Final(file[at + 1]);
-    }
-    if b == 0x13 {
-        if left < WITH_THREE {
-            return Command::NoCommand;
-        }
-        return Command::Step(file[at + 1], TypeNo(file[at + 2]), file[at + 3]);
-    }
-    if b == 0x14 {
-        if left < WITH_ONE {
-            return Command::NoCommand;
-        }
-        return Command::Root(TypeNo(file[at + 1]));
-    }
-    if b == 0x1f {
-        return Command::Done;
-    }
-    added_command(file, at, b)
-}
-
-// How many bytes a command of an expression has.
-fn size_of_part(part: Part) -> usize
-    ensures { result ≡ part_size part }
-{
-    match part {
-        Part::Use(_) => WITH_ONE,
-        Part::OpenBracket => ALONE,
-        Part::CloseBracket => ALONE,
-        Part::Or => ALONE,
-        Part::Repeat => ALONE,
-        Part::End => ALONE,
-    }
-}
-
-// How many bytes a command has; where there is none, none.
-pub fn size_of(command: Command) -> usize
-    ensures { result ≡ size command }
-{
-    match command {
-        Command::Tags(_) => WITH_ONE,
-        Command::TypeBlock(_, _) => WITH_TWO,
-        Command::Final(_) => WITH_ONE,
-        Command::Step(_, _, _) => WITH_THREE,
-        Command::Root(_) => WITH_ONE,
-        Command::Nil => ALONE,
-        Command::Done => ALONE,
-        Command::Expression(part) => size_of_part(part),
-        Command::NoCommand => 0,
+    match file.get(at..)? {
+        [0x10, count, ..] => Some(Command::Tags(*count)),
+        [0x11, tag, states, ..] => Some(Command::TypeBlock(Tag(*tag), *states)),
+        [0x12, state, ..] => Some(Command::Final(*state)),
+        [0x13, from, by, to, ..] => Some(Command::Step(*from, TypeNo(*by), *to)),
+        [0x14, root, ..] => Some(Command::Root(TypeNo(*root))),
+        [0x15, ..] => Some(Command::Nil),
+        [0x1f, ..] => Some(Command::Done),
+        [0x30, ..] => Some(Command::Expression(Part::OpenBracket)),
+        [0x31, ..] => Some(Command::Expression(Part::CloseBracket)),
+        [0x32, used, ..] => Some(Command::Expression(Part::Use(TypeNo(*used)))),
+        [0x33, ..] => Some(Command::Expression(Part::Or)),
+        [0x34, ..] => Some(Command::Expression(Part::Repeat)),
+        [0x3f, ..] => Some(Command::Expression(Part::End)),
+        _ => None,
     }
 }
