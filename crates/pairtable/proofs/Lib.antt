@@ -1,2 +1,0 @@
--- The lines of the table, whole.
-pub mod LineLengths

@@ -1,8 +1,0 @@
--- `pairtable::table_text` meets its contract: the lines of the table fit the buffer.
-use native.Mathlib.Omega.{arith}
-use Rattle.pairtable.proofs.LineLengths.{table_text}
-use Rattle.pairtable.proofs.table_text.Goals as goal
-
-pub returns : goal.returns
-returns c =
-    table_text c.args.numbers c.requires c.put_lines-length.ensures (omega arith)
