@@ -16,7 +16,7 @@ use Rattle.sdtd.specs.Limits.{most_types, most_states}
 use Rattle.sdtd.specs.Schema.{Step, block_of, WithinLimits}
 use Rattle.schema.specs.States.{member}
 use Rattle.schema.specs.Value.{up_from, steps_of, offset, block_at, meaning}
-use Rattle.schema.specs.Spread.{first_sets, span_at, steps_in}
+use Rattle.schema.specs.Spread.{first_sets, steps_in}
 use Rattle.schema.specs.declared.value.Schema.{Schema}
 use Rattle.schema.proofs.Bits.{member_none, member_start, mem-members}
 use Rattle.schema.proofs.Values.{same_everywhere, steps_mem, types_count, block_of_lem, no_block_of}
@@ -87,7 +87,7 @@ module _ {v : Schema} (fits : Fits v) (within : WithinLimits (meaning v)) where
 
   -- those of any type's, past the types too
   pub steps_in_lem : (a : ℕ) → steps_in v.steps (forth v) v.types a ≡ (block_of (meaning v) a).steps
-  unfolding span_at steps_of up_from
+  unfolding steps_of up_from
   steps_in_lem a =
       elim (dec_lt a v.types) [
         | yes l ↦ rw (lt-ltb a v.types l) (sym (own-steps a l))

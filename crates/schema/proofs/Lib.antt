@@ -1,5 +1,6 @@
 -- Laws of the values and of what the loops compute.
 pub mod Bits
+pub mod LowestState
 pub mod Values
 pub mod WaysLaws
 pub mod RootLaws

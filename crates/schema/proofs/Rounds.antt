@@ -12,7 +12,7 @@ use lib.Seq.{take-suc, set_at, length-take-le}
 use Rattle.sdtd.specs.Limits.{most_types, most_states, most_steps}
 use Rattle.sdtd.specs.Schema.{Step}
 use Rattle.schema.specs.Value.{steps_of, step_at, offset}
-use Rattle.schema.specs.Spread.{spread_set, settle_set, iterate, Settled, span_at, start_states}
+use Rattle.schema.specs.Spread.{spread_set, settle_set, iterate, Settled, start_states}
 use Rattle.schema.proofs.Bits.{absent, absent_all, absent_falls, absent_in, absent_in_falls}
 use Rattle.schema.proofs.Values.{steps_cons, offset_step, offset_up}
 use Rattle.schema.proofs.SpreadLaws.{set_grown, Sets, Growth}
@@ -31,15 +31,6 @@ offset_more steps a s e = rw (add-one, offset_step, e)
 -- the steps of a type lie before the end of all
 pub steps_fit : (steps : List ℕ) (a types : ℕ) → a < types → offset steps a + get_or steps a 0 ≤ offset steps types
 steps_fit steps a types l = omega (arith, offset_step steps a, offset_up steps (suc a) types l)
-
-pub span_fits : (steps : List ℕ) (types a : ℕ) → offset steps types ≤ most_steps
-    → (span_at steps types a).start + (span_at steps types a).n ≤ most_steps
-unfolding span_at
-span_fits steps types a l =
-    elim (dec_lt a types) [
-      | yes h ↦ rw (lt-ltb a types h) (omega (arith, steps_fit steps a types h))
-      | no h ↦ rw (le-ltb a types (omega arith)) (omega arith)
-    ]
 
 -- one more entry of xs in front of the filler
 pub fill_next : {A : Type 0} (xs : List A) (i n : ℕ) (d e : A) → i < length xs → i < n

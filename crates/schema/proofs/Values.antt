@@ -3,7 +3,7 @@ use mathlib.Core.Path.{◌≡◌, refl, sym, ap, ◌∙◌}
 use mathlib.Core.Logic.{◌↔◌, ◌⊎◌, inl, inr}
 use mathlib.Core.List.Memᴰ
 use mathlib.Core.List.{List, [], ◌∷◌, ◌++◌, map, Memᴰ}
-use Prim.Native.Nat.{ℕ, zero, suc, ◌+◌, ◌≤◌, ◌<◌, zero-le}
+use Prim.Native.Nat.{ℕ, zero, suc, ◌+◌, ◌-◌, ◌≤◌, ◌<◌, zero-le}
 use native.Mathlib.Nat.{le_of_suc-le-suc}
 use native.Mathlib.Decide.{ℕ_discrete}
 use native.Mathlib.Omega.{arith}
@@ -116,3 +116,16 @@ tag_of_lem v a l = ap (λ (b : Block). b.tag) (block_of_lem v a l)
 
 pub no_block_of : (v : Schema) (a : ℕ) → v.types ≤ a → block_of (meaning v) a ≡ no_block
 no_block_of v a l = get_or-eq_default (meaning v).blocks no_block (rw types_count l)
+
+-- no steps, and one step and then the others
+pub steps_none : (from by to : List ℕ) (s n : ℕ) → n ≡ 0 → steps_of from by to s n ≡ []
+unfolding steps_of up_from
+steps_none from by to s n e = rw e refl
+
+pub steps_first : (from by to : List ℕ) (s n : ℕ) → 0 < n → steps_of from by to s n ≡ step_at from by to s ∷ steps_of from by to (s + 1) (n - 1)
+unfolding steps_of up_from
+steps_first from by to s zero l = absurd (omega arith)
+steps_first from by to s (suc n) l =
+    let e : s + 1 ≡ suc s = omega arith in
+    let k : suc n - 1 ≡ n = omega arith in
+    rw (e, k) refl

@@ -1,6 +1,8 @@
 -- Schemas as values. `Spread`, `RowMaking` and `Limits` say what the private loops compute; no public promise cites them.
 pub mod States
+pub mod StatesLeft
 pub mod Value
+pub mod Steps
 pub mod Ways
 pub mod Putting
 pub mod Rows

@@ -6,7 +6,6 @@ use Rattle.sdtd.specs.Schema.{Step}
 use Rattle.schema.specs.States.{member, insert, no_states, only_start}
 use Rattle.schema.specs.Value.{up_from, offset}
 use Rattle.schema.specs.Ways.{bears_in}
-use Rattle.schema.specs.declared.span.Span.{Span}
 
 -- a step by a tree-bearing type with its state `to` in the set adds its state `from`
 unfoldable pub spread_step : List ℕ → Step → ℕ → ℕ
@@ -39,18 +38,9 @@ pub record Settled {A : Type 0} (round : List A → List A) (first last : List A
   pub after : last ≡ iterate round rounds first
   pub settled : round last ≡ last
 
--- where the steps of the type a stand, if it is one of the types
-unfoldable pub span_at : List ℕ → ℕ → ℕ → Span
-span_at steps types a =
-    cond (ltb a types) (record { start = offset steps a; n = get_or steps a 0 }) (record { start = 0; n = 0 })
-
 -- the steps of the type a, if it is one of the types
 abbrev pub steps_in : List ℕ → (ℕ → ℕ → List Step) → ℕ → ℕ → List Step
-steps_in steps part types a = part (span_at steps types a).start (span_at steps types a).n
-
--- the table has the place of the first step of each of the types
-abbrev pub Starts : List ℕ → ℕ → List ℕ → Type 0
-Starts steps types table = (a : ℕ) → a < types → get_or table a 0 ≡ offset steps a
+steps_in steps part types a = cond (ltb a types) (part (offset steps a) (get_or steps a 0)) (part 0 0)
 
 -- the step goes from a state that children reach, by a tree-bearing type, to a live state
 abbrev pub reaches : List ℕ → ℕ → ℕ → Step → Bool

@@ -1,8 +1,9 @@
 -- The schema that a value states: total, whatever the value.
-use Rattle.std.specs.Prelude.{false, List, [], ◌∷◌, map, ℕ, zero, suc, ◌+◌, get_or, take}
+use Rattle.std.specs.Prelude.{false, List, [], ◌∷◌, map, ℕ, zero, suc, ◌+◌, ◌^◌, ◌<◌, get_or, take}
 use Rattle.sdtd.specs.Schema.{Step, Block}
 use Rattle.sdtd.specs.Schema.{Schema as Meaning}
 use Rattle.schema.specs.States.{members}
+use Rattle.sdtd.specs.Limits.{most_states}
 use Rattle.schema.specs.declared.value.Schema.{Schema}
 
 -- n numbers from s on
@@ -44,3 +45,7 @@ roots_of table n = map (λ i. get_or table i 0) (up_from 0 n)
 -- The schema that the value states. A count past the end of its table reads zeros there, so no count is lost.
 unfoldable pub meaning : Schema → Meaning
 meaning v = record { tags = v.tags; blocks = map (block_at v) (up_from 0 v.types); roots = roots_of v.root v.roots }
+
+-- each type's accepting states are a set of states
+abbrev pub SetsFit : Schema → Type 0
+SetsFit v = (a : ℕ) → get_or v.accepting a 0 < 2 ^ most_states

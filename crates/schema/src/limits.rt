@@ -1,8 +1,8 @@
 // Document 01's limits of a schema: question 10's part about it.
-ghost use Rattle.std.specs.Prelude.{◌≡◌, ◌↔◌, ◌+◌, ◌≤◌, T};
-ghost use Rattle.sdtd.specs.Limits.{most_types, most_steps};
+ghost use Rattle.std.specs.Prelude.{◌≡◌, ◌↔◌, ℕ, ◌+◌, ◌^◌, ◌≤◌, ◌<◌, T, get_or};
+ghost use Rattle.sdtd.specs.Limits.{most_types, most_states, most_steps};
 ghost use Rattle.sdtd.specs.Schema.{StepWithin, WithinLimits};
-ghost use Rattle.schema.specs.Value.{steps_of, meaning};
+ghost use Rattle.schema.specs.Value.{steps_of, meaning, SetsFit};
 ghost use Rattle.schema.specs.Limits.{StepsWithin, BlockFits, BlocksFit};
 
 use crate::roots::roots_within;
@@ -136,10 +136,18 @@ fn blocks_within<'a>(
     true
 }
 
+// The sets of a table fit. (Elements behind a reference are not known to fit their type, those of a value are.)
+fn sets_fit(sets: [u32; TYPES])
+    ensures { (a : ℕ) → get_or sets a 0 < 2 ^ most_states }
+{}
+
 // Is the schema inside document 01's limits: its counts, and each tag, type and state in its used entries?
-pub fn within(schema: Schema) -> bool
-    ensures { T result ↔ WithinLimits (meaning schema) }
+pub fn within(schema: &Schema) -> bool
+    ensures limits { T result ↔ WithinLimits (meaning schema.now) }
+    ensures sets { SetsFit schema.now }
 {
+    let accepting = schema.accepting;
+    sets_fit(accepting);
     let tags = schema.tags;
     let types = schema.types;
     let roots = schema.roots;

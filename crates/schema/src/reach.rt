@@ -2,11 +2,11 @@
 ghost use Rattle.std.specs.Prelude.{◌≡◌, ◌+◌, ◌%◌, ◌≤◌};
 ghost use Rattle.sdtd.specs.Limits.{most_types, most_steps};
 ghost use Rattle.schema.specs.Value.{steps_of, offset};
-ghost use Rattle.schema.specs.Spread.{reaches, queued, join_type, join_marked, reach_steps, Starts, span_at};
+ghost use Rattle.schema.specs.Spread.{reaches, queued, join_type, join_marked, reach_steps, steps_in};
 
 use crate::span::Span;
 use crate::state_set::StateSet;
-use crate::value::{STEPS, TYPES};
+use crate::value::{STEPS, Schema, TYPES};
 use crate::ways::bears_in;
 use sdtd::TypeNo;
 
@@ -26,39 +26,16 @@ pub(crate) struct TypeSteps {
     pub(crate) live: u32,
 }
 
-// The place of the first step of each of the types.
-pub(crate) fn starts(steps: &[u16; TYPES], types: usize) -> [usize; TYPES]
-    requires { (types ≤ most_types) × (offset steps.now types ≤ most_steps) }
-    ensures { Starts steps.now types result }
-{
-    let mut starts = [0; TYPES];
-    let mut start = 0;
-    let mut a = 0;
-    while a < types {
-        starts[a] = start;
-        start += steps[a] as usize;
-        a += 1;
-    }
-    starts
-}
-
 // Where the steps of a type stand; nothing for a number that is no type.
-#[tactic(auto, unfolding(crate::specs::Spread::span_at))]
-pub(crate) fn span_at<'a>(
-    steps: &'a [u16; TYPES],
-    starts: &'a [usize; TYPES],
-    types: usize,
-    a: usize,
-) -> Span
-    requires { (types ≤ most_types) × (offset steps.now types ≤ most_steps) × Starts steps.now types starts.now }
-    ensures { result ≡ span_at steps.now types a }
+pub(crate) fn span_of(schema: &Schema, a: u8) -> Span
+    requires { (schema.now.types ≤ most_types) × (offset schema.now.steps schema.now.types ≤ most_steps) }
+    ensures { steps_of schema.now.from schema.now.by schema.now.to result.start result.n
+        ≡ steps_in schema.now.steps (steps_of schema.now.from schema.now.by schema.now.to) schema.now.types a }
 {
-    if types <= a {
+    if schema.types <= a {
         return Span { start: 0, n: 0 };
     }
-    let start = starts[a];
-    let n = steps[a] as usize;
-    Span { start, n }
+    schema.span(TypeNo(a))
 }
 
 // Does the step go from a state in `forward`, by a tree-bearing type, to a state in `live`?

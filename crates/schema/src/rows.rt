@@ -2,7 +2,7 @@
 ghost use Rattle.std.specs.Prelude.{◌≡◌, ◌∷◌, [], ◌+◌, ◌-◌, ◌*◌, ◌≤◌, ◌<◌, length, get_or, take};
 ghost use Rattle.sdtd.specs.Limits.{most_types, most_states, most_steps};
 ghost use Rattle.sdtd.specs.Schema.{WithinLimits};
-ghost use Rattle.schema.specs.Value.{steps_of, meaning};
+ghost use Rattle.schema.specs.Value.{steps_of, meaning, SetsFit};
 ghost use Rattle.schema.specs.Trimming.{LiveExactly, WaysExactly};
 ghost use Rattle.schema.specs.Rows.{most_rows, RowsMean};
 ghost use Rattle.schema.specs.Putting.{put_all};
@@ -200,15 +200,15 @@ pub(crate) fn clear_rows<'a>(entries: &'a mut [u32; STEPS], begins: &'a mut [u16
 
 // The rows of a schema inside the limits, by tables of exactly the ways in which types bear a tree and exactly the live states, into tables of zeros.
 pub(crate) fn make_rows<'a>(
-    schema: Schema,
+    schema: &Schema,
     ways: &'a [u8; TYPES],
     live: &'a [u32; TYPES],
     entries: &'a mut [u32; STEPS],
     begins: &'a mut [u16; BEGINS],
 )
-    requires { WithinLimits (meaning schema) × WaysExactly (meaning schema) ways.now × LiveExactly (meaning schema) live.now
+    requires { SetsFit schema.now × WithinLimits (meaning schema.now) × WaysExactly (meaning schema.now) ways.now × LiveExactly (meaning schema.now) live.now
         × (row_tables entries.old begins.old ≡ no_rows) }
-    ensures { RowsMean (meaning schema) entries.new begins.new }
+    ensures { RowsMean (meaning schema.now) entries.new begins.new }
 {
     let mut kept = [0u32; STEPS];
     let steps = schema.steps;

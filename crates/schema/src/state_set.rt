@@ -1,6 +1,8 @@
 // Sets of states.
 ghost use Rattle.std.specs.Prelude.{◌≡◌, ◌↔◌, ℕ, ◌<◌, T};
-ghost use Rattle.schema.specs.States.{member, insert, meet};
+ghost use Rattle.std.specs.Iterator.{YieldsFirst, item_count};
+ghost use Rattle.schema.specs.States.{member, insert, meet, members};
+ghost use Rattle.schema.specs.StatesLeft.{states_left};
 
 use crate::value::STATES;
 
@@ -46,5 +48,36 @@ impl StateSet {
             return true;
         }
         (self.0 as u64) < 1u64 << (count as u32)
+    }
+
+    // The states of the set, rising.
+    pub fn states(self) -> States
+        ensures { states_left result ≡ members self.0 }
+    {
+        States { rest: self.0 }
+    }
+}
+
+// The states of a set that are still to come.
+#[derive(Clone, Copy)]
+pub struct States {
+    rest: u32,
+}
+
+impl Iterator for States {
+    type Item = u8;
+
+    ghost next_gives = { YieldsFirst states_left };
+
+    ghost remaining = { item_count states_left };
+
+    // the lowest of them
+    fn next(&mut self) -> Option<u8> {
+        if self.rest == 0 {
+            return None;
+        }
+        let state = self.rest.trailing_zeros() as u8;
+        self.rest &= self.rest - 1;
+        Some(state)
     }
 }

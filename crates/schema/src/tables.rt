@@ -2,12 +2,12 @@
 ghost use Rattle.std.specs.Prelude.{◌≡◌, ◌≤◌, T};
 ghost use Rattle.sdtd.specs.Limits.{most_types, most_steps};
 ghost use Rattle.sdtd.specs.Schema.{WithinLimits};
-ghost use Rattle.schema.specs.Value.{steps_of, offset, meaning};
+ghost use Rattle.schema.specs.Value.{steps_of, offset, meaning, SetsFit};
 ghost use Rattle.schema.specs.Spread.{spread_all, Settled, steps_in, ReachedFrom, first_sets, start_states, ways_by};
 ghost use Rattle.schema.specs.Trimming.{LiveExactly, WaysExactly, Exact, TrimMeans, LiveMeans, RowsLent};
 
 use crate::limits::within;
-use crate::reach::{StateTables, TypeSteps, join_marked, reach_steps, span_at, starts};
+use crate::reach::{StateTables, TypeSteps, join_marked, reach_steps, span_of};
 use crate::roots::root_types;
 use crate::rows::{BEGINS, clear_rows, make_rows};
 use crate::spread::{live_all, same_sets, spread_all};
@@ -100,27 +100,23 @@ fn forward_states<'a>(
 
 // The reached types: the marked ones, and those that the steps of each type of the queue reach.
 fn reached_types<'a>(
-    from: &'a [u8; STEPS],
-    by: &'a [u8; STEPS],
-    to: &'a [u8; STEPS],
-    steps: &'a [u16; TYPES],
-    types: usize,
+    schema: &'a Schema,
     tables: StateTables,
     roots: &'a [bool; TYPES],
 ) -> [bool; TYPES]
-    requires { (types ≤ most_types) × (offset steps.now types ≤ most_steps) }
+    requires { (schema.now.types ≤ most_types) × (offset schema.now.steps schema.now.types ≤ most_steps) }
     ensures { ReachedFrom
-        (steps_in steps.now (steps_of from.now by.now to.now) types)
+        (steps_in schema.now.steps (steps_of schema.now.from schema.now.by schema.now.to) schema.now.types)
         tables.ways tables.forward tables.live roots.now result }
 {
-    let starts = starts(steps, types);
     let mut reached = [false; TYPES];
     let mut queue = [0u8; TYPES];
     let mut count = join_marked(roots, &mut reached, &mut queue);
     let mut at = 0;
     while at < count {
-        let a = queue[at] as usize;
-        let span = span_at(steps, &starts, types, a);
+        let b = queue[at];
+        let span = span_of(schema, b);
+        let a = b as usize;
         let forward = tables.forward[a];
         let live = tables.live[a];
         let own = TypeSteps {
@@ -129,7 +125,16 @@ fn reached_types<'a>(
             live,
         };
         let ways = &tables.ways;
-        count = reach_steps(from, by, to, own, ways, &mut reached, &mut queue, count);
+        count = reach_steps(
+            &schema.from,
+            &schema.by,
+            &schema.to,
+            own,
+            ways,
+            &mut reached,
+            &mut queue,
+            count,
+        );
         at += 1;
     }
     reached
@@ -144,8 +149,9 @@ pub struct LiveStates {
 }
 
 // The live states of a schema inside the limits, and in which ways its types bear a tree; nothing for any other.
-pub fn live(schema: Schema) -> LiveStates
-    ensures { LiveMeans (meaning schema) result }
+pub fn live(schema: &Schema) -> LiveStates
+    ensures means { LiveMeans (meaning schema.now) result }
+    ensures sets { SetsFit schema.now }
 {
     if !within(schema) {
         return LiveStates {
@@ -169,11 +175,12 @@ pub fn live(schema: Schema) -> LiveStates
 // The same of a schema inside the limits; its steps that count go in rows to the lent tables: their entries, and where each row begins. For
 // any other there is nothing, and the lent tables are zeros.
 pub fn live_rows<'a>(
-    schema: Schema,
+    schema: &Schema,
     entries: &'a mut [u32; STEPS],
     begins: &'a mut [u16; BEGINS],
 ) -> LiveStates
-    ensures { LiveMeans (meaning schema) result × RowsLent (meaning schema) entries.new begins.new }
+    ensures means { LiveMeans (meaning schema.now) result × RowsLent (meaning schema.now) entries.new begins.new }
+    ensures sets { SetsFit schema.now }
 {
     clear_rows(entries, begins);
     let found = live(schema);
@@ -184,9 +191,9 @@ pub fn live_rows<'a>(
 }
 
 // The tables of a schema inside the limits, by its live states and the ways in which its types bear a tree.
-pub(crate) fn trim_inside(schema: Schema, live: [u32; TYPES], ways: [u8; TYPES]) -> Trimming
-    requires { WithinLimits (meaning schema) × LiveExactly (meaning schema) live × WaysExactly (meaning schema) ways }
-    ensures { T result.inside × Exact (meaning schema) result }
+pub(crate) fn trim_inside(schema: &Schema, live: [u32; TYPES], ways: [u8; TYPES]) -> Trimming
+    requires { SetsFit schema.now × WithinLimits (meaning schema.now) × LiveExactly (meaning schema.now) live × WaysExactly (meaning schema.now) ways }
+    ensures { T result.inside × Exact (meaning schema.now) result }
 {
     let types = schema.types as usize;
     let roots = root_types(schema.root, schema.roots);
@@ -203,15 +210,7 @@ pub(crate) fn trim_inside(schema: Schema, live: [u32; TYPES], ways: [u8; TYPES])
         forward,
         live,
     };
-    let reached = reached_types(
-        &schema.from,
-        &schema.by,
-        &schema.to,
-        &schema.steps,
-        types,
-        tables,
-        &roots,
-    );
+    let reached = reached_types(schema, tables, &roots);
     Trimming {
         inside: true,
         live,
@@ -222,11 +221,12 @@ pub(crate) fn trim_inside(schema: Schema, live: [u32; TYPES], ways: [u8; TYPES])
 
 // The tables of a schema inside the limits; its rows go to the lent tables. For any other tables of nothing, and zeros in the lent ones.
 pub fn trim<'a>(
-    schema: Schema,
+    schema: &Schema,
     entries: &'a mut [u32; STEPS],
     begins: &'a mut [u16; BEGINS],
 ) -> Trimming
-    ensures { TrimMeans (meaning schema) result × RowsLent (meaning schema) entries.new begins.new }
+    ensures means { TrimMeans (meaning schema.now) result × RowsLent (meaning schema.now) entries.new begins.new }
+    ensures sets { SetsFit schema.now }
 {
     clear_rows(entries, begins);
     let found = live(schema);

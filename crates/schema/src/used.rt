@@ -21,8 +21,8 @@ pub fn used_in(trimming: Trimming) -> [bool; TYPES]
 }
 
 // Of a schema inside the limits; for any other none is.
-pub fn used_types(schema: Schema) -> [bool; TYPES]
-    ensures { UsedMeans (meaning schema) result }
+pub fn used_types(schema: &Schema) -> [bool; TYPES]
+    ensures { UsedMeans (meaning schema.now) result }
 {
     let found = live(schema);
     let live = found.live;

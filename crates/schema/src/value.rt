@@ -30,3 +30,21 @@ pub struct Schema {
     pub by: [u8; STEPS],
     pub to: [u8; STEPS],
 }
+
+impl Schema {
+    // the value of no schema
+    pub const NONE: Schema = Schema {
+        tags: 0,
+        types: 0,
+        roots: 0,
+        root: [0; ROOTS],
+        tag: [0; TYPES],
+        states: [0; TYPES],
+        accepting: [0; TYPES],
+        nillable: [false; TYPES],
+        steps: [0; TYPES],
+        from: [0; STEPS],
+        by: [0; STEPS],
+        to: [0; STEPS],
+    };
+}

@@ -9,6 +9,11 @@ use Rattle.schema.proofs.Rounds.{offset_more, steps_fit}
 use Rattle.schema.proofs.SpreadLaws.{round_turn, round_done}
 use Rattle.schema.proofs.spread.live_all.Goals as goal
 
+pub invariant_of-span : goal.invariant_of-span
+invariant_of-span c =
+    let fit : c.loop-a.start + get_or c.args.steps.now c.loop-a.a 0 ≤ most_steps = omega (arith, steps_fit c.args.steps.now c.loop-a.a c.args.types c.loop-a-test.true) in
+    record { inside = omega (arith, fit) }
+
 pub settle_set-settled-requires : goal.settle_set-settled-requires
 settle_set-settled-requires c =
     let fit : c.loop-a.start + get_or c.args.steps.now c.loop-a.a 0 ≤ most_steps = omega (arith, steps_fit c.args.steps.now c.loop-a.a c.args.types c.loop-a-test.true) in

@@ -7,6 +7,11 @@ use Rattle.schema.proofs.Rounds.{offset_more, steps_fit}
 use Rattle.schema.proofs.SpreadLaws.{round_turn, round_done}
 use Rattle.schema.proofs.spread.spread_all.Goals as goal
 
+pub invariant_of-settle_set : goal.invariant_of-settle_set
+invariant_of-settle_set c =
+    let fit : c.loop-a.start + get_or c.args.steps.now c.loop-a.a 0 ≤ most_steps = omega (arith, steps_fit c.args.steps.now c.loop-a.a c.args.types c.loop-a-test.true) in
+    record { inside = omega (arith, fit) }
+
 pub settle_set-requires : goal.settle_set-requires
 settle_set-requires c =
     let fit : c.loop-a.start + get_or c.args.steps.now c.loop-a.a 0 ≤ most_steps = omega (arith, steps_fit c.args.steps.now c.loop-a.a c.args.types c.loop-a-test.true) in

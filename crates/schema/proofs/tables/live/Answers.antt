@@ -1,9 +1,5 @@
 -- `schema::tables::live` meets its contract: inside the limits the table that the rounds settle at has exactly the live states.
-use Prim.Native.Nat.{ℕ}
 use borrow.Author.Rules.{rules}
-use lib.ListN.{get_or}
-use mir.Syntax.{w32}
-use mir.Val.{Fits as FitsIn}
 use Rattle.schema.proofs.LimitLaws.{within_room, passed}
 use Rattle.schema.proofs.FirstTables.{Fits}
 use Rattle.schema.proofs.WaysLaws.{ways_exactly}
@@ -12,15 +8,14 @@ use Rattle.schema.proofs.tables.live.Goals as goal
 
 pub live_states-requires : goal.live_states-requires
 live_states-requires c =
-    let room = within_room _ (passed c.within.result c.if-not-within.false-raw c.within.ensures) in
+    let room = within_room _ (passed c.within.result c.if-not-within.false-raw c.within.ensures.limits) in
     (room.types, room.steps)
 
-pub returns : goal.returns
-returns c =
-    let fits : Fits c.args.schema = let below : (a : ℕ) → FitsIn w32 (get_or c.args.schema.accepting a 0) = λ a. search rules in
-    record { accepting_long = search rules; steps_long = search rules; accepting_below = λ a. (below a).fits } in
+pub returns-clause-means : goal.returns-clause-means
+returns-clause-means c =
+    let fits : Fits c.args.schema.now = record { accepting_long = search rules; steps_long = search rules; accepting_below = c.within.ensures.sets } in
     let ends = c.live_states.ensures in
-    let within = passed c.within.result c.if-not-within.false-raw c.within.ensures in
+    let within = passed c.within.result c.if-not-within.false-raw c.within.ensures.limits in
     let live = live_exactly fits within ends.1 in
     record {
       inside = (λ t. within, λ w. ends.0);

@@ -3,39 +3,37 @@ use Prim.Native.Nat.{◌<◌}
 use native.Mathlib.Numerals.{add-one}
 use native.Mathlib.Omega.{arith}
 use Rattle.sdtd.specs.Limits.{most_types}
-use Rattle.schema.proofs.Rounds.{span_fits}
 use Rattle.schema.proofs.ReachLaws.{visited_first, visited_most, visited_next, visited_last}
 use Rattle.schema.proofs.tables.reached_types.Goals as goal
 
 pub loop-at-init : goal.loop-at-init
-loop-at-init c = (c.starts-starts.ensures, rw c.join_marked-count.ensures (visited_first _ _ _ _ _))
+loop-at-init c = rw c.join_marked-count.ensures (visited_first _ _ _ _ _)
 
 pub bounds-queue-at : goal.bounds-queue-at
 bounds-queue-at c =
     let ahead : c.loop-at.at < c.loop-at.count = omega arith in
-    let most : c.loop-at.at < most_types = omega (arith, visited_most _ _ _ _ _ c.loop-at.invariant.1, ahead) in
+    let most : c.loop-at.at < most_types = omega (arith, visited_most _ _ _ _ _ c.loop-at.invariant, ahead) in
     omega (arith, most)
 
 pub reach_steps-count-requires : goal.reach_steps-count-requires
-reach_steps-count-requires c =
-    rw c.span_at-span.ensures (span_fits _ _ _ c.requires.1)
+reach_steps-count-requires c = c.span_of-span.result.inside
 
 pub overflow_add-at : goal.overflow_add-at
 overflow_add-at c =
     let ahead : c.loop-at.at < c.loop-at.count = omega arith in
-    let most : c.loop-at.at < most_types = omega (arith, visited_most _ _ _ _ _ c.loop-at.invariant.1, ahead) in
+    let most : c.loop-at.at < most_types = omega (arith, visited_most _ _ _ _ _ c.loop-at.invariant, ahead) in
     omega (arith, most)
 
 pub loop-at-smaller : goal.loop-at-smaller
 loop-at-smaller c =
     let ahead : c.loop-at.at < c.loop-at.count = omega arith in
-    let most : c.loop-at.at < most_types = omega (arith, visited_most _ _ _ _ _ c.loop-at.invariant.1, ahead) in
+    let most : c.loop-at.at < most_types = omega (arith, visited_most _ _ _ _ _ c.loop-at.invariant, ahead) in
     omega (arith, most)
 
 pub loop-at-preserved : goal.loop-at-preserved
 loop-at-preserved c =
     let ahead : c.loop-at.at < c.loop-at.count = omega arith in
-    (c.loop-at.invariant.0, rw (add-one, c.reach_steps-count.ensures, c.span_at-span.ensures) (visited_next _ _ _ _ _ c.loop-at.invariant.1 ahead))
+    rw (add-one, c.reach_steps-count.ensures, c.span_of-span.ensures) (visited_next _ _ _ _ _ c.loop-at.invariant ahead)
 
 pub returns : goal.returns
-returns c = visited_last _ _ _ _ _ c.loop-at.invariant.1 c.loop-at-test.false
+returns c = visited_last _ _ _ _ _ c.loop-at.invariant c.loop-at-test.false

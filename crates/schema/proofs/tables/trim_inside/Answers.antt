@@ -1,9 +1,5 @@
 -- `schema::tables::trim_inside` meets its contract: the tables that the rounds settle at are exactly the definitions.
-use Prim.Native.Nat.{ℕ}
 use borrow.Author.Rules.{rules}
-use lib.ListN.{get_or}
-use mir.Syntax.{w32}
-use mir.Val.{Fits as FitsIn}
 use Rattle.schema.proofs.LimitLaws.{Room, within_room}
 use Rattle.schema.proofs.FirstTables.{Fits}
 use Rattle.schema.proofs.TablesExact.{tables_exact}
@@ -11,21 +7,20 @@ use Rattle.schema.proofs.tables.trim_inside.Goals as goal
 
 pub forward_states-forward-requires : goal.forward_states-forward-requires
 forward_states-forward-requires c =
-    let room : Room c.args.schema = within_room _ c.requires.0 in
+    let room : Room c.args.schema.now = within_room _ c.requires.1 in
     let r = room in (r.types, r.steps)
 
 pub reached_types-reached-requires : goal.reached_types-reached-requires
 reached_types-reached-requires c =
-    let room : Room c.args.schema = within_room _ c.requires.0 in
+    let room : Room c.args.schema.now = within_room _ c.requires.1 in
     let r = room in
     (r.types, r.steps)
 
 pub returns : goal.returns
 returns c =
-    let fits : Fits c.args.schema = let below : (a : ℕ) → FitsIn w32 (get_or c.args.schema.accepting a 0) = λ a. search rules in
-    record { accepting_long = search rules; steps_long = search rules; accepting_below = λ a. (below a).fits } in (
+    let fits : Fits c.args.schema.now = record { accepting_long = search rules; steps_long = search rules; accepting_below = c.requires.0 } in (
       tt,
-      tables_exact fits c.requires.0 c.args.live c.args.ways c.requires.1 c.requires.2
+      tables_exact fits c.requires.1 c.args.live c.args.ways c.requires.2 c.requires.3
           c.forward_states-forward.ensures c.root_types-roots.ensures
           c.reached_types-reached.ensures,
     )

@@ -5,5 +5,5 @@ use Rattle.schema.proofs.used.used_types.Goals as goal
 
 pub returns : goal.returns
 returns c =
-    let within = passed c.live-found.result.inside c.if-not-found.false c.live-found.ensures.inside in
+    let within = passed c.live-found.result.inside c.if-not-found.false c.live-found.ensures.means.inside in
     record { exact = λ w. rw c.used_in.ensures (used_exactly _ w c.trim_inside-trimming.ensures.1); outside = λ n. absurd (n within) }
