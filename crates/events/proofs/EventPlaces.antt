@@ -1,98 +1,82 @@
--- The event at a place of a file is the first of the events of the bytes from there on.
-use mathlib.Core.Path.{◌≡◌, ap, ◌∙◌}
-use mathlib.Core.Bool.{Bool, true, false, cond}
-use mathlib.Core.List.{List, ◌∷◌}
-use Prim.Native.Nat.{ℕ, suc, ◌+◌, ◌≤◌, ◌<◌}
-use native.Mathlib.Decide.{ℕ_discrete, dec_le}
+-- The event at a place of a file: what the events from there on begin with, and that it ends inside the file.
+use mathlib.Core.Path.{◌≡◌, refl, sym, ap, subst, ◌∙◌}
+use mathlib.Core.List.{List, [], ◌∷◌}
+use Prim.Native.Nat.{ℕ, ◌+◌, ◌-◌, ◌≤◌, ◌<◌}
 use native.Mathlib.Omega.{arith}
-use borrow.Author.Tests.{ne_eqb, le-leb, lt-leb}
 use lib.Dec.{eqb}
-use lib.ListN.{length, get_or, drop, drop_of_length-le}
-use lib.Seq.{drop-cons}
-use Rattle.sdtd.specs.Tree.{plain, nil}
-use Rattle.sdtd.specs.Document.{opening, closing, finish}
-use Rattle.events.specs.Events.{ends, stray, event, events_of, size, event_from, event_at}
-use Rattle.sdtd.specs.Numbered.{tag_no}
-use Rattle.events.specs.declared.decoder.FileEvent.{FileEvent}
-use Rattle.events.specs.declared.decoder.FileEvent.TheVariants.{Open, OpenNil, Close, Finish, NoEvent}
-use Rattle.events.proofs.EventLaws.{short}
-use Rattle.events.proofs.EventBytes.{finish_first}
+use lib.ListN.{length, drop}
+use Rattle.std.specs.Prelude.{Option, Some, None}
+use Rattle.std.proofs.lemmas.List.{drop-drop, length-drop}
+use Rattle.sdtd.proofs.Basics.{cond_both}
+use Rattle.events.specs.Events.{Events, ends, stray, event, events_of, event_of, file_event, size, file_events, first_event, event_at}
+use Rattle.events.specs.declared.decoder.Event.{Event as FileEvent}
+use Rattle.events.specs.declared.decoder.Event.TheVariants.{Open, Close, Finish}
+use Rattle.events.specs.declared.decoder.Kind.TheVariants.{Plain, Nil}
 
--- The events from the place on, where e stands there: e and those past it; the end, or stray bytes.
-abbrev pub Stands : List ℕ → ℕ → FileEvent → Type 0
-Stands file at (Open g) = events_of (drop at file) ≡ event (opening plain g.0) (events_of (drop (at + size (Open g)) file))
-Stands file at (OpenNil g) = events_of (drop at file) ≡ event (opening nil g.0) (events_of (drop (at + size (OpenNil g)) file))
-Stands file at (Close g) = events_of (drop at file) ≡ event (closing g.0) (events_of (drop (at + size (Close g)) file))
-Stands file at Finish = events_of (drop at file) ≡ event finish (events_of (drop (at + size Finish) file))
-Stands file at NoEvent =
-    (at ≡ length file → events_of (drop at file) ≡ ends) × (at < length file → events_of (drop at file) ≡ stray)
+-- The events es of the bytes l begin with e, which ends inside the bytes; or there is none, at the end or where stray bytes follow.
+abbrev Begin : List ℕ → Events → Option FileEvent → Type 0
+Begin l es (Some e) = (es ≡ event (event_of e) (events_of (drop (size e) l))) × (size e ≤ length l)
+Begin l es None = (length l ≡ 0 → es ≡ ends) × (0 < length l → es ≡ stray)
 
-module _ (file : List ℕ) (at : ℕ) (inside : at < length file) where
-  stray_here : events_of (drop at file) ≡ stray → Stands file at NoEvent
-  stray_here e = (λ q. absurd (omega arith), λ l. e)
+begin_at : (l : List ℕ) → Begin l (events_of l) (first_event (events_of l))
+begin_at [] = (λ e. refl, λ h. absurd (omega arith))
+begin_at (b ∷ []) =
+    let P : Events → Type 0 = λ es. Begin (b ∷ []) es (first_event es) in
+    cond_both P (eqb b 0x2f) _ _ (refl, omega arith) (λ e. absurd (omega arith), λ h. refl)
+begin_at (b ∷ (g ∷ rest)) =
+    let P : Events → Type 0 = λ es. Begin (b ∷ g ∷ rest) es (first_event es) in
+    cond_both P (eqb b 0x21) _ _ (refl, omega arith)
+    (cond_both P (eqb b 0x22) _ _ (refl, omega arith)
+    (cond_both P (eqb b 0x23) _ _ (refl, omega arith)
+    (cond_both P (eqb b 0x2f) _ _ (refl, omega arith) (λ e. absurd (omega arith), λ h. refl))))
 
-  -- an event with a tag, or none: by the tests of the first byte
-  tagged : (g : ℕ) (t u v : Bool)
-      → events_of (drop at file)
-      ≡ cond t (event (opening plain g) (events_of (drop (at + 2) file)))
-      (cond u (event (closing g) (events_of (drop (at + 2) file))) (cond v (event (opening nil g) (events_of (drop (at + 2) file))) stray))
-      → Stands file at (cond t (Open (tag_no g)) (cond u (Close (tag_no g)) (cond v (OpenNil (tag_no g)) NoEvent)))
-  tagged g true u v e = e
-  tagged g false true v e = e
-  tagged g false false true e = e
-  tagged g false false false e = stray_here e
+-- What stands at a place: e and the events past it; the end, or stray bytes.
+abbrev pub Stands : List ℕ → ℕ → Option FileEvent → Type 0
+Stands file at (Some e) = events_of (drop at file) ≡ event (event_of e) (events_of (drop (at + size e) file))
+Stands file at None = (length file ≤ at → events_of (drop at file) ≡ ends) × (at < length file → events_of (drop at file) ≡ stray)
 
-  abbrev byte : ℕ
-  byte = get_or file at 0
+-- the event at the place, if there is one, ends inside the file
+abbrev pub Ends : List ℕ → ℕ → Option FileEvent → Type 0
+Ends file at (Some e) = at + size e ≤ length file
+Ends file at None = Unit
 
-  abbrev operand : ℕ
-  operand = get_or file (at + 1) 0
+-- an event has a byte
+size_least : (e : FileEvent) → 1 ≤ size e
+size_least (Open κ g) = omega arith
+size_least (Close g) = omega arith
+size_least Finish = omega arith
 
-  first : drop at file ≡ byte ∷ drop (at + 1) file
-  first =
-      let e : suc at ≡ at + 1 = omega arith in
-      rw e at (drop-cons file at 0 inside)
+module _ (file : List ℕ) (at : ℕ) where
+  l : length (drop at file) ≡ length file - at
+  l = length-drop at file
 
-  second : at + 2 ≤ length file → drop (at + 1) file ≡ operand ∷ drop (at + 2) file
-  second h =
-      let e : suc (at + 1) ≡ at + 2 = omega arith in
-      rw e at (drop-cons file (at + 1) 0 (omega arith))
+  stands : (e : Option FileEvent) → Begin (drop at file) (events_of (drop at file)) e → Stands file at e
+  stands (Some e) b = b.0 ∙ ap (λ (d : List ℕ). event (event_of e) (events_of d)) (drop-drop (size e) at file)
+  stands None b = (λ h. b.0 (omega (arith, l)), λ h. b.1 (omega (arith, l)))
 
-  from_finish : byte ≡ 0x2f → Stands file at (event_from file at byte)
-  unfolding event_from
-  from_finish q = rw (q, le-leb (at + 1) (length file) (omega arith)) (rw (first, q) (finish_first (drop (at + 1) file)))
+  pub event_stands : Stands file at (event_at file at)
+  event_stands = stands (event_at file at) (begin_at (drop at file))
 
-  -- no finish: at least two bytes are left, or one
-  from_two : ¬ (byte ≡ 0x2f) → at + 2 ≤ length file → Stands file at (event_from file at byte)
-  unfolding event_from
-  from_two n h =
-      let f = ne_eqb byte 0x2f n in
-      rw (le-leb (at + 2) (length file) h, f)
-      (tagged operand (eqb byte 0x21) (eqb byte 0x22) (eqb byte 0x23)
-      (ap events_of (first ∙ ap (λ (l : List ℕ). byte ∷ l) (second h)) ∙ rw f))
+  ends_in : (e : Option FileEvent) → Begin (drop at file) (events_of (drop at file)) e → Ends file at e
+  ends_in (Some e) b = omega (arith, l, b.1, size_least e)
+  ends_in None b = tt
 
-  from_last : ¬ (byte ≡ 0x2f) → length file < at + 2 → Stands file at (event_from file at byte)
-  from_last n h =
-      let none = drop_of_length-le file {i = at + 1} (omega arith) in
-      rw (short file at byte n h) (stray_here (ap events_of (first ∙ ap (λ (l : List ℕ). byte ∷ l) none) ∙ rw (ne_eqb byte 0x2f n)))
+  pub event_ends : Ends file at (event_at file at)
+  event_ends = ends_in (event_at file at) (begin_at (drop at file))
 
-  from_byte : Stands file at (event_from file at byte)
-  from_byte =
-      elim (ℕ_discrete byte 0x2f) [
-        | yes q ↦ from_finish q
-        | no n ↦
-            elim (dec_le (at + 2) (length file)) [
-              | yes h ↦ from_two n h
-              | no m ↦ from_last n (omega arith)
-            ]
-      ]
+-- each event of the code's is that of the documents' which it stands for
+pub back_and_there : (e : FileEvent) → file_event (event_of e) ≡ e
+back_and_there (Open Plain g) = refl
+back_and_there (Open Nil g) = refl
+back_and_there (Close g) = refl
+back_and_there Finish = refl
 
--- what stands at a place of the file
-pub event_stands : (file : List ℕ) (at : ℕ) → at ≤ length file → Stands file at (event_at file at)
-event_stands file at h =
-    elim (dec_le (at + 1) (length file)) [
-      | yes l ↦ rw (le-leb (at + 1) (length file) l) (from_byte file at (omega arith))
-      | no n ↦
-          rw (lt-leb (at + 1) (length file) (omega arith))
-          (λ e. ap events_of (drop_of_length-le file {i = at} (omega arith)), λ l. absurd (omega arith))
-    ]
+-- The events left are the one here and those past it.
+pub left_first : (file : List ℕ) (at : ℕ) {e : FileEvent} → Some e ≡ event_at file at
+    → file_events (events_of (drop at file)) ≡ e ∷ file_events (events_of (drop (at + size e) file))
+left_first file at {e} found =
+    let later = file_events (events_of (drop (at + size e) file)) in
+    ap file_events (subst (Stands file at) (sym found) (event_stands file at)) ∙ ap (λ (x : FileEvent). x ∷ later) (back_and_there e)
+
+pub ends_some : (file : List ℕ) (at : ℕ) {e : FileEvent} → Some e ≡ event_at file at → at + size e ≤ length file
+ends_some file at {e} found = subst (Ends file at) (sym found) (event_ends file at)

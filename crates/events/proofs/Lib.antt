@@ -1,5 +1,4 @@
 -- The decoder; bytes and events undo one another; the openings in order.
-pub mod EventLaws
 pub mod EventBytes
 pub mod EventPlaces
 pub mod Outlines

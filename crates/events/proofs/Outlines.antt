@@ -1,143 +1,73 @@
 -- The openings found one after another from a file's start are those of its outline.
 use mathlib.Core.Path.{◌≡◌, refl, sym, ap, subst, ◌∙◌}
-use mathlib.Core.Bool.{Bool, true, false, cond, false≢true}
 use mathlib.Core.List.{List, [], ◌∷◌, ◌++◌}
-use Prim.Native.Nat.{ℕ, suc, ◌+◌, ◌-◌, ◌^◌, ◌≤◌, ◌<◌}
+use Prim.Native.Nat.{ℕ, suc, ◌+◌, ◌^◌, ◌≤◌, ◌<◌}
 use native.Mathlib.Decide.{dec_le}
 use native.Mathlib.Numerals.{sub-one}
 use native.Mathlib.Omega.{arith}
-use borrow.Author.Tests.{lt-leb}
-use lib.ListN.{length, drop, drop_of_length-le}
-use Rattle.sdtd.specs.Tree.{plain, nil}
+use lib.ListN.{length, drop}
+use Rattle.std.specs.Prelude.{Option, Some, None}
 use Rattle.sdtd.specs.Document.{Event, opening, closing, finish}
 use Rattle.sdtd.specs.Reading.{depth}
 use Rattle.sdtd.specs.declared.Tag.{Tag}
 use Rattle.sdtd.proofs.Depth.{depth-opening, depth-closing, depth-finish}
-use Rattle.events.specs.Events.{Events, ends, stray, event, events_of, size_of, size, event_at, place_after}
+use Rattle.events.specs.Events.{Events, ends, stray, event, events_of, event_of, size_of, size, size_here, event_at, place_after}
 use Rattle.sdtd.specs.Numbered.{tag_no}
-use Rattle.events.specs.declared.decoder.FileEvent.{FileEvent}
-use Rattle.events.specs.declared.decoder.FileEvent.TheVariants.{Open, OpenNil, Close, Finish, NoEvent}
-use Rattle.events.proofs.EventLaws.{opening_size, Ends, event_ends, matched_ends}
-use Rattle.events.proofs.EventPlaces.{Stands, event_stands}
+use Rattle.events.specs.declared.decoder.Event.{Event as FileEvent}
+use Rattle.events.specs.declared.decoder.Event.TheVariants.{Open, Close, Finish}
+use Rattle.events.proofs.EventPlaces.{Stands, event_stands, Ends, event_ends}
 use Rattle.events.specs.declared.outline.Cursor.{Cursor}
-use Rattle.events.specs.declared.outline.NextOpening.{NextOpening}
-use Rattle.events.specs.declared.outline.NextOpening.TheVariants.{Opening, NoOpening}
-use Rattle.events.specs.declared.outline.Search.{Search}
-use Rattle.events.specs.Outline.{deeper, shallower, first_opening, next_opening, Line, outline, by_depth, OpeningsInTurn, start, Looked}
+use Rattle.events.specs.Outline.{deeper, shallower, first_opening, next_opening, Line, outline, by_depth, OpeningsInTurn, start}
 
-abbrev cursor : ℕ → ℕ → Cursor
+abbrev pub cursor : ℕ → ℕ → Cursor
 cursor at level = record { at = at; level = level }
 
-module _ (file : List ℕ) (c : Cursor) where
-  -- what is found, by the event at the cursor
-  abbrev by : FileEvent → NextOpening
-  by (Open g) = Opening g (cursor (c.at + size (Open g)) (deeper c.level))
-  by (OpenNil g) = Opening g (cursor (c.at + size (OpenNil g)) (deeper c.level))
-  by (Close g) = next_opening file (cursor (c.at + size (Close g)) (shallower c.level))
-  by Finish = next_opening file (cursor (c.at + size Finish) c.level)
-  by NoEvent = NoOpening
+module _ (file : List ℕ) (level : ℕ) where
+  -- what is found from a place on, by the event there and the place past it
+  abbrev pub by : Option FileEvent → ℕ → Option (Tag × Cursor)
+  by (Some (Open κ g)) past = Some (g, cursor past (deeper level))
+  by (Some (Close g)) past = next_opening file (cursor past (shallower level))
+  by (Some Finish) past = next_opening file (cursor past level)
+  by None past = None
 
-  first : Events → NextOpening
-  first es = first_opening c.level c.at es
+  module _ (at : ℕ) where
+    first : Events → Option (Tag × Cursor)
+    first es = first_opening level at es
 
-  by_stands : (e : FileEvent) → c.at ≤ length file → Stands file c.at e → next_opening file c ≡ by e
-  unfolding first
-  by_stands (Open g) h s = ap first s
-  by_stands (OpenNil g) h s = ap first s
-  by_stands (Close g) h s = ap first s
-  by_stands Finish h s = ap first s
-  by_stands NoEvent h s =
-      elim (dec_le (length file) c.at) [
-        | yes l ↦ ap first (s.0 (omega arith))
-        | no n ↦ ap first (s.1 (omega arith))
-      ]
+    by_stands : (e : Option FileEvent) → Stands file at e → next_opening file (cursor at level) ≡ by e (at + size_here e)
+    unfolding first
+    by_stands (Some (Open κ g)) s = ap first s
+    by_stands (Some (Close g)) s = ap first s
+    by_stands (Some Finish) s = ap first s
+    by_stands None s =
+        elim (dec_le (length file) at) [
+          | yes l ↦ ap first (s.0 l)
+          | no n ↦ ap first (s.1 (omega arith))
+        ]
 
-  pub by_event : next_opening file c ≡ by (event_at file c.at)
-  unfolding first
-  by_event =
-      elim (dec_le c.at (length file)) [
-        | yes h ↦ by_stands (event_at file c.at) h (event_stands file c.at h)
-        | no n ↦
-            rw (lt-leb (c.at + 1) (length file) (omega arith))
-            (ap (λ (l : List ℕ). first (events_of l)) (drop_of_length-le file {i = c.at} (omega arith)))
-      ]
-
-  -- what a look says, by the case matched
-  module _ {e : FileEvent} {past : ℕ} (here : (e ≡ event_at file c.at) × (past ≡ place_after file c.at)) where
-    past_case : {d : FileEvent} → e ≡ d → past ≡ c.at + size d
-    past_case m = here.1 ∙ ap (λ (x : FileEvent). c.at + size x) (sym here.0 ∙ m)
-
-    finds : {d : FileEvent} → e ≡ d → by d ≡ next_opening file c
-    finds m = ap by (sym m ∙ here.0) ∙ sym by_event
-
-    -- an opening, plainly or as nil
-    pub looked_open : (kept : Cursor) {d : FileEvent} {g : Tag} {level : ℕ} → e ≡ d
-        → by d ≡ Opening g (cursor (c.at + size d) (deeper c.level)) → level ≡ deeper c.level
-        → Looked file c (record { going = false; found = Opening g (cursor past level); cursor = kept })
-    looked_open kept m o l = record { same = rw (past_case m, l) (sym o ∙ finds m); moves = λ q. absurd (false≢true q) }
-
-    pub looked_none : (kept : Cursor) → e ≡ NoEvent → Looked file c (record { going = false; found = NoOpening; cursor = kept })
-    looked_none kept m = record { same = finds m; moves = λ q. absurd (false≢true q) }
-
-    pub looked_close : {g : Tag} {level : ℕ} → e ≡ Close g → level ≡ shallower c.level
-        → Looked file c (record { going = true; found = NoOpening; cursor = cursor past level })
-    looked_close m l =
-        record {
-          same = rw (past_case m, l) (finds m);
-          moves = λ q. (omega (arith, past_case m), rw (past_case m) (matched_ends file c.at here.0 m));
-        }
-
-    pub looked_finish : e ≡ Finish → Looked file c (record { going = true; found = NoOpening; cursor = cursor past c.level })
-    looked_finish m =
-        record {
-          same = rw (past_case m) (finds m);
-          moves = λ q. (omega (arith, past_case m), rw (past_case m) (matched_ends file c.at here.0 m));
-        }
-
--- A search: what it will find, and how far it may go yet.
-abbrev pub finds_yet : List ℕ → Search → NextOpening
-finds_yet file s = cond s.going (next_opening file s.cursor) s.found
-
-abbrev pub left_yet : List ℕ → Search → ℕ
-left_yet file s = cond s.going (suc (length file - s.cursor.at)) 0
-
-module _ {file : List ℕ} (s : Search) {r : Search} (going : s.going ≡ true) (look : Looked file s.cursor r) where
-  pub look_finds : finds_yet file r ≡ finds_yet file s
-  look_finds = look.same ∙ ap (λ (b : Bool). cond b (next_opening file s.cursor) s.found) (sym going)
-
-  less : (b : Bool) → (b ≡ true → (s.cursor.at < r.cursor.at) × (r.cursor.at ≤ length file))
-      → cond b (suc (length file - r.cursor.at)) 0 < suc (length file - s.cursor.at)
-  less true m = let k = m refl in omega arith
-  less false m = omega arith
-
-  pub look_less : left_yet file r < left_yet file s
-  look_less = rw going (less r.going look.moves)
-
-pub search_ended : (file : List ℕ) (s : Search) → s.going ≡ false → s.found ≡ finds_yet file s
-search_ended file s left = ap (λ (b : Bool). cond b (next_opening file s.cursor) s.found) (sym left)
+  -- an event that a walker over the file passes, matched as d: what is found past it is what was sought before it
+  pub passed : (at : ℕ) {w : List ℕ} {past : ℕ} {e d : FileEvent} {sought : Option (Tag × Cursor)}
+      → (w ≡ file) × (next_opening file (cursor at level) ≡ sought) → Some e ≡ event_at w at → past ≡ place_after w at → e ≡ d
+      → by (Some d) past ≡ sought
+  passed at {w} {past} {e} {d} i here past_it case =
+      let found : event_at file at ≡ Some d = ap (λ (f : List ℕ). event_at f at) (sym i.0) ∙ sym here ∙ ap Some case in
+      let place : past ≡ at + size d = past_it ∙ ap (λ (f : List ℕ). place_after f at) i.0 ∙ ap (λ (x : Option FileEvent). at + size_here x) found in
+      ap (by (Some d)) place ∙ sym (by_stands at (Some d) (subst (Stands file at) found (event_stands file at))) ∙ i.1
 
 module _ (file : List ℕ) (at : ℕ) where
   -- the events from a place on go on past the first, which ends inside the file
-  after_first : (d x : Event) {es : Events} → events_of (drop at file) ≡ event d (events_of (drop (at + size_of d) file))
-      → at + size_of d ≤ length file
+  after : (e : Option FileEvent) (x : Event) {es : Events} → Stands file at e → Ends file at e
       → events_of (drop at file) ≡ event x es → (events_of (drop (at + size_of x) file) ≡ es) × (at + size_of x ≤ length file)
-  after_first d x {es} s l q =
-      let later = events_of (drop (at + size_of d) file) in
-      let p : event d later ≡ event x es = sym s ∙ q in
-      let y : d ≡ x = cc in
+  after (Some e) x {es} s l q =
+      let later = events_of (drop (at + size e) file) in
+      let p : event (event_of e) later ≡ event x es = sym s ∙ q in
+      let y : event_of e ≡ x = cc in
       let z : later ≡ es = cc in
       subst (λ (w : Event). (events_of (drop (at + size_of w) file) ≡ es) × (at + size_of w ≤ length file)) y (z, l)
-
-  after : (e : FileEvent) (x : Event) {es : Events} → at ≤ length file → Stands file at e → Ends file at e
-      → events_of (drop at file) ≡ event x es → (events_of (drop (at + size_of x) file) ≡ es) × (at + size_of x ≤ length file)
-  after (Open g) x h s l q = after_first (opening plain g.0) x s l q
-  after (OpenNil g) x h s l q = after_first (opening nil g.0) x s l q
-  after (Close g) x h s l q = after_first (closing g.0) x s l q
-  after Finish x h s l q = after_first finish x s l q
-  after NoEvent x {es} h s l q =
+  after None x {es} s l q =
       elim (dec_le (length file) at) [
         | yes k ↦
-            let p : ends ≡ event x es = sym (s.0 (omega arith)) ∙ q in
+            let p : ends ≡ event x es = sym (s.0 k) ∙ q in
             let z : ◌≡◌ {A = ℕ} 0 1 = cc in absurd (omega arith)
         | no n ↦
             let p : stray ≡ event x es = sym (s.1 (omega arith)) ∙ q in
@@ -146,22 +76,16 @@ module _ (file : List ℕ) (at : ℕ) where
 
   goes_on : (x : Event) {es : Events} → events_of (drop at file) ≡ event x es
       → (events_of (drop (at + size_of x) file) ≡ es) × (at + size_of x ≤ length file)
-  goes_on x {es} q =
-      elim (dec_le at (length file)) [
-        | yes h ↦ after (event_at file at) x h (event_stands file at h) (event_ends file at) q
-        | no n ↦
-            let p : ends ≡ event x es = sym (ap events_of (drop_of_length-le file {i = at} (omega arith))) ∙ q in
-            let z : ◌≡◌ {A = ℕ} 0 1 = cc in absurd (omega arith)
-      ]
+  goes_on x q = after (event_at file at) x (event_stands file at) (event_ends file at) q
 
 -- a level below the place is one that a cursor can hold
 deeper_inside : (level : ℕ) → level + 1 < 2 ^ 64 → deeper level ≡ suc level
 deeper_inside level h = omega arith
 
 -- the lines are those of what is found, and of what is found after it
-abbrev Lines : List ℕ → NextOpening → List Line → Type 0
-Lines file f [] = f ≡ NoOpening
-Lines file f (l ∷ ls) = (next : Cursor) × (f ≡ Opening (tag_no l.tag) next) × (next.level ≡ l.level) × OpeningsInTurn file next ls
+abbrev Lines : List ℕ → Option (Tag × Cursor) → List Line → Type 0
+Lines file f [] = f ≡ None
+Lines file f (l ∷ ls) = (next : Cursor) × (f ≡ Some (tag_no l.tag, next)) × (next.level ≡ l.level) × OpeningsInTurn file next ls
 
 lines_turn : (file : List ℕ) (c : Cursor) (ls : List Line) → Lines file (next_opening file c) ls → OpeningsInTurn file c ls
 lines_turn file c [] k = k
@@ -173,14 +97,13 @@ lines_from file h ends level at l q = refl
 lines_from file h stray level at l q = refl
 lines_from file h (event (opening κ g) es) level at l q =
     let k = goes_on file at (opening κ g) q in
-    let s = opening_size κ g in
     let past = at + size_of (opening κ g) in
     let next = cursor past (suc level) in
     let rest : Lines file (first_opening (suc level) past es) (outline (suc level) es) =
     lines_from file h es (suc level) past (omega arith) k.0 in
     let d : deeper level ≡ suc level = deeper_inside level (omega (arith, k.1)) in (
       next,
-      ap (λ (n : ℕ). Opening (tag_no g) (cursor past n)) d,
+      ap (λ (n : ℕ). Some (tag_no g, cursor past n)) d,
       refl,
       lines_turn file next (outline (suc level) es)
           (subst (λ (u : Events). Lines file (first_opening (suc level) past u) (outline (suc level) es)) (sym k.0) rest),

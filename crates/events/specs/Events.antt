@@ -1,13 +1,14 @@
 -- Bytes of an event file as events: document 01, "The event file", with the event 23 of document 02, Req 05.
-use Rattle.std.specs.Prelude.{cond, List, [], ◌∷◌, ℕ, ◌+◌, eqb, leb, length, get_or}
-use Rattle.sdtd.specs.Tree.{plain, nil}
+use Rattle.std.specs.Prelude.{◌≡◌, cond, List, [], ◌∷◌, ℕ, ◌+◌, ◌-◌, eqb, length, drop, Option, Some, None}
+use Rattle.std.specs.Iterator.{Count, at_most, YieldsFirst}
+use Rattle.sdtd.specs.Tree.{Kind, plain, nil}
 use Rattle.sdtd.specs.Document.{Event, opening, closing, finish}
-use Rattle.sdtd.specs.declared.Tag.{Tag}
 use Rattle.sdtd.specs.Numbered.{tag_no}
-use Rattle.events.specs.declared.decoder.EventKind.{EventKind}
-use Rattle.events.specs.declared.decoder.EventKind.TheVariants.{OpenKind, OpenNilKind, CloseKind, FinishKind, NoKind}
-use Rattle.events.specs.declared.decoder.FileEvent.{FileEvent}
-use Rattle.events.specs.declared.decoder.FileEvent.TheVariants.{Open, OpenNil, Close, Finish, NoEvent}
+use Rattle.events.specs.declared.decoder.Kind.{Kind as FileKind}
+use Rattle.events.specs.declared.decoder.Kind.TheVariants.{Plain, Nil}
+use Rattle.events.specs.declared.decoder.Event.{Event as FileEvent}
+use Rattle.events.specs.declared.decoder.Event.TheVariants.{Open, Close, Finish}
+use Rattle.events.specs.declared.walker.Walker.{Walker}
 
 -- The events that the bytes begin with, and what follows them: no byte (`ends`), or bytes that are none of the four with its operand inside
 -- the file (`stray`).
@@ -34,54 +35,64 @@ bytes_of (opening nil g ∷ d) = 0x23 ∷ g ∷ bytes_of d
 bytes_of (closing g ∷ d) = 0x22 ∷ g ∷ bytes_of d
 bytes_of (finish ∷ d) = 0x2f ∷ bytes_of d
 
--- the byte past the place i as a tag: an event with a tag has it there
-abbrev pub operand : List ℕ → ℕ → Tag
-operand file i = tag_no (get_or file (i + 1) 0)
+-- the documents' kind and event for each case of the code's
+abbrev pub kind_of : FileKind → Kind
+kind_of Plain = plain
+kind_of Nil = nil
 
--- how many bytes an event has; none where there is no event
-abbrev pub size : FileEvent → ℕ
-size (Open g) = 2
-size (OpenNil g) = 2
-size (Close g) = 2
-size Finish = 1
-size NoEvent = 0
+abbrev pub event_of : FileEvent → Event
+event_of (Open κ g) = opening (kind_of κ) g.0
+event_of (Close g) = closing g.0
+event_of Finish = finish
 
--- the event, if the file has its bytes from the place i on
-abbrev whole : List ℕ → ℕ → FileEvent → FileEvent
-whole file i e = cond (leb (i + size e) (length file)) e NoEvent
-
--- "21 OPEN (tag), 22 CLOSE (tag), 2F FINISH."; "Event 23 (tag) opens an element as nil": the event that begins with the byte b at the place i.
-unfoldable pub event_from : List ℕ → ℕ → ℕ → FileEvent
-event_from file i b =
-    cond (eqb b 0x21) (whole file i (Open (operand file i)))
-    (cond (eqb b 0x22) (whole file i (Close (operand file i)))
-    (cond (eqb b 0x23) (whole file i (OpenNil (operand file i)))
-    (cond (eqb b 0x2f) (whole file i Finish) NoEvent)))
-
--- "is it one of the three with its operand inside the file?", with 23 one of four: the event at the place i; none where the file ends, where
--- the byte begins none of the four, or where its operand runs past the end.
-abbrev pub event_at : List ℕ → ℕ → FileEvent
-event_at file i = cond (leb (i + 1) (length file)) (event_from file i (get_or file i 0)) NoEvent
-
--- what an event is, without its tag; or that there is none
-abbrev pub kind_of : FileEvent → EventKind
-kind_of (Open g) = OpenKind
-kind_of (OpenNil g) = OpenNilKind
-kind_of (Close g) = CloseKind
-kind_of Finish = FinishKind
-kind_of NoEvent = NoKind
-
--- "gives one event after another": where a walker stands after the event at the place i; where there is none, it stays
-abbrev pub place_after : List ℕ → ℕ → ℕ
-place_after file i = i + size (event_at file i)
-
--- the documents' event as a case of the code's
+-- and back
 abbrev pub file_event : Event → FileEvent
-file_event (opening plain g) = Open (tag_no g)
-file_event (opening nil g) = OpenNil (tag_no g)
+file_event (opening plain g) = Open Plain (tag_no g)
+file_event (opening nil g) = Open Nil (tag_no g)
 file_event (closing g) = Close (tag_no g)
 file_event finish = Finish
 
--- how many bytes the documents' event has: those of its case
+-- how many bytes an event has
 abbrev pub size_of : Event → ℕ
-size_of x = size (file_event x)
+size_of (opening κ g) = 2
+size_of (closing g) = 2
+size_of finish = 1
+
+abbrev pub size : FileEvent → ℕ
+size e = size_of (event_of e)
+
+-- the events up to the end, or to the first bytes that are none of the four; and the first of them
+abbrev pub file_events : Events → List FileEvent
+file_events ends = []
+file_events stray = []
+file_events (event x es) = file_event x ∷ file_events es
+
+abbrev pub first_event : Events → Option FileEvent
+first_event ends = None
+first_event stray = None
+first_event (event x es) = Some (file_event x)
+
+-- "is it one of the three with its operand inside the file?", with 23 one of four: the event at the place i; none where the file ends, where
+-- the byte begins none of the four, or where its operand runs past the end.
+abbrev pub event_at : List ℕ → ℕ → Option FileEvent
+event_at file i = first_event (events_of (drop i file))
+
+-- "gives one event after another": where a walker stands after the event at the place i; where there is none, it stays
+abbrev pub size_here : Option FileEvent → ℕ
+size_here None = 0
+size_here (Some e) = size e
+
+abbrev pub place_after : List ℕ → ℕ → ℕ
+place_after file i = i + size_here (event_at file i)
+
+-- the events from the walker's place on, of which there are no more than bytes
+abbrev pub events_left : Walker → List FileEvent
+events_left w = file_events (events_of (drop w.at w.events.now))
+
+abbrev pub bytes_left : Walker → Count
+bytes_left w = at_most (length w.events.now - w.at)
+
+-- A walker gives the event at its place, the first of those left, and then stands past it, over the same bytes.
+abbrev pub Steps : Walker → Option FileEvent → Walker → Type 0
+Steps w r v =
+    YieldsFirst events_left w r v × (v.events ≡ w.events) × (r ≡ event_at w.events.now w.at) × (v.at ≡ place_after w.events.now w.at)

@@ -1,13 +1,11 @@
 -- The openings of an event file in order, plain and nil ones, with their levels.
-use Rattle.std.specs.Prelude.{◌≡◌, true, cond, List, [], ◌∷◌, ◌++◌, ℕ, suc, ◌+◌, ◌-◌, ◌^◌, ◌<◌, ◌≤◌, min, length, drop}
+use Rattle.std.specs.Prelude.{◌≡◌, List, [], ◌∷◌, ◌++◌, ℕ, suc, ◌+◌, ◌-◌, ◌^◌, min, drop, Option, Some, None}
 use Rattle.sdtd.specs.Document.{Event, opening, closing, finish}
 use Rattle.sdtd.specs.Reading.{depth}
 use Rattle.events.specs.Events.{Events, ends, stray, event, events_of, size_of}
+use Rattle.sdtd.specs.declared.Tag.{Tag}
 use Rattle.sdtd.specs.Numbered.{tag_no}
 use Rattle.events.specs.declared.outline.Cursor.{Cursor}
-use Rattle.events.specs.declared.outline.NextOpening.{NextOpening}
-use Rattle.events.specs.declared.outline.NextOpening.TheVariants.{Opening, NoOpening}
-use Rattle.events.specs.declared.outline.Search.{Search}
 
 -- One level more. A cursor's level stays at the largest number that it can hold; from a file's start on no level comes near it.
 abbrev pub deeper : ℕ → ℕ
@@ -19,15 +17,16 @@ shallower level = level - 1
 
 -- The first opening among the events that begin at the place `at`, where `level` elements are open, and the cursor past it: closings and
 -- finishes are passed over; there is none where the file ends or goes on with a byte that begins no event.
-abbrev pub first_opening : ℕ → ℕ → Events → NextOpening
-first_opening level at ends = NoOpening
-first_opening level at stray = NoOpening
-first_opening level at (event (opening κ g) es) = Opening (tag_no g) (record { at = at + size_of (opening κ g); level = deeper level })
+abbrev pub first_opening : ℕ → ℕ → Events → Option (Tag × Cursor)
+first_opening level at ends = None
+first_opening level at stray = None
+first_opening level at (event (opening κ g) es) =
+    Some (tag_no g, record { at = at + size_of (opening κ g); level = deeper level })
 first_opening level at (event (closing g) es) = first_opening (shallower level) (at + size_of (closing g)) es
 first_opening level at (event finish es) = first_opening level (at + size_of finish) es
 
 -- the first opening from the cursor on
-abbrev pub next_opening : List ℕ → Cursor → NextOpening
+abbrev pub next_opening : List ℕ → Cursor → Option (Tag × Cursor)
 next_opening file c = first_opening c.level c.at (events_of (drop c.at file))
 
 -- "Each middle line has the opening's level, tag and type": the first two of them.
@@ -54,15 +53,10 @@ by_depth e (event finish es) = by_depth (e ++ (finish ∷ [])) es
 
 -- The lines are those of the openings that are found one after another, each from the cursor past the one before, and there are no more.
 abbrev pub OpeningsInTurn : List ℕ → Cursor → List Line → Type 0
-OpeningsInTurn file c [] = next_opening file c ≡ NoOpening
+OpeningsInTurn file c [] = next_opening file c ≡ None
 OpeningsInTurn file c (l ∷ ls) =
-    (next : Cursor) × (next_opening file c ≡ Opening (tag_no l.tag) next) × (next.level ≡ l.level) × OpeningsInTurn file next ls
+    (next : Cursor) × (next_opening file c ≡ Some (tag_no l.tag, next)) × (next.level ≡ l.level) × OpeningsInTurn file next ls
 
 -- a cursor at a file's start
 abbrev pub start : Cursor
 start = record { at = 0; level = 0 }
-
--- After a look at one event the search finds what it would have found before; while it goes on, the cursor moves, and stays in the file.
-pub record Looked (file : List ℕ) (c : Cursor) (r : Search) : Type 0 where
-  pub same : cond r.going (next_opening file r.cursor) r.found ≡ next_opening file c
-  pub moves : r.going ≡ true → (c.at < r.cursor.at) × (r.cursor.at ≤ length file)

@@ -1,10 +1,12 @@
--- `events::outline::next_opening` meets its contract: each look keeps what is found, and its cursor comes nearer to the file's end.
-use mathlib.Core.Path.{◌≡◌}
-use Rattle.events.proofs.Outlines.{finds_yet, left_yet}
+-- `events::outline::next_opening` meets its contract: from where the walker stands, what is found is what was sought.
+use Rattle.std.proofs.Common.{◌≡◌, ◌-◌, length}
+use Rattle.events.specs.Outline.{next_opening}
+use Rattle.events.proofs.Outlines.{cursor}
 use Rattle.events.proofs.outline.next_opening.Given as goal
 
-abbrev pub invariant-loop-s : goal.invariant-loop-s
-invariant-loop-s l = finds_yet l.events l.s ≡ finds_yet l.events l.initial.s
+abbrev pub invariant-loop-event : goal.invariant-loop-event
+invariant-loop-event l =
+    (l.walker.events.now ≡ l.events) × (next_opening l.events (cursor l.walker.at l.level) ≡ next_opening l.events l.fn.from)
 
-abbrev pub decreases-loop-s : goal.decreases-loop-s
-decreases-loop-s l = left_yet l.events l.s
+abbrev pub decreases-loop-event : goal.decreases-loop-event
+decreases-loop-event l = length l.events - l.walker.at
