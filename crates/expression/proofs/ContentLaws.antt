@@ -11,7 +11,6 @@ use lib.Dec.{T}
 use lib.ListN.{length, get_or, set, replicate, length-set, length-map, length-reverse}
 use lib.Seq.{get_or-set_same, get_or-set_other, ext_get_or}
 use Rattle.sdtd.specs.Limits.{most_states}
-use Rattle.sdtd.specs.Answer.{fine}
 use Rattle.sdtd.proofs.Basics.{cond_both, is_true, same_test}
 use Rattle.schema.specs.Putting.{put_all}
 use Rattle.schema.specs.States.{member, insert}
@@ -153,7 +152,6 @@ module _ (t' : Tables) (x : Parsed) (e : Expression) (names : List Name) (r : Re
   pub automaton_whole : (a : StateSet) → a.0 ≡ cond x.nullable (insert 0 x.last) x.last
       → ◌≡◌ {A = Automaton}
       (record {
-        verdict = fine;
         end = x.at;
         uses = x.uses;
         accepting = a;
@@ -168,7 +166,6 @@ module _ (t' : Tables) (x : Parsed) (e : Expression) (names : List Name) (r : Re
       let ty : t'.types ≡ put_all (map (λ c. c.type) (reverse names)) 1 empty = r.types_put ∙ put_reversed (λ c. c.type) 1 names empty in
       let pl : t'.places ≡ put_all (map (λ c. c.place) (reverse names)) 1 empty = r.places_put ∙ put_reversed (λ c. c.place) 1 names empty in
       λ i. record {
-        verdict = fine;
         end = x.at;
         uses = u i;
         accepting = record { 0 = ac i };

@@ -7,22 +7,22 @@ use native.Mathlib.Omega.{arith}
 use borrow.Author.Tests.{eqb-true}
 use lib.Dec.{eqb}
 use lib.ListN.{length}
-use Rattle.command.specs.Cases.{on_expression}
-use Rattle.command.specs.Command.{command_at, size, part_size}
+use Rattle.std.specs.Prelude.{Option, Some}
+use Rattle.command.specs.Command.{command_at, part_size}
 use Rattle.command.specs.declared.Command.{Command}
 use Rattle.command.specs.declared.Command.TheVariants.{Expression}
 use Rattle.command.specs.declared.Part.{Part}
 use Rattle.command.specs.declared.Part.TheVariants.{OpenBracket, CloseBracket, Use, Or, Repeat, End}
 use Rattle.expression.specs.Expression.{Expression as Exp}
-use Rattle.expression.specs.Content.{Name, SoFar, nothing_so_far, after_part, is_end, failed_inside}
+use Rattle.expression.specs.Content.{Name, SoFar, nothing_so_far, on_part, after_part, is_end, failed_inside}
 use Rattle.expression.specs.Content.{whole, content_from, content_at}
 use Rattle.expression.proofs.WholeContents.{types_of, types_more, closed-names, PartPasses, part_passes, not_broken, turn, end_only}
 use Rattle.expression.proofs.CommandTests.{part_inside}
 
 -- From the place i on stand the parts xs, none of them a 3F, and then, at the place p, the 3F.
 pub data Parts (file : List ℕ) : ℕ → List Part → ℕ → Type 0 where
-  last : {p : ℕ} → command_at file p ≡ Expression End → Parts file p [] p
-  more : {i p : ℕ} {x : Part} {xs : List Part} → command_at file i ≡ Expression x → is_end x ≡ false → Parts file (i + part_size x) xs p
+  last : {p : ℕ} → command_at file p ≡ Some (Expression End) → Parts file p [] p
+  more : {i p : ℕ} {x : Part} {xs : List Part} → command_at file i ≡ Some (Expression x) → is_end x ≡ false → Parts file (i + part_size x) xs p
       → Parts file i (x ∷ xs) p
 
 -- the type that a 32 names; the types that the 32s among the parts name, in order
@@ -44,7 +44,7 @@ parts_inside {file} {i} (last c) = (omega arith, omega (arith, part_inside file 
 parts_inside (more c n ps) = let h = parts_inside ps in (omega (arith, h.0), h.1)
 
 -- the 3F stands there
-pub parts_end : {file : List ℕ} {i p : ℕ} {xs : List Part} → Parts file i xs p → command_at file p ≡ Expression End
+pub parts_end : {file : List ℕ} {i p : ℕ} {xs : List Part} → Parts file i xs p → command_at file p ≡ Some (Expression End)
 parts_end (last c) = c
 parts_end (more c n ps) = parts_end ps
 
@@ -84,12 +84,12 @@ pub record PartsFrom (file : List ℕ) (i : ℕ) (before : List ℕ) (ns : List 
   pub types : types_of ns ≡ before ++ types_used parts
 
 -- the 3F is the last, and any other command one more
-at_end : {file : List ℕ} {i : ℕ} (r : SoFar) {c : Command} {e e' : Exp} {ns : List Name} {p : ℕ} → command_at file i ≡ c → PartPasses r c
-    → on_expression is_end false c ≡ true → whole e' (reverse r.names) i ≡ whole e ns p
+at_end : {file : List ℕ} {i : ℕ} (r : SoFar) {c : Option Command} {e e' : Exp} {ns : List Name} {p : ℕ} → command_at file i ≡ c → PartPasses r c
+    → on_part is_end false c ≡ true → whole e' (reverse r.names) i ≡ whole e ns p
     → PartsFrom file i (types_of (reverse r.names)) ns p
 at_end {file} {i} r {ns = ns} {p = p} d k b s =
     let x : k.part ≡ End = end_only k.part (rw k.is at b) in
-    let ended : command_at file i ≡ Expression End = d ∙ k.is ∙ ap Expression x in
+    let ended : command_at file i ≡ Some (Expression End) = d ∙ k.is ∙ ap (λ (y : Part). Some (Expression y)) x in
     let q : i ≡ p = cc in
     let n : reverse r.names ≡ ns = cc in
     record {
@@ -98,13 +98,11 @@ at_end {file} {i} r {ns = ns} {p = p} d k b s =
       types = ap types_of (sym n) ∙ sym (append-nil (types_of (reverse r.names)));
     }
 
-one_more : {file : List ℕ} {i : ℕ} (r : SoFar) {c : Command} {ns : List Name} {p : ℕ} → command_at file i ≡ c → (k : PartPasses r c)
-    → on_expression is_end false c ≡ false
-    → PartsFrom file (i + size c) (types_of (reverse (on_expression (after_part r i) r c).names)) ns p
+one_more : {file : List ℕ} {i : ℕ} (r : SoFar) {c : Option Command} {ns : List Name} {p : ℕ} → command_at file i ≡ c → (k : PartPasses r c)
+    → on_part is_end false c ≡ false → PartsFrom file (i + part_size k.part) (types_of (reverse (after_part r i k.part).names)) ns p
     → PartsFrom file i (types_of (reverse r.names)) ns p
-one_more {file} {i} r {c} {ns} {p} d k b rest =
+one_more {file} {i} r {c} {ns} {p} d k b h =
     let x = k.part in
-    let h : PartsFrom file (i + part_size x) (types_of (reverse (after_part r i x).names)) ns p = rw k.is at rest in
     record {
       parts = x ∷ h.parts;
       chain = more (d ∙ k.is) (rw k.is at b) h.chain;
@@ -120,8 +118,10 @@ parts_from zero file i r q = not_broken q
 parts_from (suc fuel) file i r q =
     let c = command_at file i in
     let n = failed_inside r c in
-    turn (eqb n 0) (on_expression is_end false c) n i q (λ a b s. at_end r refl (part_passes r c (eqb-true n 0 a)) b s)
-    (λ a b s. one_more r refl (part_passes r c (eqb-true n 0 a)) b (parts_from fuel file (i + size c) _ s))
+    turn (eqb n 0) (on_part is_end false c) n i q (λ a b s. at_end r refl (part_passes r c (eqb-true n 0 a)) b s)
+    (λ a b s.
+    let k = part_passes r c (eqb-true n 0 a) in
+    one_more r refl k b (parts_from fuel file (i + part_size k.part) _ (rw k.is at s)))
 
 -- An expression that is read whole has its parts, which name what its names say.
 pub expression_parts : (file : List ℕ) (i : ℕ) {e : Exp} {ns : List Name} {p : ℕ} → content_at file i ≡ whole e ns p → PartsFrom file i [] ns p
@@ -129,10 +129,10 @@ unfolding content_at
 expression_parts file i q = parts_from (suc (length file)) file i nothing_so_far q
 
 -- A file has one chain of parts from a place on.
-same_part : {c : Command} {x y : Part} → c ≡ Expression x → c ≡ Expression y → x ≡ y
+same_part : {c : Option Command} {x y : Part} → c ≡ Some (Expression x) → c ≡ Some (Expression y) → x ≡ y
 same_part d e = cc
 
-end_alone : {A : Type 0} {c : Command} {x : Part} → c ≡ Expression End → c ≡ Expression x → is_end x ≡ false → A
+end_alone : {A : Type 0} {c : Option Command} {x : Part} → c ≡ Some (Expression End) → c ≡ Some (Expression x) → is_end x ≡ false → A
 end_alone c d n = absurd (true≢false (ap is_end (same_part c d) ∙ n))
 
 pub parts_same : {file : List ℕ} {i p q : ℕ} {xs ys : List Part} → Parts file i xs p → Parts file i ys q → (xs ≡ ys) × (p ≡ q)

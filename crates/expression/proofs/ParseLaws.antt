@@ -11,6 +11,7 @@ use borrow.Author.Tests.{lt-ltb, le-ltb, ltb-true, eq-eqb, ne_eqb}
 use lib.Bits.{or_zero_l}
 use lib.Dec.{T, eqb, ltb, eqb→eq}
 use lib.ListN.{length, set, length-append}
+use Rattle.std.specs.Prelude.{Some}
 use Rattle.sdtd.specs.Limits.{most_types, most_states}
 use Rattle.sdtd.proofs.Basics.{cond_both}
 use Rattle.sdtd.specs.declared.TypeNo.{TypeNo}
@@ -66,10 +67,10 @@ pub none_one : (file : List ℕ) (i depth u : ℕ) (t t' : Tables) (x : Parsed) 
 none_one file i depth u t t' x s z e = ⊎_elim (λ k. k) (λ k. absurd (omega (arith, k.taken.moves))) (well_one x s.says z)
 
 -- One use. Its questions: the type's range, and the number of uses.
-module _ (file : List ℕ) (i depth u : ℕ) (j : TypeNo) (t : Tables) (types places : List ℕ) (c : command_at file i ≡ AnExpression (Use j)) where
+module _ (file : List ℕ) (i depth u : ℕ) (j : TypeNo) (t : Tables) (types places : List ℕ) (c : command_at file i ≡ Some (AnExpression (Use j))) where
   use_refused : (n : ℕ) → ¬ (n ≡ 0)
       → ((around : List Level) (l : Level) (before : List Name) (b : Bool) → length before ≡ u
-      → failed_inside (so_far around l before b) (AnExpression (Use j)) ≡ n)
+      → failed_inside (so_far around l before b) (Some (AnExpression (Use j))) ≡ n)
       → FactorRefused file i depth u (refused_at n i)
   use_refused n d h around l before b la lb =
       scan_fails file i (so_far around l before b) n (ap (failed_inside (so_far around l before b)) c ∙ h around l before b lb) d
@@ -117,7 +118,7 @@ use_onward i j u x e =
     (cond_both (λ (y : Parsed). i ≤ y.at) (ltb u most_uses) _ _ (omega arith) (omega arith)) (omega arith))
 
 -- A choice in a bracket: the 30, the choice, and the command behind it.
-module _ (file : List ℕ) (i depth u : ℕ) (c : command_at file i ≡ AnExpression OpenBracket) where
+module _ (file : List ℕ) (i depth u : ℕ) (c : command_at file i ≡ Some (AnExpression OpenBracket)) where
   pub bracket_refused : most_brackets ≤ depth → FactorRefused file i depth u (refused_at 23 i)
   bracket_refused d around l before b la lb =
       scan_fails file i (so_far around l before b) 23
@@ -319,7 +320,7 @@ module _ (file : List ℕ) (i depth u : ℕ) (t : Tables) where
   pub choice_start : (t₁ : Tables) (x : Parsed) → SequenceSays file i depth u t t₁ x → ChoiceSoFar file i depth u t t₁ x
   choice_start t₁ x s = record { onward = s.onward; rows = s.rows; says = first_sequence t₁ x s.says }
 
-  module _ (t₁ t₂ : Tables) (x y : Parsed) (k : ChoiceTaken file i depth u t t₁ x) (c : command_at file x.at ≡ AnExpression Or) where
+  module _ (t₁ t₂ : Tables) (x y : Parsed) (k : ChoiceTaken file i depth u t t₁ x) (c : command_at file x.at ≡ Some (AnExpression Or)) where
     abbrev divided : List Expression
     divided = sequence_of k.level.factors ∷ k.level.sequences
 
@@ -388,10 +389,10 @@ module _ (file : List ℕ) (i depth u : ℕ) (t : Tables) where
 
 -- another sequence follows: nothing is refused, and the command is 33
 pub follows_on : (file : List ℕ) (i n : ℕ) (b : Bool) → b ≡ (eqb n 0 && dividing (command_at file i)) → b ≡ true
-    → (n ≡ 0) × (command_at file i ≡ AnExpression Or)
+    → (n ≡ 0) × (command_at file i ≡ Some (AnExpression Or))
 follows_on file i n b e h = go (eqb n 0) refl (sym e ∙ h)
   where
-    go : (a : Bool) → eqb n 0 ≡ a → (a && dividing (command_at file i)) ≡ true → (n ≡ 0) × (command_at file i ≡ AnExpression Or)
+    go : (a : Bool) → eqb n 0 ≡ a → (a && dividing (command_at file i)) ≡ true → (n ≡ 0) × (command_at file i ≡ Some (AnExpression Or))
     go true p q = (eqb→eq n 0 (subst T (sym p) tt), is_or_lem (command_at file i) q)
     go false p q = never q
 
@@ -403,13 +404,13 @@ module _ (file : List ℕ) (i depth u : ℕ) (t : Tables) where
       subst (FactorSays file i depth u t t) (sym e)
       (record { onward = le_refl i; rows = r; says = goes_well refl (inl (record { stays = refl; opens_not = o; same = refl })) })
 
-  pub factor_too_deep : (x : Parsed) → command_at file i ≡ AnExpression OpenBracket → most_brackets ≤ depth → length t.next ≡ most_states
+  pub factor_too_deep : (x : Parsed) → command_at file i ≡ Some (AnExpression OpenBracket) → most_brackets ≤ depth → length t.next ≡ most_states
       → x ≡ refused_at 23 i → FactorSays file i depth u t t x
   factor_too_deep x c d r e =
       subst (FactorSays file i depth u t t) (sym e)
       (record { onward = le_refl i; rows = r; says = is_refused (λ z. omega arith) (bracket_refused file i depth u c d) })
 
-  pub factor_use : (j : TypeNo) (types places : List ℕ) (x : Parsed) (next : List ℕ) (y : Parsed) → command_at file i ≡ AnExpression (Use j)
+  pub factor_use : (j : TypeNo) (types places : List ℕ) (x : Parsed) (next : List ℕ) (y : Parsed) → command_at file i ≡ Some (AnExpression (Use j))
       → length t.next ≡ most_states → UseSays i j.0 u t.types types t.places places x → RepeatSays file x t.next next y
       → FactorSays file i depth u t (tables next types places) y
   factor_use j types places x next y c r s k =
@@ -419,7 +420,7 @@ module _ (file : List ℕ) (i depth u : ℕ) (t : Tables) where
         says = repeat_says file i depth u t (tables t.next types places) x next (use_says file i depth u j t types places c x s) y k;
       }
 
-  pub factor_bracket : (t' : Tables) (x y : Parsed) (next : List ℕ) (z : Parsed) → command_at file i ≡ AnExpression OpenBracket
+  pub factor_bracket : (t' : Tables) (x y : Parsed) (next : List ℕ) (z : Parsed) → command_at file i ≡ Some (AnExpression OpenBracket)
       → depth < most_brackets → ChoiceSays file (i + 1) (depth + 1) u t t' x → y ≡ bracket_by (command_at file x.at) x
       → RepeatSays file y t'.next next z → FactorSays file i depth u t (tables next t'.types t'.places) z
   factor_bracket t' x y next z c d s e k =

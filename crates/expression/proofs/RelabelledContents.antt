@@ -9,7 +9,7 @@ use borrow.Author.Tests.{eqb-true, lt-ltb}
 use lib.Dec.{eqb, ltb}
 use lib.ListN.{length, length-append, length-map, length-reverse}
 use Rattle.sdtd.specs.Limits.{most_types}
-use Rattle.command.specs.Cases.{on_expression}
+use Rattle.std.specs.Prelude.{Some}
 use Rattle.command.specs.Command.{part_bytes, file_of, command_at, part_size}
 use Rattle.command.specs.Relabelled.{relabel_part}
 use Rattle.command.specs.declared.Command.{Command}
@@ -19,7 +19,7 @@ use Rattle.command.specs.declared.Part.TheVariants.{OpenBracket, CloseBracket, U
 use Rattle.command.proofs.CommandLaws.{read_back}
 use Rattle.expression.specs.Expression.{Expression as Exp, sequence, choice}
 use Rattle.expression.specs.Content.{Level, sequence_of, choice_from, choice_of, Name, SoFar, nothing_so_far, with_factor, closed, last_repeated}
-use Rattle.expression.specs.Content.{failed_inside, after_part, is_end, Content, whole, content_at}
+use Rattle.expression.specs.Content.{on_part, failed_inside, after_part, is_end, Content, whole, content_at}
 use Rattle.expression.specs.Parsing.{level_of, so_far, scan}
 use Rattle.expression.proofs.UseTypes.{relabel_expression}
 use Rattle.expression.proofs.WholeContents.{types_of, turn}
@@ -32,18 +32,18 @@ relabelled_parts image xs = map (λ x. Expression (relabel_part image x)) (xs ++
 
 -- what a whole expression says of its first command: it passes its questions, and ends the expression or leaves the rest whole
 module _ (file : List ℕ) (i : ℕ) (r : SoFar) {e : Exp} {ns : List Name} {q : ℕ} where
-  end_read : command_at file i ≡ Expression End → scan file i r ≡ whole e ns q
-      → (failed_inside r (Expression End) ≡ 0) × (whole (choice_of r.level) (reverse r.names) i ≡ whole e ns q)
+  end_read : command_at file i ≡ Some (Expression End) → scan file i r ≡ whole e ns q
+      → (failed_inside r (Some (Expression End)) ≡ 0) × (whole (choice_of r.level) (reverse r.names) i ≡ whole e ns q)
   end_read c s =
       let n = failed_inside r (command_at file i) in
-      turn (eqb n 0) (on_expression is_end false (command_at file i)) n i (sym (scan_next file i r) ∙ s)
+      turn (eqb n 0) (on_part is_end false (command_at file i)) n i (sym (scan_next file i r) ∙ s)
       (λ a b w. (rw c at (eqb-true n 0 a), w)) (λ a b w. absurd (true≢false (rw c at b)))
 
-  part_read : (x : Part) → command_at file i ≡ Expression x → is_end x ≡ false → scan file i r ≡ whole e ns q
-      → (failed_inside r (Expression x) ≡ 0) × (scan file (i + part_size x) (after_part r i x) ≡ whole e ns q)
+  part_read : (x : Part) → command_at file i ≡ Some (Expression x) → is_end x ≡ false → scan file i r ≡ whole e ns q
+      → (failed_inside r (Some (Expression x)) ≡ 0) × (scan file (i + part_size x) (after_part r i x) ≡ whole e ns q)
   part_read x c d s =
       let n = failed_inside r (command_at file i) in
-      turn (eqb n 0) (on_expression is_end false (command_at file i)) n i (sym (scan_next file i r) ∙ s)
+      turn (eqb n 0) (on_part is_end false (command_at file i)) n i (sym (scan_next file i r) ∙ s)
       (λ a b w. absurd (true≢false (sym (rw c at b) ∙ d))) (λ a b w. (rw c at (eqb-true n 0 a), rw c at w))
 
 module _ (image : ℕ → ℕ) where
@@ -98,7 +98,7 @@ module _ (image : ℕ → ℕ) where
   in_range false n h = absurd (omega arith)
 
   passes_relabelled : (r : SoFar) (ns : List Name) (x : Part) → length ns ≡ length r.names → Fits (type_used x)
-      → failed_inside r (Expression x) ≡ 0 → failed_inside (relabel_so_far ns r) (Expression (relabel_part image x)) ≡ 0
+      → failed_inside r (Some (Expression x)) ≡ 0 → failed_inside (relabel_so_far ns r) (Some (Expression (relabel_part image x))) ≡ 0
   passes_relabelled r ns OpenBracket l f h = rw (length-map r.around relabel_level) h
   passes_relabelled r ns CloseBracket l f h = rw (length-map r.around relabel_level) h
   passes_relabelled r ns (Use j) l f h =
@@ -157,8 +157,8 @@ module _ (image : ℕ → ℕ) where
     pub ends : end + 1 ≡ m
 
   module _ (file : List ℕ) {e : Exp} {ns : List Name} {q : ℕ} (F rest : List ℕ) where
-    read_end : (i : ℕ) (r : SoFar) (ns' : List Name) (before : List ℕ) → SameNames r.names ns' → command_at file i ≡ Expression End
-        → scan file i r ≡ whole e ns q → command_at F (length before) ≡ Expression End
+    read_end : (i : ℕ) (r : SoFar) (ns' : List Name) (before : List ℕ) → SameNames r.names ns' → command_at file i ≡ Some (Expression End)
+        → scan file i r ≡ whole e ns q → command_at F (length before) ≡ Some (Expression End)
         → RelabelledRead (scan F (length before) (relabel_so_far ns' r)) e ns (length before + 1)
     read_end i r ns' before h c s d =
         let a = end_read file i r c s in
@@ -181,7 +181,7 @@ module _ (image : ℕ → ℕ) where
         → RelabelledRead (scan F (length before) (relabel_so_far ns' r)) e ns (length before + length (file_of (relabelled_parts image xs)))
     unfolding file_of
     read_parts {i} (last c) r ns' before h f s g =
-        read_end i r ns' before h c s (read_back before rest (Expression End) tt g)
+        read_end i r ns' before h c s (read_back before rest (Expression End) g)
     read_parts {i} (more {x = x} {xs = xs} c n ps) r ns' before h f s g =
         let a = part_read file i r x c n s in
         let y = relabel_part image x in
@@ -196,7 +196,7 @@ module _ (image : ℕ → ℕ) where
           names = later.names;
           end = later.end;
           read =
-              scan_part F k (relabel_so_far ns' r) y (read_back before (tail ++ rest) (Expression y) tt g')
+              scan_part F k (relabel_so_far ns' r) y (read_back before (tail ++ rest) (Expression y) g')
               (passes_relabelled r ns' x (same_count r.names ns' h) (λ j m. f j (Memᴰ.append_left (types_used xs) m)) a.0)
               (still_goes x n)
               ∙ ap₂ (scan F) (sym long) (after_relabelled r ns' i k x)
@@ -220,7 +220,7 @@ pub relabelled_chain : (image : ℕ → ℕ) {file : List ℕ} {i p : ℕ} {xs :
     → F ≡ before ++ (file_of (relabelled_parts image xs) ++ rest)
     → (q : ℕ) × Parts F (length before) (map (relabel_part image) xs) q × (q + 1 ≡ length before + length (file_of (relabelled_parts image xs)))
 unfolding file_of
-relabelled_chain image (last c) F before rest g = (length before, last (read_back before rest (Expression End) tt g), refl)
+relabelled_chain image (last c) F before rest g = (length before, last (read_back before rest (Expression End) g), refl)
 relabelled_chain image (more {x = x} {xs = xs} c n ps) F before rest g =
     let y = relabel_part image x in
     let bytes = part_bytes y in
@@ -231,6 +231,6 @@ relabelled_chain image (more {x = x} {xs = xs} c n ps) F before rest g =
     let chain : Parts F (length before + part_size y) (map (relabel_part image) xs) later.0 =
     subst (λ (k : ℕ). Parts F k (map (relabel_part image) xs) later.0) long later.1 in (
       later.0,
-      more (read_back before (tail ++ rest) (Expression y) tt g') (still_goes image x n) chain,
+      more (read_back before (tail ++ rest) (Expression y) g') (still_goes image x n) chain,
       omega (arith, later.2, length-append bytes tail),
     )

@@ -1,6 +1,6 @@
 -- What is known of an expression that is read from a file: its place, its uses and what they name; and the numbers of its refusals.
 use mathlib.Core.Path.{◌≡◌, refl, sym, ap, subst, ◌∙◌}
-use mathlib.Core.Logic.{◌⊎◌, inl, inr}
+use mathlib.Core.Logic.{inl, inr}
 use mathlib.Core.Bool.{Bool, true, false, cond}
 use mathlib.Core.List.{List, [], ◌∷◌, ◌++◌, map, reverse, reverse_aux, reverse-cons, map-append, append-nil, append_assoc}
 use Prim.Native.Nat.{ℕ, zero, suc, ◌+◌, ◌≤◌, ◌<◌}
@@ -10,10 +10,10 @@ use lib.Dec.{T, eqb, eqb→eq, ltb→lt}
 use lib.ListN.{length, length-reverse}
 use Rattle.sdtd.proofs.Basics.{cond_both, cond_either}
 use Rattle.sdtd.specs.Limits.{most_types}
-use Rattle.command.specs.Cases.{on_expression}
-use Rattle.command.specs.Command.{is_command, command_at, size, part_size}
+use Rattle.std.specs.Prelude.{Option, Some, None}
+use Rattle.command.specs.Command.{command_at, part_size}
 use Rattle.command.specs.declared.Command.{Command}
-use Rattle.command.specs.declared.Command.TheVariants.{Tags, TypeBlock, Final, Step, Root, Nil, Done, Expression, NoCommand}
+use Rattle.command.specs.declared.Command.TheVariants.{Tags, TypeBlock, Final, Step, Root, Nil, Done, Expression}
 use Rattle.command.specs.declared.Part.{Part}
 use Rattle.command.specs.declared.Part.TheVariants.{OpenBracket, CloseBracket, Use, Or, Repeat, End}
 use Rattle.command.proofs.AskedLaws.{Numbered, all_yes, first_number}
@@ -22,7 +22,8 @@ use Rattle.expression.specs.Limits.{most_uses}
 use Rattle.expression.specs.Expression.{Expression as Exp}
 use Rattle.expression.specs.Automaton.{named}
 use Rattle.expression.specs.Content.{Level, sequence_of, choice_from, choice_of, Name, SoFar, nothing_so_far, part_in_range, can_follow}
-use Rattle.expression.specs.Content.{within_uses, closed, questions_inside, failed_inside, last_repeated, is_end, after_part}
+use Rattle.expression.specs.Content.{within_uses, on_part, closed, questions_inside, failed_inside, last_repeated, is_end, after_part}
+use Rattle.expression.specs.Answer.{NumberInside}
 use Rattle.expression.specs.Content.{Content, broken, whole, content_from, content_at}
 
 -- the types named by expressions, the last first; by a level; by the levels around
@@ -164,23 +165,23 @@ types_turned [] ys h g = g
 types_turned (x ∷ xs) ys h g = types_turned xs (x ∷ ys) h.1 (h.0, g)
 
 -- a command that passes its questions is one of an expression's, and each question says so of it
-pub record PartPasses (r : SoFar) (c : Command) : Type 0 where
+pub record PartPasses (r : SoFar) (c : Option Command) : Type 0 where
   pub part : Part
-  pub is : c ≡ Expression part
+  pub is : c ≡ Some (Expression part)
   pub in_range : T (part_in_range part)
   pub follows : T (can_follow r part)
   pub uses_fit : T (within_uses r part)
 
-pub part_passes : (r : SoFar) (c : Command) → failed_inside r c ≡ 0 → PartPasses r c
-part_passes r (Tags n) z = absurd (omega arith)
-part_passes r (TypeBlock g k) z = absurd (omega arith)
-part_passes r (Final q) z = absurd (omega arith)
-part_passes r (Step p j q) z = absurd (omega arith)
-part_passes r (Root a) z = absurd (omega arith)
-part_passes r Nil z = absurd (omega arith)
-part_passes r Done z = absurd (omega arith)
-part_passes r (Expression x) z =
-    let h = all_yes (questions_inside r (Expression x)) (omega arith) z in
+pub part_passes : (r : SoFar) (c : Option Command) → failed_inside r c ≡ 0 → PartPasses r c
+part_passes r (Some (Tags n)) z = absurd (omega arith)
+part_passes r (Some (TypeBlock g k)) z = absurd (omega arith)
+part_passes r (Some (Final q)) z = absurd (omega arith)
+part_passes r (Some (Step p j q)) z = absurd (omega arith)
+part_passes r (Some (Root a)) z = absurd (omega arith)
+part_passes r (Some Nil) z = absurd (omega arith)
+part_passes r (Some Done) z = absurd (omega arith)
+part_passes r (Some (Expression x)) z =
+    let h = all_yes (questions_inside r (Some (Expression x))) (omega arith) z in
     record {
       part = x;
       is = refl;
@@ -188,7 +189,7 @@ part_passes r (Expression x) z =
       follows = search h;
       uses_fit = search h;
     }
-part_passes r NoCommand z = absurd (omega arith)
+part_passes r None z = absurd (omega arith)
 
 -- a refusal is no whole expression
 pub not_broken : {A : Type 0} {n q p : ℕ} {e : Exp} {ns : List Name} → broken n q ≡ whole e ns p → A
@@ -231,23 +232,13 @@ abbrev OfWhole : List ℕ → ℕ → Content → Type 0
 OfWhole file i (broken n p) = Unit
 OfWhole file i (whole e ns p) = WholeContent file i e ns p
 
--- what follows from a command that passes
-after_command : {i m : ℕ} {r : SoFar} → SoFarHolds i m r → (c : Command) → PartPasses r c
-    → SoFarHolds i (m + size c) (on_expression (after_part r m) r c)
-after_command {i} {m} {r} h c k =
-    subst (λ (d : Command). SoFarHolds i (m + size d) (on_expression (after_part r m) r d)) (sym k.is)
-    (so_far_kept h k.part k.in_range k.uses_fit)
-
-at_end : {file : List ℕ} {i m : ℕ} {r : SoFar} → SoFarHolds i m r → (c : Command) → m + size c ≤ length file → PartPasses r c
-    → on_expression is_end false c ≡ true → WholeContent file i (choice_of r.level) (reverse r.names) m
-at_end {file} {i} {m} {r} h c l k b =
+at_end : {file : List ℕ} {i m : ℕ} {r : SoFar} → SoFarHolds i m r → (c : Option Command) → command_at file m ≡ c → PartPasses r c
+    → on_part is_end false c ≡ true → WholeContent file i (choice_of r.level) (reverse r.names) m
+at_end {file} {i} {m} {r} h c d k b =
     let x : k.part ≡ End = end_only k.part (rw k.is at b) in
     let o : T (can_follow r End) = subst (λ (y : Part). T (can_follow r y)) x k.follows in
-    let s : size c ≡ 1 = ap size (k.is ∙ ap Expression x) in
-    ended_whole h (omega arith) (eqb→eq (length r.around) 0 o)
-
-is_command_lem : {r : SoFar} {c : Command} → PartPasses r c → T (is_command c)
-is_command_lem k = rw k.is tt
+    let ended : command_at file m ≡ Some (Expression End) = d ∙ k.is ∙ ap (λ (y : Part). Some (Expression y)) x in
+    ended_whole h (omega (arith, command_in_file file m ended)) (eqb→eq (length r.around) 0 o)
 
 whole_from : (fuel : ℕ) (file : List ℕ) (i m : ℕ) (r : SoFar) {e : Exp} {ns : List Name} {p : ℕ} → SoFarHolds i m r
     → content_from fuel file m r ≡ whole e ns p → WholeContent file i e ns p
@@ -256,11 +247,11 @@ whole_from zero file i m r h q = not_broken q
 whole_from (suc fuel) file i m r {e} {ns} {p} h q =
     let c = command_at file m in
     let n = failed_inside r c in
-    turn (eqb n 0) (on_expression is_end false c) n m q
+    turn (eqb n 0) (on_part is_end false c) n m q
+    (λ a b s. subst (OfWhole file i) s (at_end {file = file} h c refl (part_passes r c (eqb-true n 0 a)) b))
     (λ a b s.
     let k = part_passes r c (eqb-true n 0 a) in
-    subst (OfWhole file i) s (at_end {file = file} h c (command_in_file file m (is_command_lem k)) k b))
-    (λ a b s. whole_from fuel file i (m + size c) _ (after_command h c (part_passes r c (eqb-true n 0 a))) s)
+    whole_from fuel file i (m + part_size k.part) _ (so_far_kept h k.part k.in_range k.uses_fit) (rw k.is at s))
 
 -- its first command is one of an expression's
 first_from : (fuel : ℕ) (file : List ℕ) (i : ℕ) (r : SoFar) {e : Exp} {ns : List Name} {p : ℕ} → content_from fuel file i r ≡ whole e ns p
@@ -270,7 +261,7 @@ first_from zero file i r q = not_broken q
 first_from (suc fuel) file i r q =
     let c = command_at file i in
     let n = failed_inside r c in
-    turn (eqb n 0) (on_expression is_end false c) n i q (λ a b s. part_passes r c (eqb-true n 0 a)) (λ a b s. part_passes r c (eqb-true n 0 a))
+    turn (eqb n 0) (on_part is_end false c) n i q (λ a b s. part_passes r c (eqb-true n 0 a)) (λ a b s. part_passes r c (eqb-true n 0 a))
 
 pub first_command : (file : List ℕ) (i : ℕ) {e : Exp} {ns : List Name} {p : ℕ} → content_at file i ≡ whole e ns p
     → PartPasses nothing_so_far (command_at file i)
@@ -282,9 +273,17 @@ pub whole_content : (file : List ℕ) (i : ℕ) {e : Exp} {ns : List Name} {p : 
 unfolding content_at
 whole_content file i q = whole_from (suc (length file)) file i i nothing_so_far (nothing_holds i) q
 
--- the number of a refusal inside an expression
-abbrev pub NumberInside : ℕ → Type 0
-NumberInside n = (2 ≤ n) × ((n ≤ 4) ⊎ ((21 ≤ n) × (n ≤ 23)))
+-- what holds of what each part gives, and of what stands beside
+part_either : {A : Type 0} (P : A → Type 0) (f : Part → A) (z : A) (c : Option Command) → ((x : Part) → P (f x)) → P z → P (on_part f z c)
+part_either P f z None h k = k
+part_either P f z (Some (Tags n)) h k = k
+part_either P f z (Some (TypeBlock t s)) h k = k
+part_either P f z (Some (Final q)) h k = k
+part_either P f z (Some (Step p j q)) h k = k
+part_either P f z (Some (Root a)) h k = k
+part_either P f z (Some Nil) h k = k
+part_either P f z (Some Done) h k = k
+part_either P f z (Some (Expression x)) h k = h x
 
 abbrev OfBroken : Content → Type 0
 OfBroken (broken n p) = NumberInside n
@@ -308,8 +307,8 @@ broken_from (suc fuel) file m r =
         ),
       ),
     ) in
-    let rest = broken_from fuel file (m + size c) (on_expression (after_part r m) r c) in
-    cond_either OfBroken (eqb n 0) (λ t. cond_both OfBroken (on_expression is_end false c) _ _ tt rest)
+    let rest = part_either OfBroken _ _ c (λ x. broken_from fuel file (m + part_size x) (after_part r m x)) tt in
+    cond_either OfBroken (eqb n 0) (λ t. cond_both OfBroken (on_part is_end false c) _ _ tt rest)
     (λ f. first_number NumberInside (questions_inside r c) numbered (λ z. f (rw (eq-eqb n 0 z) tt)))
 
 pub broken_number : (file : List ℕ) (i : ℕ) {n p : ℕ} → content_at file i ≡ broken n p → NumberInside n

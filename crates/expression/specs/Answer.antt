@@ -1,7 +1,8 @@
 -- What the call on an expression answers.
-use Rattle.std.specs.Prelude.{◌≡◌, Bool, cond, List, map, ℕ, zero, suc, replicate}
+use Rattle.std.specs.Prelude.{◌≡◌, ◌⊎◌, ◌≤◌, Result, Ok, Bool, cond, List, map, ℕ, zero, suc, replicate}
 use Rattle.sdtd.specs.Limits.{most_states}
-use Rattle.sdtd.specs.Answer.{fine, refused_at}
+use Rattle.sdtd.specs.Answer.{refused_at, verdict_of}
+use Rattle.sdtd.specs.declared.Refusal.{Refusal}
 use Rattle.schema.specs.States.{insert, no_states}
 use Rattle.schema.specs.Value.{up_from}
 use Rattle.schema.specs.Putting.{put_all}
@@ -23,25 +24,11 @@ empty = replicate most_states 0
 abbrev pub of_uses : List ℕ → List ℕ
 of_uses xs = put_all xs 1 empty
 
--- a refusal, and beside it the value of no automaton
-abbrev pub no_automaton : ℕ → ℕ → Automaton
-no_automaton n p =
-    record {
-      verdict = refused_at n p;
-      end = 0;
-      uses = 0;
-      accepting = record { 0 = no_states };
-      next = empty;
-      types = empty;
-      places = empty;
-    }
-
 -- the automaton of an expression that ends at the place p: its accepting states; of each state the uses that its steps lead to; and of each
 -- use, from 1 on, the type that it names and the place of its 32
 abbrev pub automaton_read : Expression → List Name → ℕ → Automaton
 automaton_read e names p =
     record {
-      verdict = fine;
       end = p;
       uses = uses e;
       accepting = record { 0 = set_of (accepts e) most_states };
@@ -50,7 +37,11 @@ automaton_read e names p =
       places = of_uses (map (λ (x : Name). x.place) names);
     }
 
+-- the number of a refusal inside an expression
+abbrev pub NumberInside : ℕ → Type 0
+NumberInside n = (2 ≤ n) × ((n ≤ 4) ⊎ ((21 ≤ n) × (n ≤ 23)))
+
 -- What the call on an expression answers, by what becomes of it.
-abbrev pub ContentMeans : Content → Automaton → Type 0
-ContentMeans (broken n p) r = r ≡ no_automaton n p
-ContentMeans (whole e names p) r = r ≡ automaton_read e names p
+abbrev pub ContentMeans : Content → Result Automaton Refusal → Type 0
+ContentMeans (broken n p) r = verdict_of r ≡ refused_at n p
+ContentMeans (whole e names p) r = r ≡ Ok (automaton_read e names p)

@@ -1,9 +1,9 @@
 -- An expression in a file: its commands, the questions of each, and what they state.
-use Rattle.std.specs.Prelude.{Bool, true, false, cond, List, [], ◌∷◌, reverse, ℕ, zero, suc, ◌+◌, eqb, ltb, length}
+use Rattle.std.specs.Prelude.{Bool, true, false, cond, Option, Some, None, is_some, List, [], ◌∷◌, reverse, ℕ, zero, suc, ◌+◌, eqb, ltb, length}
 use Rattle.sdtd.specs.Limits.{most_types}
 use Rattle.command.specs.Asked.{first_no}
 use Rattle.command.specs.Cases.{on_expression}
-use Rattle.command.specs.Command.{is_command, command_at, size}
+use Rattle.command.specs.Command.{command_at, part_size}
 use Rattle.command.specs.declared.Command.{Command}
 use Rattle.command.specs.declared.Part.{Part}
 use Rattle.command.specs.declared.Part.TheVariants.{OpenBracket, CloseBracket, Use, Or, Repeat, End}
@@ -83,15 +83,20 @@ within_brackets r Or = true
 within_brackets r Repeat = true
 within_brackets r End = true
 
+-- what a command of an expression gives; any other, or none, gives what stands beside
+abbrev pub on_part : {A : Type 0} → (Part → A) → A → Option Command → A
+on_part f x None = x
+on_part f x (Some c) = on_expression f x c
+
 -- The questions of a command inside an expression, in order. "Any other command inside an expression [..] gets 3." "Right after the range
 -- question come 21 [..], 22 [..] and 23 [..], each at the expression command in question."
-abbrev pub questions_inside : SoFar → Command → List (ℕ × Bool)
+abbrev pub questions_inside : SoFar → Option Command → List (ℕ × Bool)
 questions_inside r c =
-    (2, is_command c) ∷ (3, on_expression (λ x. true) false c) ∷ (4, on_expression part_in_range true c)
-    ∷ (21, on_expression (can_follow r) true c) ∷ (22, on_expression (within_uses r) true c) ∷ (23, on_expression (within_brackets r) true c) ∷ []
+    (2, is_some c) ∷ (3, on_part (λ x. true) false c) ∷ (4, on_part part_in_range true c) ∷ (21, on_part (can_follow r) true c)
+    ∷ (22, on_part (within_uses r) true c) ∷ (23, on_part (within_brackets r) true c) ∷ []
 
 -- the number of the first that it fails; 0 where it passes them all
-abbrev pub failed_inside : SoFar → Command → ℕ
+abbrev pub failed_inside : SoFar → Option Command → ℕ
 failed_inside r c = first_no (questions_inside r c)
 
 -- one factor more; "one 34 after it repeats it zero or more times"
@@ -155,9 +160,9 @@ content_from zero file i r = broken 2 i
 content_from (suc fuel) file i r =
     let c = command_at file i in
     let n = failed_inside r c in
-    let rest = content_from fuel file (i + size c) (on_expression (after_part r i) r c) in
     let ended = whole (choice_of r.level) (reverse r.names) i in
-    cond (eqb n 0) (cond (on_expression is_end false c) ended rest) (broken n i)
+    let rest = on_part (λ x. content_from fuel file (i + part_size x) (after_part r i x)) ended c in
+    cond (eqb n 0) (cond (on_part is_end false c) ended rest) (broken n i)
 
 -- the expression that begins at the place i
 unfoldable pub content_at : List ℕ → ℕ → Content

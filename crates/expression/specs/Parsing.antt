@@ -1,16 +1,16 @@
 -- What the private steps of the parsers compute. No public promise cites it.
-use Rattle.std.specs.Prelude.{◌≡◌, ◌⊎◌, Bool, true, false, cond, ◌&&◌, ◌||◌, List, [], ◌∷◌, ◌++◌, map, ℕ, suc, ◌+◌, ◌^◌, ◌≤◌, ◌<◌, eqb, ltb, length, get_or, set}
+use Rattle.std.specs.Prelude.{◌≡◌, ◌⊎◌, Bool, true, false, cond, Option, Some, None, ◌&&◌, ◌||◌, List, [], ◌∷◌, ◌++◌, map, ℕ, suc, ◌+◌, ◌^◌, ◌≤◌, ◌<◌, eqb, ltb, length, get_or, set}
 use Rattle.std.specs.Int.Bits.{bit_or}
 use Rattle.sdtd.specs.Limits.{most_types, most_states}
 use Rattle.schema.specs.States.{member, insert, no_states}
 use Rattle.command.specs.Cases.{on_expression}
 use Rattle.command.specs.Command.{command_at}
 use Rattle.command.specs.declared.Command.{Command}
-use Rattle.command.specs.declared.Command.TheVariants.{Tags, TypeBlock, Final, Step, Root, Nil, Done, Expression as AnExpression, NoCommand}
+use Rattle.command.specs.declared.Command.TheVariants.{Expression as AnExpression}
 use Rattle.command.specs.declared.Part.{Part}
 use Rattle.command.specs.declared.Part.TheVariants.{OpenBracket, CloseBracket, Use, Or, Repeat, End}
 use Rattle.expression.specs.Automaton.{uses}
-use Rattle.expression.specs.Content.{Level, no_level, sequence_of, choice_of, Name, SoFar, with_factor, Content, broken, content_from}
+use Rattle.expression.specs.Content.{Level, no_level, sequence_of, choice_of, Name, SoFar, with_factor, on_part, Content, broken, content_from}
 use Rattle.expression.specs.Expression.{Expression}
 use Rattle.expression.specs.Limits.{most_uses}
 use Rattle.expression.specs.Tests.{nullable, first, last, follow}
@@ -27,8 +27,8 @@ part_opens Or = NoFactor
 part_opens Repeat = NoFactor
 part_opens End = NoFactor
 
-abbrev pub opening : Command → Opening
-opening c = on_expression part_opens NoFactor c
+abbrev pub opening : Option Command → Opening
+opening c = on_part part_opens NoFactor c
 
 -- it is 33; it is 34
 abbrev pub is_or : Part → Bool
@@ -39,8 +39,8 @@ is_or Or = true
 is_or Repeat = false
 is_or End = false
 
-abbrev pub dividing : Command → Bool
-dividing c = on_expression is_or false c
+abbrev pub dividing : Option Command → Bool
+dividing c = on_part is_or false c
 
 abbrev pub is_repeat : Part → Bool
 is_repeat OpenBracket = false
@@ -50,8 +50,8 @@ is_repeat Or = false
 is_repeat Repeat = true
 is_repeat End = false
 
-abbrev pub repeating : Command → Bool
-repeating c = on_expression is_repeat false c
+abbrev pub repeating : Option Command → Bool
+repeating c = on_part is_repeat false c
 
 -- the number that it gets where a choice ends
 abbrev pub part_ending : Bool → Part → ℕ
@@ -62,16 +62,9 @@ part_ending inside Or = 21
 part_ending inside Repeat = 21
 part_ending inside End = cond inside 21 0
 
-abbrev pub ending : Bool → Command → ℕ
-ending inside (Tags n) = 3
-ending inside (TypeBlock g s) = 3
-ending inside (Final q) = 3
-ending inside (Step p j q) = 3
-ending inside (Root a) = 3
-ending inside Nil = 3
-ending inside Done = 3
-ending inside (AnExpression x) = part_ending inside x
-ending inside NoCommand = 2
+abbrev pub ending : Bool → Option Command → ℕ
+ending inside None = 2
+ending inside (Some c) = on_expression (part_ending inside) 3 c
 
 -- what is read, by its parts
 abbrev pub level_of : List Expression → List Expression → Level
@@ -229,7 +222,7 @@ ChoiceRefused file i depth u x =
 -- where the next sequence of a choice begins: at its beginning, with nothing read, or behind a 33
 pub data NextSequence (file : List ℕ) (i depth u : ℕ) (t t' : Tables) (x : Parsed) (from : ℕ) : Type 0 where
   begins_choice : x ≡ parsed i u false 0 0 → t' ≡ t → from ≡ i → NextSequence file i depth u t t' x from
-  behind_33 : ChoiceTaken file i depth u t t' x → command_at file x.at ≡ AnExpression Or → from ≡ x.at + 1
+  behind_33 : ChoiceTaken file i depth u t t' x → command_at file x.at ≡ Some (AnExpression Or) → from ≡ x.at + 1
       → NextSequence file i depth u t t' x from
 
 -- what is read of the whole choice
@@ -255,7 +248,7 @@ abbrev pub either_by : Parsed → Parsed → Parsed
 either_by x y = cond (eqb y.number 0) (or_by x y) y
 
 -- the choice in a bracket, judged by the command behind it
-abbrev pub bracket_by : Command → Parsed → Parsed
+abbrev pub bracket_by : Option Command → Parsed → Parsed
 bracket_by c x = cond (eqb x.number 0) (cond (eqb (ending true c) 0) (closed_by x) (refused_at (ending true c) x.at)) x
 
 -- a factor, and its 34 if the command behind it is one

@@ -1,7 +1,8 @@
 // The automaton of an expression in a file.
 ghost use Rattle.std.specs.Prelude.{◌≡◌, cond};
+ghost use Rattle.sdtd.specs.Answer.{question_number};
 ghost use Rattle.schema.specs.States.{insert};
-ghost use Rattle.expression.specs.Answer.{no_automaton, ContentMeans};
+ghost use Rattle.expression.specs.Answer.{NumberInside, ContentMeans};
 ghost use Rattle.expression.specs.Content.{content_at};
 
 use crate::parsers::choice;
@@ -9,12 +10,11 @@ use crate::parts::ends;
 use crate::sets::STATE_NUMBERS;
 use command::command_at;
 use schema::StateSet;
-use sdtd::Verdict;
+use sdtd::{Refusal, Refused};
 
 // The automaton of the expression that begins at a place of the file, or why there is none.
 #[derive(Clone, Copy)]
 pub struct Automaton {
-    pub verdict: Verdict,
     // the place of the 3F
     pub end: usize,
     pub uses: u8,
@@ -26,18 +26,17 @@ pub struct Automaton {
     pub places: [usize; STATE_NUMBERS],
 }
 
-// A refusal, beside it the value of no automaton.
-fn no_automaton(number: u8, place: usize) -> Automaton
-    ensures { result ≡ no_automaton number place }
+// The question of a number of an expression.
+fn refused_by(number: u8) -> Refused
+    ensures { NumberInside number → question_number result ≡ number }
 {
-    Automaton {
-        verdict: Verdict::RefusedAt(number, place),
-        end: 0,
-        uses: 0,
-        accepting: StateSet::NONE,
-        next: [StateSet::NONE.0; STATE_NUMBERS],
-        types: [0; STATE_NUMBERS],
-        places: [0; STATE_NUMBERS],
+    match number {
+        2 => Refused::NoCommand,
+        3 => Refused::OutOfOrder,
+        4 => Refused::OutOfRange,
+        21 => Refused::CannotFollow,
+        22 => Refused::TooManyUses,
+        _ => Refused::TooManyBrackets,
     }
 }
 
@@ -52,7 +51,7 @@ fn accepting_of(nullable: bool, last: u32) -> StateSet
 }
 
 // The automaton of the expression that begins at a place of the file.
-pub fn read_content(file: &[u8], at: usize) -> Automaton
+pub fn read_content(file: &[u8], at: usize) -> Result<Automaton, Refusal>
     ensures { ContentMeans (content_at file.now at) result }
 {
     let mut next = [StateSet::NONE.0; STATE_NUMBERS];
@@ -60,20 +59,19 @@ pub fn read_content(file: &[u8], at: usize) -> Automaton
     let mut places = [0usize; STATE_NUMBERS];
     let read = choice(file, at, 0, 0, &mut next, &mut types, &mut places);
     if read.number != 0 {
-        return no_automaton(read.number, read.at);
+        return Err(refused_by(read.number).at(read.at));
     }
     let number = ends(command_at(file, read.at), false);
     if number != 0 {
-        return no_automaton(number, read.at);
+        return Err(refused_by(number).at(read.at));
     }
     next[0] = read.first;
-    Automaton {
-        verdict: Verdict::Fine,
+    Ok(Automaton {
         end: read.at,
         uses: read.uses,
         accepting: accepting_of(read.nullable, read.last),
         next,
         types,
         places,
-    }
+    })
 }

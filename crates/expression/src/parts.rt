@@ -76,19 +76,13 @@ fn part_ends(part: Part, inside: bool) -> u8
 }
 
 // The number that a command gets where a choice ends.
-pub(crate) fn ends(command: Command, inside: bool) -> u8
+pub(crate) fn ends(command: Option<Command>, inside: bool) -> u8
     ensures { result ≡ ending inside command }
 {
     match command {
-        Command::Tags(_) => 3,
-        Command::TypeBlock(_, _) => 3,
-        Command::Final(_) => 3,
-        Command::Step(_, _, _) => 3,
-        Command::Root(_) => 3,
-        Command::Nil => 3,
-        Command::Done => 3,
-        Command::Expression(part) => part_ends(part, inside),
-        Command::NoCommand => 2,
+        None => 2,
+        Some(Command::Expression(part)) => part_ends(part, inside),
+        Some(_) => 3,
     }
 }
 

@@ -2,6 +2,7 @@
 -- since each calls the next at the same place, and `factor` calls `choice` behind a 30.
 use mathlib.Core.Path.{◌≡◌, refl, sym, ap, ◌∙◌}
 use native.Mathlib.Omega.{arith}
+use Rattle.std.specs.Prelude.{Some}
 use Rattle.command.specs.Command.{command_at}
 use Rattle.command.specs.declared.Command.TheVariants.{Expression as AnExpression}
 use Rattle.command.specs.declared.Part.TheVariants.{OpenBracket, Or}
@@ -25,7 +26,7 @@ choice-returns-then-not-goes_on t c =
 
 pub choice-loop-read-preserved : goal.choice-loop-read-preserved
 choice-loop-read-preserved t c =
-    let choice_more : (c.either-read.result.number ≡ 0) × (command_at c.args.file.now c.either-read.result.at ≡ AnExpression Or) = follows_on c.args.file.now c.either-read.result.at c.either-read.result.number c.goes_on.result c.goes_on.ensures (c.if-not-goes_on.false) in
+    let choice_more : (c.either-read.result.number ≡ 0) × (command_at c.args.file.now c.either-read.result.at ≡ Some (AnExpression Or)) = follows_on c.args.file.now c.either-read.result.at c.either-read.result.number c.goes_on.result c.goes_on.ensures (c.if-not-goes_on.false) in
     let e = c.either-read in
     let s = c.sequence-other in
     let l = c.loop-read in
@@ -38,7 +39,7 @@ choice-loop-read-preserved t c =
 
 pub factor-returns-then-depth-ge-BRACKETS : goal.factor-returns-then-depth-ge-BRACKETS
 factor-returns-then-depth-ge-BRACKETS t c =
-    let factor_bracket_there : command_at c.args.file.now c.args.at ≡ AnExpression OpenBracket = is_bracket _ (sym c.opens.ensures ∙ c.in-Bracket.is) in
+    let factor_bracket_there : command_at c.args.file.now c.args.at ≡ Some (AnExpression OpenBracket) = is_bracket _ (sym c.opens.ensures ∙ c.in-Bracket.is) in
     let a = c.args in
     factor_too_deep a.file.now a.at a.depth a.uses (tables a.next.now a.types.now a.places.now) c.refused.result
     factor_bracket_there (omega arith) c.requires c.refused.ensures
@@ -51,7 +52,7 @@ factor-returns-in-OneType t c =
 
 pub factor-returns-else-depth-ge-BRACKETS : goal.factor-returns-else-depth-ge-BRACKETS
 factor-returns-else-depth-ge-BRACKETS t c =
-    let factor_bracket_there : command_at c.args.file.now c.args.at ≡ AnExpression OpenBracket = is_bracket _ (sym c.opens.ensures ∙ c.in-Bracket.is) in
+    let factor_bracket_there : command_at c.args.file.now c.args.at ≡ Some (AnExpression OpenBracket) = is_bracket _ (sym c.opens.ensures ∙ c.in-Bracket.is) in
     let a = c.args in
     factor_bracket a.file.now a.at a.depth a.uses (tables a.next.now a.types.now a.places.now) _ c.choice-inner.result c.closed-read.result _
     c.repeated-in-Bracket.result factor_bracket_there c.if-depth-ge-BRACKETS.false c.choice-inner.ensures c.closed-read.ensures c.repeated-in-Bracket.ensures
