@@ -1,5 +1,5 @@
--- Calls that write a file into a lent buffer: document 02, Req 06, "From here on a call that writes a file answers 0 and the length written, bytes
--- past it unchanged; or a number, alone unless a place is stated, with its output untouched."
+-- Calls that write a file into a lent buffer: "From here on a call that writes a file answers 0 and the length written, bytes past it unchanged; or
+-- a number, alone unless a place is stated, with its output untouched."
 use Rattle.std.specs.Prelude.{List, ◌++◌, ℕ, length, drop, Result, Ok, Err}
 use Rattle.sdtd.specs.Answer.{question_number}
 use Rattle.sdtd.specs.declared.Refused.{Refused as Why}

@@ -1,7 +1,7 @@
 // Tags and types, numbered separately so that neither number stands for the other; and the refusals of files and calls.
 #![tactic(auto)]
 
-ghost use Rattle.std.specs.Prelude.{◌≡◌};
+ghost use Rattle.std.specs.Prelude.{◌≡◌, ◌++◌, Some, codes, decimal};
 ghost use Rattle.sdtd.specs.Answer.{question_number};
 
 use std::fmt;
@@ -67,6 +67,8 @@ pub struct Refusal {
 }
 
 impl fmt::Display for Refusal {
+    ghost output = { λ r. Some (codes "refused " ++ decimal (question_number r.why) ++ codes " at " ++ decimal r.place) };
+
     fn fmt<W: fmt::Write>(&self, f: &mut fmt::Formatter<W>) -> fmt::Result {
         write!(f, "refused {} at {}", self.why.number(), self.place)
     }
