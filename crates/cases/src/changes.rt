@@ -1,7 +1,7 @@
-// What a call or an entry put changed in a reading, written to standard output.
-use crate::show::{long, number, text, wide};
+// What a call or an entry put changed in a reading.
 use reading::{LEVELS, Reading};
-use std::io::Stdout;
+use std::alloc::AllocError;
+use std::fmt::Write;
 
 // A reading of zeros, made here.
 pub(crate) fn blank() -> Reading {
@@ -14,74 +14,44 @@ pub(crate) fn blank() -> Reading {
     }
 }
 
-fn separate(stdout: Stdout, some: bool) {
-    if some {
-        text(stdout, b",");
-    } else {
-        text(stdout, b"(");
+// The levels' types and sets that changed, each after a comma.
+fn show_levels(out: &mut String, before: &Reading, after: &Reading) -> Result<(), AllocError> {
+    for n in 0..LEVELS {
+        let type_no = after.types[n];
+        if type_no != before.types[n] {
+            write!(out, ",t{n}={type_no}")?;
+        }
+        let set = after.sets[n];
+        if set != before.sets[n] {
+            write!(out, ",s{n}={set}")?;
+        }
     }
-}
-
-// The change of one number: its name, for a level its index, and the new value. True where this change, or one before, is shown.
-fn show_number(stdout: Stdout, some: bool, name: &[u8], old: u64, new: u64) -> bool {
-    if old == new {
-        return some;
-    }
-    separate(stdout, some);
-    text(stdout, name);
-    number(stdout, new);
-    true
-}
-
-fn show_entry(stdout: Stdout, some: bool, name: &[u8], n: usize, old: u64, new: u64) -> bool {
-    if old == new {
-        return some;
-    }
-    separate(stdout, some);
-    text(stdout, name);
-    number(stdout, long(n));
-    text(stdout, b"=");
-    number(stdout, new);
-    true
-}
-
-fn flag(yes: bool) -> u64 {
-    if yes { 1 } else { 0 }
-}
-
-fn word(n: u32) -> u64 {
-    n as u64
-}
-
-fn show_level(stdout: Stdout, some: bool, before: Reading, after: Reading, n: usize) -> bool {
-    if LEVELS <= n {
-        return some;
-    }
-    let old = before.types;
-    let new = after.types;
-    let more = show_entry(stdout, some, b"t", n, wide(old[n]), wide(new[n]));
-    let old_sets = before.sets;
-    let new_sets = after.sets;
-    show_entry(stdout, more, b"s", n, word(old_sets[n]), word(new_sets[n]))
-}
-
-fn show_levels(stdout: Stdout, some: bool, before: Reading, after: Reading) -> bool {
-    let mut shown = some;
-    let mut n: usize = 0;
-    while n < LEVELS {
-        shown = show_level(stdout, shown, before, after, n);
-        n += 1;
-    }
-    shown
+    Ok(())
 }
 
 // What the reading after holds and the one before did not: d the depth, r and f for rooted and finished, tN and sN the type and the
 // set of the level of index N, open or not.
-pub(crate) fn show_changes(stdout: Stdout, before: Reading, after: Reading) {
-    let d = show_number(stdout, false, b"d", wide(before.depth), wide(after.depth));
-    let r = show_number(stdout, d, b"r", flag(before.rooted), flag(after.rooted));
-    let f = show_number(stdout, r, b"f", flag(before.finished), flag(after.finished));
-    if show_levels(stdout, f, before, after) {
-        text(stdout, b")");
+pub(crate) fn show_changes(
+    out: &mut String,
+    before: &Reading,
+    after: &Reading,
+) -> Result<(), AllocError> {
+    let mut changes = String::new(*out.allocator());
+    if after.depth != before.depth {
+        let depth = after.depth;
+        write!(changes, ",d{depth}")?;
+    }
+    if after.rooted != before.rooted {
+        let rooted = u8::from(after.rooted);
+        write!(changes, ",r{rooted}")?;
+    }
+    if after.finished != before.finished {
+        let finished = u8::from(after.finished);
+        write!(changes, ",f{finished}")?;
+    }
+    show_levels(&mut changes, before, after)?;
+    match changes.strip_prefix(',') {
+        Some(changes) => write!(out, "({changes})"),
+        None => Ok(()),
     }
 }

@@ -2,114 +2,49 @@
 // `made_up`), as many bytes as the buffer is long, and after them an event file. The line has the schema file's answer; the event file's number and
 // place, with no types' buffer; the types of the open elements; the openings listed, `o` or, as nil, `n` before the tag; `close` and `finish` where
 // they would have been taken; and 0 where every entry past the counts is 0.
-ghost use Rattle.std.specs.Prelude.{◌≤◌, length};
-
+use crate::case::Case;
+use crate::made_up::made_up;
 use crate::schema_files::read_schema;
-use crate::schema_values::value_of;
-use crate::show::{long, next_number, number, show_verdict, text, wide};
-use expected::{Expected, OPENINGS, expect_next};
-use reading::LEVELS;
-use std::io::Stdout;
-
-// So many bytes, or all of them.
-fn cut(bytes: &[u8], n: usize) -> usize
-    ensures { result ≤ length bytes.now }
-{
-    if n < bytes.len() { n } else { bytes.len() }
-}
-
-// An open element's type; false where it is none and not 0.
-fn show_type(stdout: Stdout, used: bool, type_no: u8) -> bool {
-    if used {
-        next_number(stdout, wide(type_no));
-    }
-    used || type_no == 0
-}
+use crate::show::{show_numbers, show_verdict};
+use anyhow::Result;
+use expected::{Expected, expect_next};
+use std::alloc::AllocError;
+use std::fmt::Write;
 
 // The types of the open elements; false where an entry past them is not 0.
-fn show_types(stdout: Stdout, types: [u8; LEVELS], depth: usize) -> bool {
-    let mut rest = true;
-    let mut i = 0;
-    while i < LEVELS {
-        let fine = show_type(stdout, i < depth, types[i]);
-        rest = rest && fine;
-        i += 1;
+fn show_types(out: &mut String, e: &Expected) -> Result<bool, AllocError> {
+    for type_no in e.types.iter().take(e.depth) {
+        write!(out, " {type_no}")?;
     }
-    rest
-}
-
-// An opening that is listed; false where it is none and not 0.
-fn show_opening(stdout: Stdout, used: bool, tag: u8, nil: bool) -> bool {
-    if !used {
-        return tag == 0 && !nil;
-    }
-    if nil {
-        text(stdout, b" n");
-    } else {
-        text(stdout, b" o");
-    }
-    number(stdout, wide(tag));
-    true
+    Ok(e.types.iter().skip(e.depth).all(|type_no| *type_no == 0))
 }
 
 // The openings that are listed; false where an entry past them is not 0.
-fn show_openings(
-    stdout: Stdout,
-    tags: [u8; OPENINGS],
-    nils: [bool; OPENINGS],
-    count: usize,
-) -> bool {
-    let mut rest = true;
-    let mut i = 0;
-    while i < OPENINGS {
-        let fine = show_opening(stdout, i < count, tags[i], nils[i]);
-        rest = rest && fine;
-        i += 1;
+fn show_openings(out: &mut String, e: &Expected) -> Result<bool, AllocError> {
+    for (tag, nil) in e.tags.iter().zip(&e.nils).take(e.count) {
+        let kind = if *nil { "n" } else { "o" };
+        write!(out, " {kind}{tag}")?;
     }
-    rest
+    let tags = e.tags.iter().skip(e.count).all(|tag| *tag == 0);
+    Ok(tags && e.nils.iter().skip(e.count).all(|nil| !*nil))
 }
 
-fn show_ends(stdout: Stdout, closes: bool, finishes: bool) {
-    text(stdout, b" |");
-    if closes {
-        text(stdout, b" close");
-    }
-    if finishes {
-        text(stdout, b" finish");
-    }
+fn show_expected(out: &mut String, e: &Expected) -> Result<(), AllocError> {
+    let (number, place) = (e.number, e.place);
+    write!(out, " | {number} at {place} |")?;
+    let types = show_types(out, e)?;
+    write!(out, " |")?;
+    let openings = show_openings(out, e)?;
+    let close = if e.closes { " close" } else { "" };
+    let finish = if e.finishes { " finish" } else { "" };
+    let rest = if types && openings { "0" } else { "not 0" };
+    writeln!(out, " |{close}{finish} | {rest}")
 }
 
-fn show_rest(stdout: Stdout, rest: bool) {
-    if rest {
-        text(stdout, b" | 0\n");
-    } else {
-        text(stdout, b" | not 0\n");
-    }
-}
-
-fn show_expected(stdout: Stdout, e: Expected) {
-    let types = e.types;
-    let tags = e.tags;
-    let nils = e.nils;
-    text(stdout, b" | ");
-    number(stdout, wide(e.number));
-    text(stdout, b" at");
-    next_number(stdout, long(e.place));
-    text(stdout, b" |");
-    let past_types = show_types(stdout, types, e.depth);
-    text(stdout, b" |");
-    let past_openings = show_openings(stdout, tags, nils, e.count);
-    show_ends(stdout, e.closes, e.finishes);
-    show_rest(stdout, past_types && past_openings);
-}
-
-pub(crate) fn run(stdout: Stdout, file: &[u8], second: &[u8], puts: usize) {
-    let found = read_schema(file);
-    let verdict = found.answer;
-    let n = cut(second, puts);
-    show_verdict(stdout, verdict);
-    show_expected(
-        stdout,
-        expect_next(value_of(file, &second[..n]), &second[n..]),
-    );
+pub(crate) fn run(out: &mut String, case: &Case<'_>) -> Result<()> {
+    let found = read_schema(case.first);
+    let (puts, events) = case.second.split_at(case.room.min(case.second.len()));
+    show_verdict(out, found.answer)?;
+    show_expected(out, &expect_next(made_up(found.schema, puts), events))?;
+    Ok(())
 }

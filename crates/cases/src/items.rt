@@ -1,48 +1,90 @@
-// The items of a list: calls of two bytes, the call and the tag, and entries put, of seven.
-ghost use Rattle.std.specs.Prelude.{◌<◌, ◌≤◌, length};
+// The items of a list: calls of two bytes, the call and the tag, and entries put, of seven: the field, an index of two and the value of four, low
+// byte first. An item cut short ends with zeros.
+ghost use Rattle.std.specs.Prelude.{length};
+ghost use Rattle.std.specs.Iterator.{at_most};
 
-pub(crate) const OPENING: u8 = 0;
+use crate::made_up::Field;
+use sdtd::Tag;
 
-pub(crate) const CLOSING: u8 = 1;
-
-pub(crate) const FINISH: u8 = 2;
-
-pub(crate) const OPENING_LENT: u8 = 3;
-
-pub(crate) const CLOSING_LENT: u8 = 4;
-
-pub(crate) const FINISH_LENT: u8 = 5;
-
-pub(crate) const OPENING_NIL: u8 = 6;
-
-pub(crate) const OPENING_NIL_LENT: u8 = 7;
-
-// The bytes of a call.
-const CALL: usize = 2;
-
-// The bytes of an entry put.
-const PUT: usize = 7;
-
-// Is it the first byte of a call?
-pub(crate) fn is_call(first: u8) -> bool {
-    first <= OPENING_NIL_LENT
+#[derive(Clone, Copy)]
+pub(crate) enum Call {
+    Open,
+    Close,
+    Finish,
+    OpenLent,
+    CloseLent,
+    FinishLent,
+    OpenNil,
+    OpenNilLent,
 }
 
-// The bytes of an item that begins with this byte.
-fn size(first: u8) -> usize
-    ensures { 0 < result }
-{
-    if is_call(first) { CALL } else { PUT }
-}
+impl TryFrom<u8> for Call {
+    type Error = ();
 
-// The place past the item at a place.
-pub(crate) fn past(items: &[u8], at: usize) -> usize
-    requires { at < length items.now }
-    ensures { (at < result) × (result ≤ length items.now) }
-{
-    let n = size(items[at]);
-    if items.len() - at < n {
-        return items.len();
+    fn try_from(first: u8) -> Result<Call, ()> {
+        match first {
+            0 => Ok(Call::Open),
+            1 => Ok(Call::Close),
+            2 => Ok(Call::Finish),
+            3 => Ok(Call::OpenLent),
+            4 => Ok(Call::CloseLent),
+            5 => Ok(Call::FinishLent),
+            6 => Ok(Call::OpenNil),
+            7 => Ok(Call::OpenNilLent),
+            _ => Err(()),
+        }
     }
-    at + n
+}
+
+// An entry put; a byte that names no field puts nothing.
+#[derive(Clone, Copy)]
+pub(crate) struct Put {
+    pub field: Option<Field>,
+    pub index: usize,
+    pub value: u32,
+}
+
+#[derive(Clone, Copy)]
+pub(crate) enum Item {
+    Called(Call, Tag),
+    Given(Put),
+}
+
+// The first bytes of these, with zeros after the last.
+pub(crate) fn padded<const N: usize>(bytes: &[u8]) -> [u8; N] {
+    let mut padded = [0; N];
+    let n = bytes.len().min(N);
+    padded[..n].copy_from_slice(&bytes[..n]);
+    padded
+}
+
+#[derive(Clone, Copy)]
+pub(crate) struct Items<'a> {
+    pub rest: &'a [u8],
+}
+
+impl Iterator for Items<'_> {
+    type Item = Item;
+
+    ghost remaining = { λ items. at_most (length items.rest.now) };
+
+    fn next(&mut self) -> Option<Item> {
+        if self.rest.is_empty() {
+            return None;
+        }
+        let [first, i0, i1, v0, v1, v2, v3] = padded::<7>(self.rest);
+        if let Ok(call) = Call::try_from(first) {
+            self.rest = self.rest.get(2..).unwrap_or(&[]);
+            return Some(Item::Called(call, Tag(i0)));
+        }
+        self.rest = self.rest.get(7..).unwrap_or(&[]);
+        let field = Field::try_from(first).ok();
+        let index = usize::from(u16::from_le_bytes([i0, i1]));
+        let value = u32::from_le_bytes([v0, v1, v2, v3]);
+        Some(Item::Given(Put {
+            field,
+            index,
+            value,
+        }))
+    }
 }

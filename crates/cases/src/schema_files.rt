@@ -1,160 +1,85 @@
 // Kind S: the first string is a schema file, and the buffer takes the witness. The line has the answer; the schema value beside it, with its
 // counts, its roots, for each type its tag, states, accepting states and number of steps and `nil` if it is nillable, and each step, and `rest 0`
 // where every other entry is 0; and the buffer.
-ghost use Rattle.std.specs.Prelude.{◌^◌, ◌<◌};
-
-use crate::buffer::show_witness;
-use crate::show::{next_number, number_of, show_verdict, text, wide};
+use crate::buffer::{lend, show_witness};
+use crate::case::Case;
+use crate::show::{number_of, show_verdict};
+use anyhow::Result;
 use competition::LEAST_WITNESS;
-use schema::{ROOTS, STEPS, Schema, TYPES};
+use schema::{Schema, TYPES};
 use schema_file::{SchemaFile, read};
-use std::io::Stdout;
+use std::alloc::AllocError;
+use std::fmt::Write;
 
 // The schema file's answer, with a witness buffer of its own.
 pub(crate) fn read_schema(file: &[u8]) -> SchemaFile {
-    let mut witness = [0u8; LEAST_WITNESS];
-    read(file, &mut witness)
+    read(file, &mut [0; LEAST_WITNESS])
 }
 
-// A root, or the first entry where there is none; false where it is no root of the schema and not 0.
-fn show_root(stdout: Stdout, used: bool, first: bool, a: u8) -> bool {
-    if used || first {
-        next_number(stdout, wide(a));
+// The roots, or the first entry where there is none; false where an entry past them is not 0, or there are types and no root or roots and no type.
+fn show_roots(out: &mut String, schema: &Schema) -> Result<bool, AllocError> {
+    let roots = usize::from(schema.roots);
+    for a in schema.root.iter().take(roots.max(1)) {
+        write!(out, " {a}")?;
     }
-    used || a == 0
-}
-
-// The roots; false where an entry past them is not 0, or there are types and no root or roots and no type.
-fn show_roots(stdout: Stdout, schema: Schema) -> bool {
-    let root = schema.root;
-    let roots = schema.roots as usize;
-    let mut rest = (roots == 0) == (schema.types == 0);
-    let mut i = 0;
-    while i < ROOTS {
-        let fine = show_root(stdout, i < roots, i == 0, root[i]);
-        rest = rest && fine;
-        i += 1;
-    }
-    rest
-}
-
-// The entries of one type; false where it is no type of the schema and one is not 0.
-fn show_type(
-    stdout: Stdout,
-    used: bool,
-    tag: u8,
-    states: u8,
-    accepting: u32,
-    nillable: bool,
-    steps: u16,
-) -> bool {
-    if used {
-        text(stdout, b";");
-        next_number(stdout, wide(tag));
-        next_number(stdout, wide(states));
-        next_number(stdout, accepting as u64);
-        next_number(stdout, steps as u64);
-        if nillable {
-            text(stdout, b" nil");
-        }
-        return true;
-    }
-    tag == 0 && states == 0 && accepting == 0 && !nillable && steps == 0
+    let rest = schema.root.iter().skip(roots).all(|a| *a == 0);
+    Ok(rest && (roots == 0) == (schema.types == 0))
 }
 
 // The entries of each type; false where one past the types is not 0.
-fn show_types(stdout: Stdout, schema: Schema) -> bool {
-    let tag = schema.tag;
-    let states = schema.states;
-    let accepting = schema.accepting;
-    let nillable = schema.nillable;
-    let steps = schema.steps;
-    let types = schema.types as usize;
+fn show_types(out: &mut String, schema: &Schema) -> Result<bool, AllocError> {
     let mut rest = true;
-    let mut a = 0;
-    while a < TYPES {
-        let fine = show_type(
-            stdout,
-            a < types,
-            tag[a],
-            states[a],
-            accepting[a],
-            nillable[a],
-            steps[a],
-        );
-        rest = rest && fine;
-        a += 1;
+    for a in 0..TYPES {
+        let (tag, states, accepting) = (schema.tag[a], schema.states[a], schema.accepting[a]);
+        let (nillable, steps) = (schema.nillable[a], schema.steps[a]);
+        if a < usize::from(schema.types) {
+            let nil = if nillable { " nil" } else { "" };
+            write!(out, "; {tag} {states} {accepting} {steps}{nil}")?;
+        } else {
+            rest &= tag == 0 && states == 0 && accepting == 0 && !nillable && steps == 0;
+        }
     }
-    rest
-}
-
-// The entries of one step; false where it is no step of the schema and one is not 0.
-fn show_step(stdout: Stdout, used: bool, from: u8, by: u8, to: u8) -> bool {
-    if used {
-        text(stdout, b";");
-        next_number(stdout, wide(from));
-        next_number(stdout, wide(by));
-        next_number(stdout, wide(to));
-        return true;
-    }
-    from == 0 && by == 0 && to == 0
+    Ok(rest)
 }
 
 // The entries of each step; false where one past the steps is not 0.
-fn show_steps(stdout: Stdout, schema: Schema, count: usize) -> bool {
-    let from = schema.from;
-    let by = schema.by;
-    let to = schema.to;
+fn show_steps(out: &mut String, schema: &Schema) -> Result<bool, AllocError> {
+    let count = schema
+        .steps
+        .iter()
+        .fold(0usize, |count, n| count.saturating_add(usize::from(*n)));
+    let steps = schema.from.iter().zip(&schema.by).zip(&schema.to);
     let mut rest = true;
-    let mut i = 0;
-    while i < STEPS {
-        let fine = show_step(stdout, i < count, from[i], by[i], to[i]);
-        rest = rest && fine;
-        i += 1;
+    for (i, ((from, by), to)) in steps.enumerate() {
+        if i < count {
+            write!(out, "; {from} {by} {to}")?;
+        } else {
+            rest &= *from == 0 && *by == 0 && *to == 0;
+        }
     }
-    rest
+    Ok(rest)
 }
 
-fn long_count(n: u16) -> usize
-    ensures { result < 2 ^ 16 }
-{
-    n as usize
-}
-
-// The number of steps in all.
-fn steps_in_all(schema: Schema) -> usize {
-    let steps = schema.steps;
-    let mut count = 0;
-    let mut a = 0;
-    while a < TYPES {
-        count += long_count(steps[a]);
-        a += 1;
-    }
-    count
-}
-
-fn show_schema(stdout: Stdout, schema: Schema) {
-    text(stdout, b" | tags");
-    next_number(stdout, wide(schema.tags));
-    text(stdout, b" types");
-    next_number(stdout, wide(schema.types));
-    text(stdout, b" root");
-    let roots = show_roots(stdout, schema);
-    let types = show_types(stdout, schema);
-    let steps = show_steps(stdout, schema, steps_in_all(schema));
-    if roots && types && steps {
-        text(stdout, b"; rest 0");
+fn show_schema(out: &mut String, schema: &Schema) -> Result<(), AllocError> {
+    let (tags, types) = (schema.tags, schema.types);
+    write!(out, " | tags {tags} types {types} root")?;
+    let roots = show_roots(out, schema)?;
+    let types = show_types(out, schema)?;
+    let steps = show_steps(out, schema)?;
+    let rest = if roots && types && steps {
+        "0"
     } else {
-        text(stdout, b"; rest not 0");
-    }
+        "not 0"
+    };
+    write!(out, "; rest {rest}")
 }
 
-pub(crate) fn run(stdout: Stdout, file: &[u8], out: &mut [u8]) {
-    let found = read(file, out);
-    let answer = found.answer;
-    let schema = found.schema;
-    show_verdict(stdout, answer);
-    show_schema(stdout, schema);
-    show_witness(stdout, number_of(answer), out);
-    text(stdout, b"\n");
+pub(crate) fn run(out: &mut String, case: &Case<'_>) -> Result<()> {
+    let mut lent = lend(*out.allocator(), case.room)?;
+    let found = read(case.first, &mut lent);
+    show_verdict(out, found.answer)?;
+    show_schema(out, &found.schema)?;
+    show_witness(out, number_of(found.answer), &lent)?;
+    writeln!(out)?;
+    Ok(())
 }

@@ -1,38 +1,20 @@
-// Numbers and answers, written to standard output. A write that fails is passed over.
+// Answers and numbers, as the cases' lines show them.
 use sdtd::Verdict;
-use std::io::{Print, Stdout};
+use std::alloc::AllocError;
+use std::fmt::Write;
 
-pub(crate) fn text(stdout: Stdout, words: &[u8]) {
-    let _ = stdout.write_all(words);
+// Each number after a blank.
+pub(crate) fn show_numbers(out: &mut String, numbers: &[u8]) -> Result<(), AllocError> {
+    for n in numbers {
+        write!(out, " {n}")?;
+    }
+    Ok(())
 }
 
-pub(crate) fn number(stdout: Stdout, n: u64) {
-    let _ = stdout.print(n);
-}
-
-// A number after a blank.
-pub(crate) fn next_number(stdout: Stdout, n: u64) {
-    text(stdout, b" ");
-    number(stdout, n);
-}
-
-pub(crate) fn wide(n: u8) -> u64 {
-    n as u64
-}
-
-pub(crate) fn long(n: usize) -> u64 {
-    n as u64
-}
-
-pub(crate) fn show_verdict(stdout: Stdout, verdict: Verdict) {
+pub(crate) fn show_verdict(out: &mut String, verdict: Verdict) -> Result<(), AllocError> {
     match verdict {
-        Verdict::Fine => text(stdout, b"accepted"),
-        Verdict::RefusedAt(n, p) => {
-            text(stdout, b"refused ");
-            number(stdout, wide(n));
-            text(stdout, b" at ");
-            number(stdout, long(p));
-        }
+        Verdict::Fine => write!(out, "accepted"),
+        Verdict::RefusedAt(n, p) => write!(out, "refused {n} at {p}"),
     }
 }
 

@@ -1,57 +1,38 @@
 // Kind P: the first string is two states; the line has the number of their pair. Kind Q: the first string is a set of states, a state, another set
 // and a count; the line has what each call on the set answers, and the two sets that have names.
-use crate::buffer::byte_at;
-use crate::made_up::four;
-use crate::show::{next_number, number, text, wide};
+use crate::case::Case;
+use crate::items::padded;
+use anyhow::Result;
 use pairs::{PairNumber, pair_number};
 use schema::StateSet;
-use std::io::Stdout;
+use std::fmt::Write;
 
-pub(crate) fn run_pair(stdout: Stdout, states: &[u8]) {
-    let p = byte_at(states, 0);
-    let q = byte_at(states, 1);
-    text(stdout, b"pair");
-    next_number(stdout, wide(p));
-    next_number(stdout, wide(q));
-    text(stdout, b":");
-    let found = pair_number(p, q);
-    match found {
-        PairNumber::At(n) => next_number(stdout, n as u64),
-        PairNumber::Outside => text(stdout, b" outside"),
+pub(crate) fn run_pair(out: &mut String, case: &Case<'_>) -> Result<()> {
+    let [p, q] = padded::<2>(case.first);
+    write!(out, "pair {p} {q}:")?;
+    match pair_number(p, q) {
+        PairNumber::At(n) => writeln!(out, " {n}")?,
+        PairNumber::Outside => writeln!(out, " outside")?,
     }
-    text(stdout, b"\n");
+    Ok(())
 }
 
-fn show_answer(stdout: Stdout, yes: bool) {
-    if yes {
-        text(stdout, b" yes");
-    } else {
-        text(stdout, b" no");
-    }
+fn word(yes: bool) -> &'static str {
+    if yes { "yes" } else { "no" }
 }
 
-pub(crate) fn run_set(stdout: Stdout, bytes: &[u8]) {
-    let set = StateSet(four(bytes, 0));
-    let state = byte_at(bytes, 4);
-    let other = StateSet(four(bytes, 5));
-    let count = byte_at(bytes, 9);
-    text(stdout, b"set ");
-    number(stdout, set.0 as u64);
-    text(stdout, b": has");
-    next_number(stdout, wide(state));
-    show_answer(stdout, set.has(state));
-    text(stdout, b", with");
-    next_number(stdout, wide(state));
-    next_number(stdout, set.with(state).0 as u64);
-    text(stdout, b", meets");
-    next_number(stdout, other.0 as u64);
-    show_answer(stdout, set.meets(other));
-    text(stdout, b", below");
-    next_number(stdout, wide(count));
-    show_answer(stdout, set.below(count));
-    text(stdout, b"; none");
-    next_number(stdout, StateSet::NONE.0 as u64);
-    text(stdout, b", start");
-    next_number(stdout, StateSet::START.0 as u64);
-    text(stdout, b"\n");
+pub(crate) fn run_set(out: &mut String, case: &Case<'_>) -> Result<()> {
+    let [s0, s1, s2, s3, state, o0, o1, o2, o3, count] = padded::<10>(case.first);
+    let set = StateSet(u32::from_le_bytes([s0, s1, s2, s3]));
+    let other = StateSet(u32::from_le_bytes([o0, o1, o2, o3]));
+    let has = word(set.has(state));
+    let StateSet(with) = set.with(state);
+    let meets = word(set.meets(other));
+    let below = word(set.below(count));
+    let (StateSet(set), StateSet(other)) = (set, other);
+    write!(out, "set {set}: has {state} {has}, with {state} {with}")?;
+    write!(out, ", meets {other} {meets}, below {count} {below}")?;
+    let (StateSet(none), StateSet(start)) = (StateSet::NONE, StateSet::START);
+    writeln!(out, "; none {none}, start {start}")?;
+    Ok(())
 }

@@ -1,24 +1,22 @@
 // Kind W: the first string is a schema file, and the buffer takes that file without the types that no valid document uses. The line has the refusal's
 // number, 0 where the file is written; its length and as many bytes of the buffer; and whether its other bytes are as they were.
-use crate::buffer::{show_bytes, show_kept};
-use crate::show::{long, next_number, number, text, wide};
+use crate::buffer::{lend, show_kept};
+use crate::case::Case;
+use crate::show::show_numbers;
+use anyhow::Result;
 use schema_writer::write_reduced;
 use sdtd::FileWritten;
-use std::io::Stdout;
+use std::fmt::Write;
 
-fn show_written(stdout: Stdout, answer: u8, length: usize, out: &[u8]) {
-    number(stdout, wide(answer));
-    text(stdout, b" |");
-    next_number(stdout, long(length));
-    show_bytes(stdout, out, 0, length);
-    show_kept(stdout, out, length);
-    text(stdout, b"\n");
-}
-
-pub(crate) fn run(stdout: Stdout, file: &[u8], out: &mut [u8]) {
-    let written = write_reduced(file, out);
-    match written {
-        FileWritten::Length(length) => show_written(stdout, 0, length, out),
-        FileWritten::Refused(answer) => show_written(stdout, answer, 0, out),
-    }
+pub(crate) fn run(out: &mut String, case: &Case<'_>) -> Result<()> {
+    let mut lent = lend(*out.allocator(), case.room)?;
+    let (number, length) = match write_reduced(case.first, &mut lent) {
+        FileWritten::Length(length) => (0, length),
+        FileWritten::Refused(number) => (number, 0),
+    };
+    write!(out, "{number} | {length}")?;
+    show_numbers(out, &lent[..length.min(lent.len())])?;
+    show_kept(out, &lent, length)?;
+    writeln!(out)?;
+    Ok(())
 }
