@@ -1,16 +1,17 @@
 -- A command that stands at a place of a file has its bytes there.
 use mathlib.Core.Path.{◌≡◌, refl, ap, subst, ◌∙◌}
 use mathlib.Core.Bool.{cond}
+use Rattle.std.specs.Prelude.{Option, Some, None}
 use mathlib.Core.List.{List, [], ◌∷◌, ◌++◌}
 use Prim.Native.Nat.{ℕ, zero, suc, ◌+◌, ◌≤◌, ◌<◌}
 use native.Mathlib.Omega.{arith}
-use lib.Dec.{T, eqb, leb, leb→le, eqb→eq}
+use lib.Dec.{eqb, leb, leb→le, eqb→eq}
 use lib.ListN.{length, get_or, drop}
 use Rattle.sdtd.specs.Numbered.{tag_no, type_no}
 use Rattle.sdtd.proofs.Basics.{cond_either}
-use Rattle.command.specs.Command.{is_command, bytes_of, size, added_command, command_of, command_at}
+use Rattle.command.specs.Command.{bytes_of, size, added_command, command_of, command_at}
 use Rattle.command.specs.declared.Command.{Command}
-use Rattle.command.specs.declared.Command.TheVariants.{Tags, TypeBlock, Final, Step, Root, Nil, Done, Expression, NoCommand}
+use Rattle.command.specs.declared.Command.TheVariants.{Tags, TypeBlock, Final, Step, Root, Nil, Done, Expression}
 use Rattle.command.specs.declared.Part.TheVariants.{OpenBracket, CloseBracket, Use, Or, Repeat, End}
 
 -- the list from a place inside it on
@@ -21,13 +22,17 @@ drop_more (x ∷ xs) (suc i) d l =
     let e : suc i + 1 ≡ suc (i + 1) = omega arith in
     rw e (drop_more xs i d (omega arith))
 
--- the command's bytes stand from the place i on
-record BytesAt (file : List ℕ) (i : ℕ) (c : Command) : Type 0 where
-  bytes : T (is_command c) → drop i file ≡ bytes_of c ++ drop (i + size c) file
+-- the bytes of the command, if there is one, stand from the place i on
+abbrev OwnBytes : List ℕ → ℕ → Option Command → Type 0
+OwnBytes file i None = Unit
+OwnBytes file i (Some c) = drop i file ≡ bytes_of c ++ drop (i + size c) file
+
+record BytesAt (file : List ℕ) (i : ℕ) (k : Option Command) : Type 0 where
+  bytes : OwnBytes file i k
 
 module _ (file : List ℕ) (i : ℕ) where
-  none : BytesAt file i NoCommand
-  none = record { bytes = λ k. absurd k }
+  none : BytesAt file i None
+  none = record { bytes = tt }
 
   -- the bytes of one to four
   one : i + 1 ≤ length file → drop i file ≡ get_or file i 0 ∷ drop (i + 1) file
@@ -51,11 +56,11 @@ module _ (file : List ℕ) (i : ℕ) where
     of_four l = of_three (omega arith) ∙ ap (λ (x : List ℕ). b ∷ get_or file (i + 1) 0 ∷ get_or file (i + 2) 0 ∷ x) (next 3 (omega arith))
 
   whole : (c : Command) → (i + size c ≤ length file → drop i file ≡ bytes_of c ++ drop (i + size c) file)
-      → BytesAt file i (cond (leb (i + size c) (length file)) c NoCommand)
+      → BytesAt file i (cond (leb (i + size c) (length file)) (Some c) None)
   whole c h =
-      cond_either (BytesAt file i) (leb (i + size c) (length file)) (λ t. record { bytes = λ k. h (leb→le (i + size c) (length file) t) }) (λ n. none)
+      cond_either (BytesAt file i) (leb (i + size c) (length file)) (λ t. record { bytes = h (leb→le (i + size c) (length file) t) }) (λ n. none)
 
-  by_byte : (b : ℕ) {c d : Command} → (get_or file i 0 ≡ b → BytesAt file i c) → BytesAt file i d → BytesAt file i (cond (eqb (get_or file i 0) b) c d)
+  by_byte : (b : ℕ) {c d : Option Command} → (get_or file i 0 ≡ b → BytesAt file i c) → BytesAt file i d → BytesAt file i (cond (eqb (get_or file i 0) b) c d)
   by_byte b f r = cond_either (BytesAt file i) (eqb (get_or file i 0) b) (λ t. f (eqb→eq (get_or file i 0) b t)) (λ n. r)
 
   of_added : BytesAt file i (added_command file i (get_or file i 0))
@@ -80,7 +85,6 @@ module _ (file : List ℕ) (i : ℕ) where
       (by_byte 0x1f (λ e. whole Done (of_one 0x1f e)) of_added)))))
 
 -- What is left of the file from a command's place on begins with the command's bytes.
-pub command_bytes : (file : List ℕ) (i : ℕ) {c : Command} → command_at file i ≡ c → T (is_command c) → drop i file ≡ bytes_of c ++ drop (i + size c) file
-command_bytes file i e k =
-    (subst (BytesAt file i) e
-    (cond_either (BytesAt file i) (leb (i + 1) (length file)) (λ t. of_command file i) (λ n. none file i))).bytes k
+pub command_bytes : (file : List ℕ) (i : ℕ) {c : Command} → command_at file i ≡ Some c → drop i file ≡ bytes_of c ++ drop (i + size c) file
+command_bytes file i e =
+    (subst (BytesAt file i) e (cond_either (BytesAt file i) (leb (i + 1) (length file)) (λ t. of_command file i) (λ n. none file i))).bytes

@@ -3,6 +3,10 @@ use mathlib.Core.Path.{◌≡◌, refl, sym, ap, ◌∙◌}
 use mathlib.Core.List.{List, [], ◌∷◌, map}
 use Prim.Native.Nat.{ℕ, zero, suc, ◌+◌, ◌%◌, ◌≤◌, ◌<◌, pred}
 use native.Mathlib.Omega.{arith}
+use Rattle.std.specs.Prelude.{Ok, Err}
+use Rattle.sdtd.specs.Answer.{question_number}
+use Rattle.sdtd.specs.declared.Refusal.{Refusal}
+use Rattle.sdtd.proofs.Verdicts.{refused_not_fine}
 use lib.ListN.{length, length-map, get_or, replicate, length-replicate}
 use Rattle.sdtd.specs.Limits.{most_types, most_states}
 use Rattle.schema.specs.Value.{up_from}
@@ -12,7 +16,7 @@ use Rattle.expression.specs.Expression.{Expression as Exp}
 use Rattle.expression.specs.Automaton.{uses, type_of_use}
 use Rattle.expression.specs.Tests.{leads, all_steps}
 use Rattle.expression.specs.Content.{Name, Content, broken, whole, content_at}
-use Rattle.expression.specs.Answer.{set_of, of_uses, no_automaton, automaton_read, ContentMeans}
+use Rattle.expression.specs.Answer.{set_of, of_uses, automaton_read, ContentMeans}
 use Rattle.expression.specs.declared.content.Automaton.{Automaton}
 use Rattle.expression.proofs.UseTypes.{named-uses}
 use Rattle.expression.proofs.WholeContents.{types_of, TypesBelow, WholeContent, whole_content}
@@ -78,18 +82,34 @@ module _ {file : List ℕ} {i : ℕ} {e : Exp} {ns : List Name} {p : ℕ} (w : W
       laid_all e (of_uses (types_of ns)) few types_told (map (λ q. set_of (leads e q) most_states) (up_from 0 most_states))
       (λ q l. let z : 0 + q ≡ q = omega arith in rw z at (map_up (λ q. set_of (leads e q) most_states) 0 0 most_states q l))
 
--- What is known of the automaton that was read: there is none, with its refusal; or it is an expression's.
-pub data Found (file : List ℕ) (i : ℕ) (r : Automaton) : Type 0 where
-  refused : (n p : ℕ) → content_at file i ≡ broken n p → r ≡ no_automaton n p → Found file i r
-  taken : (e : Exp) (ns : List Name) (p : ℕ) → content_at file i ≡ whole e ns p → r ≡ automaton_read e ns p → Found file i r
+-- The automaton that was read is an expression's.
+pub record Found (file : List ℕ) (i : ℕ) (a : Automaton) : Type 0 where
+  pub expression : Exp
+  pub names : List Name
+  pub end : ℕ
+  pub content : content_at file i ≡ whole expression names end
+  pub same : a ≡ automaton_read expression names end
 
-pub found : (file : List ℕ) (i : ℕ) (r : Automaton) → ContentMeans (content_at file i) r → Found file i r
-found file i r m = go (content_at file i) refl m
+pub found : (file : List ℕ) (i : ℕ) (a : Automaton) → ContentMeans (content_at file i) (Ok a) → Found file i a
+found file i a m = go (content_at file i) refl m
   where
-    go : (k : Content) → content_at file i ≡ k → ContentMeans k r → Found file i r
-    go (broken n p) e h = refused n p e h
-    go (whole e ns p) q h = taken e ns p q h
+    go : (k : Content) → content_at file i ≡ k → ContentMeans k (Ok a) → Found file i a
+    go (broken n p) e h = refused_not_fine {n = n} {p = p} h refl
+    go (whole e ns p) q h =
+        let s : a ≡ automaton_read e ns p = cc in
+        record { expression = e; names = ns; end = p; content = q; same = s }
 
-pub uses_few : {file : List ℕ} {i : ℕ} {r : Automaton} → Found file i r → r.uses < most_states
-uses_few (refused n p e h) = rw h (omega arith)
-uses_few {file} {i} (taken e ns p q h) = rw h (few (whole_content file i q))
+-- or there is none, with its refusal
+pub not_found : (file : List ℕ) (i : ℕ) (e : Refusal) → ContentMeans (content_at file i) (Err e)
+    → content_at file i ≡ broken (question_number e.why) e.place
+not_found file i e m = go (content_at file i) refl m
+  where
+    go : (k : Content) → content_at file i ≡ k → ContentMeans k (Err e) → content_at file i ≡ broken (question_number e.why) e.place
+    go (broken n p) q h =
+        let x : question_number e.why ≡ n = cc in
+        let y : e.place ≡ p = cc in
+        rw (q, x, y)
+    go (whole x ns p) q h = cc
+
+pub uses_few : {file : List ℕ} {i : ℕ} {a : Automaton} → Found file i a → a.uses < most_states
+uses_few {file} {i} f = rw f.same (few (whole_content file i f.content))

@@ -13,9 +13,12 @@ use Rattle.schema.proofs.PuttingLaws.{put_long, put_before, put_past}
 use Rattle.expression.specs.Expression.{Expression as Exp}
 use Rattle.expression.specs.Automaton.{uses}
 use Rattle.expression.specs.Tests.{accepts, all_steps}
+use Rattle.expression.specs.Content.{Name}
 use Rattle.expression.specs.Answer.{set_of}
 use Rattle.commands.specs.File.{Draft, current, step_count, with_automaton, in_current}
 use Rattle.commands.specs.Value.{EmptyFrom}
+use Rattle.commands.specs.Building.{built_with}
+use Rattle.commands.specs.declared.builder.Builder.{Builder}
 use Rattle.commands.proofs.SchemaTables.{SchemaTables}
 use Rattle.commands.proofs.Holding.{StepsHold, DraftHolds, BlocksHold, Sized, EmptyPast}
 use Rattle.commands.proofs.TableLaws.{Below, steps_below, blocks_below, set_below, set_empty}
@@ -49,6 +52,10 @@ with_parts t a states accepting count =
 -- the tables with the automaton of the type a, its steps from the place n on
 abbrev pub tables_with : SchemaTables → ℕ → ℕ → Exp → SchemaTables
 tables_with t a n e = with_steps (with_parts t a (suc (uses e)) (set_of (accepts e) most_states) (length (all_steps e))) n (all_steps e)
+
+-- what is built after the expression
+abbrev pub built_from : Builder → Exp → List Name → Builder
+built_from s e ns = built_with s (suc (uses e)) (set_of (accepts e) most_states) (all_steps e) ns
 
 -- the steps are as many more
 pub automaton_total : (e : Exp) (ds : List Draft) {n : ℕ} → (current ds).steps ≡ [] → 0 < length ds → n ≡ step_count ds

@@ -1,44 +1,19 @@
--- What the progress and the tables hold of the commands so far, while they are passed one after another.
+-- What is built holds of the commands so far, while they are passed one after another.
 use mathlib.Core.Path.{◌≡◌}
-use mathlib.Core.Bool.{◌||◌}
 use mathlib.Core.List.{List, [], ◌∷◌}
 use Prim.Native.Nat.{ℕ, ◌+◌, ◌≤◌, ◌<◌}
 use lib.ListN.{length, get_or}
 use Rattle.sdtd.specs.Limits.{most_types, most_steps}
 use Rattle.schema.specs.Value.{step_at}
-use Rattle.command.specs.declared.Command.{Command}
 use Rattle.commands.specs.Questions.{rank}
 use Rattle.sdtd.specs.Schema.{Step}
 use Rattle.commands.specs.File.{Draft, Stated, current, step_count}
 use Rattle.commands.specs.Value.{EmptyFrom}
-use Rattle.commands.specs.Progress.{seen_by, last_type, given_already, root_given, nil_given, tag_after, states_after, accepting_after}
-use Rattle.commands.proofs.SchemaTables.{SchemaTables}
+use Rattle.commands.proofs.SchemaTables.{SchemaTables, tables_of}
 use Rattle.commands.proofs.RootTables.{RootTable}
 use Rattle.commands.proofs.NilTables.{NilTable}
-use Rattle.commands.specs.Progress.{counts_after, from_after, by_after, to_after}
-use Rattle.commands.specs.declared.progress.Phase.TheVariants.{InBlock, InExpression}
-use Rattle.commands.specs.declared.progress.Progress.{Progress}
-use Rattle.commands.specs.declared.questions.Seen.{Seen}
-
--- what is seen of the file by the progress and the tables
-abbrev pub seen_in : Progress → SchemaTables → Command → Seen
-seen_in s t c =
-    let a = last_type s.types in
-    seen_by s (get_or t.states a 0) (record { 0 = get_or t.accepting a 0 })
-    (given_already t.from t.by t.to s.steps (get_or t.counts a 0) c || (root_given s c || nil_given s c))
-
--- the tables after a command that passed its questions
-abbrev pub tables_after : Progress → SchemaTables → Command → SchemaTables
-tables_after s t c =
-    record {
-      tag = tag_after s.types t.tag c;
-      states = states_after s.types t.states c;
-      accepting = accepting_after s.types t.accepting c;
-      counts = counts_after s.types t.counts c;
-      from = from_after s.steps t.from c;
-      by = by_after s.steps t.by c;
-      to = to_after s.steps t.to c;
-    }
+use Rattle.commands.specs.declared.phase.Phase.TheVariants.{InBlock, InExpression}
+use Rattle.commands.specs.declared.builder.Builder.{Builder}
 
 -- the steps of a block, the last first, stand from the place s of the tables on
 abbrev pub StepsHold : SchemaTables → List Step → ℕ → Type 0
@@ -79,19 +54,19 @@ pub record EmptyPast (t : SchemaTables) (a n : ℕ) : Type 0 where
   pub by : EmptyFrom n t.by
   pub to : EmptyFrom n t.to
 
--- The progress and the tables hold what is stated.
-pub record Holds (g : Stated) (s : Progress) (t : SchemaTables) : Type 0 where
-  pub sized : Sized t
+-- What is built holds what is stated.
+pub record Holds (g : Stated) (s : Builder) : Type 0 where
+  pub sized : Sized (tables_of s.schema)
   pub phase : s.phase ≡ g.phase
-  pub tags : s.tags ≡ g.tags
-  pub roots : s.roots ≡ length g.roots
-  pub root : RootTable s.root g.roots
-  pub nillable : NilTable s.nillable g.blocks
-  pub types : s.types ≡ length g.blocks
+  pub tags : s.schema.tags ≡ g.tags
+  pub roots : s.schema.roots ≡ length g.roots
+  pub root : RootTable s.schema.root g.roots
+  pub nillable : NilTable s.schema.nillable g.blocks
+  pub types : s.schema.types ≡ length g.blocks
   pub steps : s.steps ≡ step_count g.blocks
-  pub types_most : s.types ≤ most_types
+  pub types_most : s.schema.types ≤ most_types
   pub steps_most : s.steps ≤ most_steps
-  pub some : rank InBlock ≤ rank g.phase → 0 < s.types
+  pub some : rank InBlock ≤ rank g.phase → 0 < s.schema.types
   pub fresh : rank g.phase ≡ rank InExpression → (current g.blocks).steps ≡ []
-  pub blocks : BlocksHold t g.blocks
-  pub empty : EmptyPast t s.types s.steps
+  pub blocks : BlocksHold (tables_of s.schema) g.blocks
+  pub empty : EmptyPast (tables_of s.schema) s.schema.types s.steps

@@ -2,14 +2,14 @@
 use mathlib.Core.Path.{◌≡◌, refl, sym, ap, ◌∙◌}
 use mathlib.Core.Bool.{cond}
 use mathlib.Core.List.{List, [], ◌∷◌, ◌++◌, map-append}
-use Prim.Native.Nat.{ℕ, zero, suc, ◌+◌, ◌-◌, ◌%◌, ◌^◌, ◌≤◌, ◌<◌, min, max}
+use Prim.Native.Nat.{ℕ, zero, suc, ◌+◌, ◌-◌, ◌^◌, ◌≤◌, ◌<◌}
 use native.Mathlib.Decide.{ℕ_discrete}
 use native.Mathlib.Numerals.{add-one}
 use native.Mathlib.Omega.{arith}
 use lib.Bits.{bit_and}
 use lib.Count.{count_trailing_zeros}
 use lib.ListN.{length, length-append, get_or, set}
-use Rattle.sdtd.specs.Limits.{most_types, most_steps}
+use Rattle.sdtd.specs.Limits.{most_steps}
 use Rattle.sdtd.specs.Schema.{Step}
 use Rattle.sdtd.proofs.Basics.{is_true}
 use Rattle.schema.specs.States.{member}
@@ -18,8 +18,9 @@ use Rattle.schema.proofs.PuttingLaws.{put_append}
 use Rattle.sdtd.specs.Lists.{of_each}
 use Rattle.sdtd.proofs.EachLaws.{each_none, each_same}
 use Rattle.expression.proofs.SetLaws.{member_zero, smallest_member, none_smaller, smallest_out, without_own, without_other}
+use Rattle.commands.specs.declared.builder.Builder.{Builder}
 use Rattle.commands.specs.Laying.{of_members, PutAs, LaidAs, names_from}
-use Rattle.commands.specs.Progress.{places_with, bound_with}
+use Rattle.commands.specs.Building.{places_with, bound_with, named, all_named}
 
 -- nothing is put
 pub put_nothing : {n : ℕ} {t : List ℕ} → n ≤ most_steps + 1 → PutAs [] n t t n
@@ -50,20 +51,23 @@ pub put_past_all : (x n : ℕ) {t : List ℕ} → most_steps ≤ n → PutAs (x 
 put_past_all x n l = record { count = omega arith; put = λ h. absurd (omega arith) }
 
 -- of steps
-pub laid_nothing : {n : ℕ} {from by to : List ℕ} → n ≤ most_steps + 1 → LaidAs [] n from by to from by to n
-laid_nothing l = record { sources = put_nothing l; types = put_nothing l; targets = put_nothing l }
+pub laid_nothing : (s : Builder) → s.steps ≤ most_steps + 1 → LaidAs [] s s
+laid_nothing s l = record { sources = put_nothing l; types = put_nothing l; targets = put_nothing l; others = refl }
 
-pub laid_both : (xs ys : List Step) {n : ℕ} {from by to from' by' to' from'' by'' to'' : List ℕ} {r r' : ℕ}
-    → LaidAs xs n from by to from' by' to' r → LaidAs ys r from' by' to' from'' by'' to'' r' → LaidAs (xs ++ ys) n from by to from'' by'' to'' r'
-laid_both xs ys h k =
+pub laid_both : (xs ys : List Step) {s s' s'' : Builder} → LaidAs xs s s' → LaidAs ys s' s'' → LaidAs (xs ++ ys) s s''
+laid_both xs ys {s} {s'} {s''} h k =
     record {
       sources = rw (map-append (λ (x : Step). x.from) xs ys) (put_both _ _ h.sources k.sources);
       types = rw (map-append (λ (x : Step). x.by) xs ys) (put_both _ _ h.types k.types);
       targets = rw (map-append (λ (x : Step). x.to) xs ys) (put_both _ _ h.targets k.targets);
+      others =
+          k.others
+          ∙ ap (λ (r : Builder). record r { steps = s''.steps; schema = record (r.schema) { from = s''.schema.from; by = s''.schema.by; to = s''.schema.to } })
+          h.others;
     }
 
--- the place behind what is put is at most one past the last
-pub laid_most : (xs : List Step) {n : ℕ} {from by to from' by' to' : List ℕ} {r : ℕ} → LaidAs xs n from by to from' by' to' r → r ≤ most_steps + 1
+-- the number of steps is at most one past the last
+pub laid_most : (xs : List Step) {s s' : Builder} → LaidAs xs s s' → s'.steps ≤ most_steps + 1
 laid_most xs h = omega (arith, h.sources.count)
 
 -- what is made of the first number of which anything is made, and of the others
@@ -98,14 +102,8 @@ module _ (n q : ℕ) (more : q ≤ n) where
   left : n + 1 - q ≡ suc (n + 1 - (q + 1))
   left = omega arith
 
-  pub places_next : (types given places : List ℕ) → let j = get_or types q 0 % most_types in
-      places_with (names_from types given (q + 1) (n + 1 - (q + 1))) (set places j (min (get_or places j 0) (get_or given q 0)))
-      ≡ places_with (names_from types given q (n + 1 - q)) places
-  unfolding places_with names_from
-  places_next types given places = rw (left, add-one q)
-
-  pub bound_next : (types given : List ℕ) (bound : ℕ)
-      → bound_with (names_from types given (q + 1) (n + 1 - (q + 1))) (max bound (get_or types q 0 % most_types + 1))
-      ≡ bound_with (names_from types given q (n + 1 - q)) bound
-  unfolding bound_with names_from
-  bound_next types given bound = rw (left, add-one q)
+  pub names_next : (types given : List ℕ) (s : Builder)
+      → all_named (named s (get_or types q 0) (get_or given q 0)) (names_from types given (q + 1) (n + 1 - (q + 1)))
+      ≡ all_named s (names_from types given q (n + 1 - q))
+  unfolding places_with bound_with names_from
+  names_next types given s = rw (left, add-one q)

@@ -2,6 +2,7 @@
 use mathlib.Core.Path.{◌≡◌, refl, sym, ap, subst, ◌∙◌}
 use mathlib.Core.Logic.{◌↔◌, inl, inr, ⊎_elim}
 use mathlib.Core.Bool.{Bool, true, false, cond}
+use Rattle.std.specs.Prelude.{Some}
 use mathlib.Core.List.{List, [], ◌∷◌, ◌++◌, map, reverse, reverse_aux, map-append, append_assoc}
 use mathlib.Core.List.Memᴰ
 use mathlib.Core.List.{Memᴰ}
@@ -25,8 +26,7 @@ use Rattle.expression.specs.Content.{Name}
 use Rattle.expression.proofs.WholeContents.{types_of}
 use Rattle.commands.specs.Questions.{failed}
 use Rattle.commands.specs.File.{Draft, Stated, step_count, seen_of, with_step, after}
-use Rattle.commands.specs.declared.progress.Phase.TheVariants.{InBlock}
-use Rattle.commands.proofs.Passing.{passed_command}
+use Rattle.commands.specs.declared.phase.Phase.TheVariants.{InBlock}
 use Rattle.commands.proofs.StatedLimits.{Each, each_more}
 use Rattle.commands.proofs.Passes.{pass_final, pass_step, has_step_says}
 use Rattle.commands.proofs.Traces.{opens_expression}
@@ -34,7 +34,7 @@ use Rattle.commands.proofs.LeftCommands.{typed}
 
 -- A property of a place and of what is stated there, that holds before a command where it holds after it.
 pub record Backward (F : List ℕ) (R : ℕ → Stated → Type 0) : Type 0 where
-  pub one : (k : ℕ) (h : Stated) (c : Command) → command_at F k ≡ c → failed (seen_of h c) c ≡ 0 → opens_expression c ≡ false
+  pub one : (k : ℕ) (h : Stated) (c : Command) → command_at F k ≡ Some c → failed (seen_of h c) c ≡ 0 → opens_expression c ≡ false
       → R (k + size c) (after h k c) → R k h
 
 -- in the block d, after the blocks of h
@@ -108,7 +108,7 @@ module _ {F : List ℕ} {R : ℕ → Stated → Type 0} (back : Backward F R) wh
       → F ≡ before ++ (bytes_of c ++ rest)
       → ((before' : List ℕ) → F ≡ before' ++ rest → R (length before') (after h (length before) c)) → R (length before) h
   write_command h c before rest z o e then =
-      back.one (length before) h c (read_back before rest c (passed_command h c z) e) z o
+      back.one (length before) h c (read_back before rest c e) z o
       (subst (λ (k : ℕ). R k (after h (length before) c)) (length-append before (bytes_of c))
       (then (before ++ bytes_of c) (e ∙ sym (append_assoc before (bytes_of c) rest))))
 

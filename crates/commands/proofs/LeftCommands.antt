@@ -22,8 +22,8 @@ use Rattle.expression.specs.Content.{Name}
 use Rattle.expression.proofs.WholeContents.{types_of}
 use Rattle.commands.specs.Questions.{rank, in_type_block, failed}
 use Rattle.commands.specs.File.{Draft, Stated, current, has_step, has_root, seen_of, with_final, with_step, with_nil, in_current, after}
-use Rattle.commands.specs.declared.progress.Phase.{Phase}
-use Rattle.commands.specs.declared.progress.Phase.TheVariants.{BeforeTypes, InBlock, AfterExpression}
+use Rattle.commands.specs.declared.phase.Phase.{Phase}
+use Rattle.commands.specs.declared.phase.Phase.TheVariants.{BeforeTypes, InBlock, AfterExpression}
 use Rattle.commands.proofs.Passing.{passed}
 use Rattle.commands.proofs.RootTables.{has_says, has_passes}
 use Rattle.commands.proofs.TableLaws.{same_count}

@@ -33,7 +33,7 @@ use Rattle.expression.proofs.RelabelledAutomata.{uses_relabelled, accepting_rela
 use Rattle.expression.proofs.WholeContents.{types_of}
 use Rattle.commands.specs.Questions.{rank, failed}
 use Rattle.commands.specs.File.{Draft, Stated, step_count, seen_of, after, with_automaton, after_expression}
-use Rattle.commands.specs.declared.progress.Phase.TheVariants.{InBlock, AfterExpression}
+use Rattle.commands.specs.declared.phase.Phase.TheVariants.{InBlock, AfterExpression}
 use Rattle.commands.proofs.Passing.{passed}
 use Rattle.commands.proofs.StatedLimits.{Each, mem-reverse}
 use Rattle.commands.proofs.LeftDrafts.{unplaced, draft_left, none_left, step_kept, step_dropped, steps_fewer, steps_turned, left_steps}

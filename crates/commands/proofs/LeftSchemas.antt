@@ -16,7 +16,7 @@ use Rattle.expression.specs.Content.{Name}
 use Rattle.expression.proofs.WholeContents.{types_of}
 use Rattle.commands.specs.Questions.{rank}
 use Rattle.commands.specs.File.{Stated, nothing_stated, after, schema_by, unknown_in, unknown}
-use Rattle.commands.specs.declared.progress.Phase.TheVariants.{AfterDone}
+use Rattle.commands.specs.declared.phase.Phase.TheVariants.{AfterDone}
 use Rattle.commands.proofs.Passing.{passed}
 use Rattle.commands.proofs.Runs.{not_done}
 use Rattle.commands.proofs.StatedLimits.{Each, each_none, mem-reverse}

@@ -9,8 +9,8 @@ use lib.Dec.{T, eqb}
 use lib.ListN.{length}
 use Rattle.commands.specs.Questions.{rank, same_phase, in_type_block}
 use Rattle.commands.specs.File.{Stated}
-use Rattle.commands.specs.declared.progress.Phase.{Phase}
-use Rattle.commands.specs.declared.progress.Phase.TheVariants.{BeforeTypes, InBlock, AfterExpression, AfterRoot, AfterDone}
+use Rattle.commands.specs.declared.phase.Phase.{Phase}
+use Rattle.commands.specs.declared.phase.Phase.TheVariants.{BeforeTypes, InBlock, AfterExpression, AfterRoot, AfterDone}
 use Rattle.commands.proofs.Passes.{or_left, or_right, eq_test}
 
 -- The old file is in a block or after a ROOT, and no ROOT is kept yet.

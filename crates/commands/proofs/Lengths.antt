@@ -1,12 +1,12 @@
 -- A file with one ROOT and only old commands, which all pass, has at most 8,389 bytes.
 use mathlib.Core.Path.{◌≡◌, refl, sym, ap, subst, ◌∙◌}
-use mathlib.Core.Logic.{◌⊎◌, inl, inr, ⊎_elim, ◌≢◌}
+use mathlib.Core.Logic.{inl, inr, ◌≢◌}
 use mathlib.Core.Bool.{cond}
+use Rattle.std.specs.Prelude.{Option, Some, None}
 use mathlib.Core.List.Memᴰ
 use mathlib.Core.List.{List, [], ◌∷◌, ◌++◌, append-nil, append_assoc, Memᴰ}
 use Prim.Native.Nat.{ℕ, ◌+◌, ◌-◌, ◌*◌, ◌^◌, ◌≤◌, ◌<◌, min}
 use native.Mathlib.Omega.{arith}
-use borrow.Author.Tests.{lt-leb}
 use lib.Dec.{T, eqb}
 use lib.ListN.{length}
 use Rattle.sdtd.specs.Schema.{step}
@@ -14,30 +14,19 @@ use Rattle.sdtd.specs.Schema.{Step as StepOf}
 use Rattle.schema.specs.States.{member, insert, members, no_states}
 use Rattle.schema.proofs.Bits.{insert_below, member-insert, members_most, absent, absent_falls}
 use Rattle.command.specs.Cases.{on_root}
-use Rattle.command.specs.Command.{is_command, is_old, bytes_of, file_of, size, command_at}
+use Rattle.command.specs.Command.{is_old, bytes_of, file_of, size, command_at}
 use Rattle.command.proofs.CommandLaws.{file_append, length_more, read_back}
+use Rattle.expression.proofs.CommandTests.{command_past}
 use Rattle.expression.proofs.WholeContents.{first_command}
 use Rattle.sdtd.specs.Limits.{most_states}
 use Rattle.commands.specs.Questions.{rank}
-use Rattle.commands.specs.declared.progress.Phase.TheVariants.{BeforeTypes, InBlock, InExpression, AfterRoot}
+use Rattle.commands.specs.declared.phase.Phase.TheVariants.{BeforeTypes, InBlock, InExpression, AfterRoot}
 use Rattle.commands.specs.File.{Draft, Stated, current, step_count, with_final, with_step, in_current, after, states, commands, root_count}
 use Rattle.commands.specs.File.{OldWithOneRoot, most_bytes}
 use Rattle.command.specs.declared.Command.{Command}
-use Rattle.command.specs.declared.Command.TheVariants.{Tags, TypeBlock, Final, Step, Root, Nil, Done, Expression, NoCommand}
+use Rattle.command.specs.declared.Command.TheVariants.{Tags, TypeBlock, Final, Step, Root, Nil, Done, Expression}
 use Rattle.commands.proofs.Passing.{Passed, Kept, kept_to_end}
 use Rattle.commands.proofs.StatedLimits.{Each, DraftWithin, StatedWithin, nothing_within, type_phase, within_kept}
-
--- an old command is one
-old_command : (c : Command) → T (is_old c) → T (is_command c)
-old_command (Tags n) t = tt
-old_command (TypeBlock g s) t = tt
-old_command (Final q) t = tt
-old_command (Step p j q) t = tt
-old_command (Root a) t = tt
-old_command Nil t = absurd t
-old_command Done t = tt
-old_command (Expression x) t = tt
-old_command NoCommand t = t
 
 -- a new state makes a set longer
 more_members : (q x : ℕ) → q < most_states → x < 2 ^ most_states → ¬ T (member q x) → length (members x) < length (members (insert q x))
@@ -111,11 +100,6 @@ counted i g (Root a) old p h l = omega arith
 counted i g Nil old p h l = absurd old
 counted i g Done old p h l = omega arith
 counted i g (Expression x) old p h l = absurd p
-counted i g NoCommand old p h l = absurd p
-
--- where no command is left there is none
-none_at_end : (file : List ℕ) (i : ℕ) → length file ≤ i → command_at file i ≡ NoCommand
-none_at_end file i l = rw (lt-leb (i + 1) (length file) (omega arith))
 
 -- a ROOT that passes its questions is one root more, and no other command is
 roots-after : (i : ℕ) (g : Stated) (c : Command) → length (after g i c).roots ≡ length g.roots + on_root (λ a. 1) 0 c
@@ -128,7 +112,6 @@ roots-after i g (Root a) = omega arith
 roots-after i g Nil = omega arith
 roots-after i g Done = omega arith
 roots-after i g (Expression x) = omega arith
-roots-after i g NoCommand = omega arith
 
 pub roots_append : (cs ds : List Command) → root_count (cs ++ ds) ≡ root_count cs + root_count ds
 roots_append [] ds = omega arith
@@ -136,21 +119,21 @@ roots_append (c ∷ cs) ds = omega (arith, roots_append cs ds)
 
 -- the command at such a place is the next of them, and the place behind it is one
 module _ (cs : List Command) (every : (c : Command) → Memᴰ c cs → T (is_old c)) where
-  -- the next command is old, and the place behind it stands between two
-  abbrev Onward : ℕ → ℕ → Command → Type 0
-  Onward i r c = T (is_old c) × Between cs (i + size c) (r + on_root (λ a. 1) 0 c)
+  -- the next command, if there is one, is old, and the place behind it stands between two
+  abbrev Onward : ℕ → ℕ → Option Command → Type 0
+  Onward i r None = Unit
+  Onward i r (Some c) = T (is_old c) × Between cs (i + size c) (r + on_root (λ a. 1) 0 c)
 
-  next_command : (i r : ℕ) → Between cs i r → Onward i r (command_at (file_of cs) i) ⊎ (command_at (file_of cs) i ≡ NoCommand)
+  next_command : (i r : ℕ) → Between cs i r → Onward i r (command_at (file_of cs) i)
   next_command i r b = go b.after b.split
     where
-      go : (rest : List Command) → cs ≡ b.before ++ rest → Onward i r (command_at (file_of cs) i) ⊎ (command_at (file_of cs) i ≡ NoCommand)
-      go [] e = inr (none_at_end (file_of cs) i (rw (b.place, e, append-nil b.before) (omega arith)))
+      go : (rest : List Command) → cs ≡ b.before ++ rest → Onward i r (command_at (file_of cs) i)
+      go [] e = rw (command_past (file_of cs) i (rw (b.place, e, append-nil b.before) (omega arith))) tt
       go (d ∷ ds) e =
           let old = every d (rw e (Memᴰ.append_right b.before (Memᴰ.head refl))) in
           let f : file_of cs ≡ file_of b.before ++ (bytes_of d ++ file_of ds) = rw (e, file_append b.before (d ∷ ds)) (unfold file_of in refl) in
-          let q : command_at (file_of cs) i ≡ d = rw b.place (read_back (file_of b.before) (file_of ds) d (old_command d old) f) in
-          inl
-          (rw q (
+          let q : command_at (file_of cs) i ≡ Some d = rw b.place (read_back (file_of b.before) (file_of ds) d f) in
+          rw q (
             old,
             record {
               before = b.before ++ (d ∷ []);
@@ -159,25 +142,21 @@ module _ (cs : List Command) (every : (c : Command) → Memᴰ c cs → T (is_ol
               place = rw (length_more b.before d) (ap (λ (n : ℕ). n + size d) b.place);
               roots = omega (arith, b.roots, roots_append b.before (d ∷ []));
             },
-          ))
+          )
 
   counted_kept : Kept (file_of cs) (λ i g. Counted i g × Between cs i (length g.roots))
   counted_kept =
       record {
         by_command = λ i g c e p h.
             let w = h.0.within in
-            ⊎_elim
-            (λ n.
-            let o : Onward i (length g.roots) c = rw e at n in (
+            let o : Onward i (length g.roots) (Some c) = rw e at (next_command i (length g.roots) h.1) in (
               record { within = within_kept i g c p w; bytes = counted i g c o.0 p w h.0.bytes },
               rw (roots-after i g c) o.1,
-            ))
-            (λ n. absurd (subst (Passed g) (sym e ∙ n) p))
-            (next_command i (length g.roots) h.1);
+            );
         by_expression = λ i g e ns p r h.
             let f = first_command (file_of cs) i r.content in
-            ⊎_elim (λ n. absurd (rw f.is at n.0)) (λ n. absurd (let z : ◌≡◌ {A = ℕ} 0 1 = cc in omega arith))
-            (next_command i (length g.roots) h.1);
+            let o : Onward i (length g.roots) (Some (Expression f.part)) = rw f.is at (next_command i (length g.roots) h.1) in
+            absurd o.0;
       }
 
 -- "The longest accepted file has 8,389 bytes", of files with one ROOT and only the old commands.

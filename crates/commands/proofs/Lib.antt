@@ -1,6 +1,7 @@
 -- Laws of the commands and of what they state.
 pub mod LayingLaws
 pub mod GroupLaws
+pub mod Phases
 pub mod SchemaTables
 pub mod Standing
 pub mod RootTables

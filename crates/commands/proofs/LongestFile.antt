@@ -26,8 +26,8 @@ use Rattle.schema.proofs.Bits.{mem-members}
 use Rattle.sdtd.specs.Numbered.{tag_no, type_no}
 use Rattle.sdtd.specs.Limits.{most_tags, most_types, most_states, most_steps}
 use Rattle.commands.specs.Questions.{failed}
-use Rattle.commands.specs.declared.progress.Phase.{Phase}
-use Rattle.commands.specs.declared.progress.Phase.TheVariants.{BeforeTypes, InBlock, AfterDone}
+use Rattle.commands.specs.declared.phase.Phase.{Phase}
+use Rattle.commands.specs.declared.phase.Phase.TheVariants.{BeforeTypes, InBlock, AfterDone}
 use Rattle.commands.specs.File.{Draft, Stated, step_count, has_step, seen_of, after, states, commands}
 use Rattle.commands.specs.File.{block_by, schema_by, unknown_in, unknown, root_count, OldWithOneRoot, most_bytes}
 use Rattle.expression.specs.Content.{Name}

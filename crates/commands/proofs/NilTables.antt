@@ -7,7 +7,7 @@ use native.Mathlib.Omega.{arith}
 use lib.ListN.{length, get_or, set, length-map}
 use Rattle.sdtd.specs.Limits.{most_types}
 use Rattle.commands.specs.File.{Draft, current, with_nil, in_current}
-use Rattle.commands.specs.Progress.{last_type}
+use Rattle.commands.specs.Building.{last_type}
 use Rattle.commands.proofs.Standing.{Standing, next_stands, set_stands}
 
 -- which blocks have a NIL

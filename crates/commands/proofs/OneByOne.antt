@@ -3,17 +3,20 @@
 use mathlib.Core.Path.{◌≡◌, refl, sym, ap, subst, ◌∙◌}
 use mathlib.Core.Bool.{true, false}
 use mathlib.Core.Logic.{inl, inr}
+use Rattle.std.specs.Prelude.{Some, None, Result, Ok, Err, MatchResult}
 use mathlib.Core.List.{List, reverse_aux-eq}
 use Prim.Native.Nat.{ℕ, suc, ◌+◌, ◌-◌, ◌≤◌, ◌<◌}
-use native.Mathlib.Decide.{dec_lt}
 use native.Mathlib.Omega.{arith}
-use borrow.Author.Tests.{le-leb, lt-leb, lt-ltb, le-ltb, eqb-true, ne_eqb}
-use lib.Dec.{T}
-use lib.ListN.{length, replicate}
-use Rattle.sdtd.specs.Limits.{most_types, most_steps}
-use Rattle.sdtd.specs.Answer.{fine}
+use borrow.Author.Tests.{le-leb, lt-leb, eqb-true, ne_eqb}
+use lib.ListN.{length}
+use Rattle.sdtd.specs.Limits.{most_steps}
+use Rattle.sdtd.specs.Answer.{refused_at, question_number, number_told, verdict_of}
+use Rattle.sdtd.specs.declared.Refused.{Refused}
+use Rattle.sdtd.proofs.Verdicts.{number_some}
+use Rattle.sdtd.specs.declared.Refusal.{Refusal}
+use Rattle.sdtd.specs.declared.Refused.TheVariants.{UnknownType}
 use Rattle.schema.specs.declared.value.Schema.{Schema}
-use Rattle.command.specs.Command.{is_command, command_at, size}
+use Rattle.command.specs.Command.{command_at, size}
 use Rattle.command.specs.declared.Command.{Command}
 use Rattle.command.proofs.CommandLaws.{command_in_file, size_some}
 use Rattle.expression.specs.Expression.{Expression as Exp}
@@ -22,35 +25,35 @@ use Rattle.expression.specs.Content.{Name, broken, whole, content_at}
 use Rattle.expression.proofs.WholeContents.{rise_most, WholeContent, whole_content}
 use Rattle.commands.specs.Questions.{rank, same_phase, failed}
 use Rattle.commands.specs.File.{Stated, nothing_stated, step_count, seen_of, after, after_expression}
-use Rattle.commands.specs.File.{Commands, stopped, states, by_content, commands_from, commands}
-use Rattle.commands.specs.Value.{StatedValue}
-use Rattle.commands.specs.Answer.{stopped_at, CommandsBy}
-use Rattle.commands.specs.Progress.{nothing_read, progress_after, progress_with, last_type, places_after, bound_after}
-use Rattle.commands.specs.Progress.{places_with, bound_with, least_from, ended_at}
-use Rattle.commands.proofs.SchemaTables.{SchemaTables}
-use Rattle.commands.specs.declared.commands.StatedSchema.{StatedSchema}
-use Rattle.commands.specs.declared.progress.Phase.{Phase}
-use Rattle.commands.specs.declared.progress.Phase.TheVariants.{InExpression, AfterDone}
-use Rattle.commands.specs.declared.progress.Progress.{Progress}
-use Rattle.commands.proofs.Passing.{passed_command}
+use Rattle.commands.specs.File.{Commands, stopped, states, by_content, by_command, commands_from, commands}
+use Rattle.commands.specs.Answer.{CommandsBy}
+use Rattle.commands.specs.Building.{nothing_built, failed_by, built, least_from}
+use Rattle.schema.specs.declared.value.Schema.{Schema}
+use Rattle.commands.specs.declared.phase.Phase.{Phase}
+use Rattle.commands.specs.declared.phase.Phase.TheVariants.{InExpression, AfterDone}
+use Rattle.commands.specs.declared.builder.Builder.{Builder}
 use Rattle.commands.proofs.Passing.{passed as passed_by}
-use Rattle.commands.proofs.Holding.{seen_in, tables_after, Holds, Sized, EmptyPast}
-use Rattle.commands.proofs.StatedLaws.{value_in}
+use Rattle.commands.proofs.Holding.{Holds}
 use Rattle.commands.proofs.Drafts.{first_holds, seen_holds, after_holds, expression_holds, stated_value, fuel_enough}
-use Rattle.commands.proofs.ExpressionTables.{tables_with}
-use Rattle.commands.proofs.Places.{PlacesHold, first_places, places_after_lem, places_with_lem, first_named, none_named}
+use Rattle.commands.proofs.ExpressionTables.{built_from}
+use Rattle.commands.proofs.Places.{PlacesHold, first_places, built_places, places_with_lem, first_named, none_named}
 
 -- one command, and what is left of the file
 module _ (fuel : ℕ) (file : List ℕ) (i : ℕ) (g : Stated) where
-  pub goes_on : same_phase g.phase AfterDone ≡ false → same_phase g.phase InExpression ≡ false → {c : Command} → command_at file i ≡ c
+  pub goes_on : same_phase g.phase AfterDone ≡ false → same_phase g.phase InExpression ≡ false → {c : Command} → command_at file i ≡ Some c
       → failed (seen_of g c) c ≡ 0 → commands_from (suc fuel) file i g ≡ commands_from fuel file (i + size c) (after g i c)
-  unfolding commands_from
+  unfolding commands_from by_command
   goes_on p x e z = rw (p, x, e, z)
 
-  stops : same_phase g.phase AfterDone ≡ false → same_phase g.phase InExpression ≡ false
-      → let n = failed (seen_of g (command_at file i)) (command_at file i) in ¬ (n ≡ 0) → commands_from (suc fuel) file i g ≡ stopped n i
-  unfolding commands_from
-  stops p x e = rw (p, x, ne_eqb (failed (seen_of g (command_at file i)) (command_at file i)) 0 e)
+  misses : same_phase g.phase AfterDone ≡ false → same_phase g.phase InExpression ≡ false → command_at file i ≡ None
+      → commands_from (suc fuel) file i g ≡ stopped 2 i
+  unfolding commands_from by_command
+  misses p x e = rw (p, x, e)
+
+  stops : same_phase g.phase AfterDone ≡ false → same_phase g.phase InExpression ≡ false → {c : Command} → command_at file i ≡ Some c
+      → ¬ (failed (seen_of g c) c ≡ 0) → commands_from (suc fuel) file i g ≡ stopped (failed (seen_of g c) c) i
+  unfolding commands_from by_command
+  stops p x {c} e d = rw (p, x, e, ne_eqb (failed (seen_of g c) c) 0 d)
 
   pub reads_expression : same_phase g.phase InExpression ≡ true → commands_from (suc fuel) file i g ≡ by_content g (commands_from fuel file) (content_at file i)
   unfolding commands_from
@@ -67,32 +70,32 @@ module _ (fuel : ℕ) (file : List ℕ) (i : ℕ) (g : Stated) where
   unfolding commands_from
   ends p l = rw (p, le-leb (length file) i l)
 
--- At the place i the progress, the tables, the places and the bound hold what the commands before it state, and the commands from there on decide.
-pub record Reads (file : List ℕ) (i : ℕ) (s : Progress) (t : SchemaTables) (places : List ℕ) (bound : ℕ) : Type 0 where
+-- At the place i what is built holds what the commands before it state, and the commands from there on decide.
+pub record Reads (file : List ℕ) (i : ℕ) (s : Builder) : Type 0 where
   pub stated : Stated
-  pub holds : Holds stated s t
-  pub named : PlacesHold stated.names (length file) i places bound
+  pub holds : Holds stated s
+  pub named : PlacesHold stated.names (length file) i s.places s.bound
   pub rest : commands_from (suc (length file - i)) file i stated ≡ commands file
   pub within : i ≤ length file
 
-pub reads_first : (file : List ℕ) {t : SchemaTables} → Sized t → EmptyPast t 0 0 → Reads file 0 nothing_read t (replicate most_types (length file)) 0
+pub reads_first : (file : List ℕ) → Reads file 0 (nothing_built (length file))
 unfolding commands
-reads_first file k z =
+reads_first file =
     let e : length file - 0 ≡ length file = omega arith in
     record {
       stated = nothing_stated;
-      holds = first_holds k z;
+      holds = first_holds (length file);
       named = first_places (length file);
       rest = rw e;
       within = omega arith;
     }
 
 -- a refusal by questions 2 to 6 or 21 to 23
-pub answer_stopped : (file : List ℕ) (r : StatedSchema) {n p : ℕ} → commands file ≡ stopped n p → r ≡ stopped_at n p
+pub answer_stopped : (file : List ℕ) (r : Result Schema Refusal) {n p : ℕ} → commands file ≡ stopped n p → verdict_of r ≡ refused_at n p
     → CommandsBy (commands file) r
 answer_stopped file r e s = subst (λ (k : Commands). CommandsBy k r) (sym e) s
 
-module _ {file : List ℕ} {i : ℕ} {s : Progress} {t : SchemaTables} {places : List ℕ} {bound : ℕ} (r : Reads file i s t places bound) where
+module _ {file : List ℕ} {i : ℕ} {s : Builder} (r : Reads file i s) where
   -- before DONE, outside an expression
   module _ (more : same_phase s.phase AfterDone ≡ false) (outside : same_phase s.phase InExpression ≡ false) where
     not_done : same_phase r.stated.phase AfterDone ≡ false
@@ -101,41 +104,44 @@ module _ {file : List ℕ} {i : ℕ} {s : Progress} {t : SchemaTables} {places :
     not_inside : same_phase r.stated.phase InExpression ≡ false
     not_inside = rw (← r.holds.phase) outside
 
-    pub reads_stopped : {n : ℕ} {c : Command} → c ≡ command_at file i → n ≡ failed (seen_in s t c) c → ¬ (n ≡ 0) → commands file ≡ stopped n i
-    reads_stopped {n} {c} e f d =
-        let d' = command_at file i in
-        let m : n ≡ failed (seen_of r.stated d') d' = f ∙ rw e (ap (λ x. failed x d') (seen_holds r.holds d')) in
-        rw m (sym r.rest ∙ stops (length file - i) file i r.stated not_done not_inside (λ z. d (m ∙ z)))
+    -- no command stands there
+    pub reads_missing : command_at file i ≡ None → commands file ≡ stopped 2 i
+    reads_missing e = sym r.rest ∙ misses (length file - i) file i r.stated not_done not_inside e
 
-    -- after a command c of n bytes that passed its questions
-    module _ {c : Command} {n : ℕ} (command : c ≡ command_at file i) (passed : failed (seen_in s t c) c ≡ 0) (bytes : n ≡ size c) where
-      none_failed : failed (seen_of r.stated c) c ≡ 0
-      none_failed = ap (λ x. failed x c) (sym (seen_holds r.holds c)) ∙ passed
+    -- a command c stands there
+    module _ {c : Command} (command : command_at file i ≡ Some c) where
+      pub reads_stopped : {n : ℕ} → n ≡ failed_by s c → ¬ (n ≡ 0) → commands file ≡ stopped n i
+      reads_stopped {n} f d =
+          let m : n ≡ failed (seen_of r.stated c) c = f ∙ ap (λ x. failed x c) (seen_holds r.holds c) in
+          rw m (sym r.rest ∙ stops (length file - i) file i r.stated not_done not_inside command (λ z. d (m ∙ z)))
+
+      -- the refusal of what was asked of it
+      pub reads_refused : (r : Result Unit Refused) → number_told r ≡ failed_by s c → (e : Refusal)
+          → MatchResult r (λ x. ⊥) (λ why. e ≡ record { why = why; place = i }) → commands file ≡ stopped (question_number e.why) e.place
+      reads_refused (Ok x) f e h = absurd h
+      reads_refused (Err why) f e h = rw h (reads_stopped f (λ z. absurd (omega (arith, number_some why))))
 
       -- it ends inside the file
-      pub reads_in_file : (i + n ≤ length file) × (0 < n)
-      reads_in_file =
-          let k = passed_command r.stated c none_failed in
-          let ends = subst (λ (d : Command). T (is_command d) → i + size d ≤ length file) (sym command) (command_in_file file i) in
-          rw bytes (ends k, size_some c k)
+      pub reads_in_file : (i + size c ≤ length file) × (0 < size c)
+      reads_in_file = (command_in_file file i command, size_some c)
 
-      pub reads_next : {s' : Progress} {t' : SchemaTables} {places' : List ℕ} {bound' : ℕ} → s' ≡ progress_after s c → t' ≡ tables_after s t c
-          → places' ≡ places_after i places c → bound' ≡ bound_after bound c → Reads file (i + n) s' t' places' bound'
-      reads_next state tables named above =
+      -- it passed its questions
+      pub reads_next : failed_by s c ≡ 0 → Reads file (i + size c) (built s i c)
+      reads_next passed =
           let j = i + size c in
-          let h : (j ≤ length file) × (0 < size c) = rw bytes at reads_in_file in
-          let left : length file - j < length file - i = omega arith in
-          rw (bytes, state, tables, named, above)
-          (record {
+          let h = reads_in_file in
+          let left : length file - j < length file - i = omega (arith, h.0, h.1) in
+          let none_failed : failed (seen_of r.stated c) c ≡ 0 = ap (λ x. failed x c) (sym (seen_holds r.holds c)) ∙ passed in
+          record {
             stated = after r.stated i c;
             holds = after_holds r.holds i c none_failed;
-            named = places_after_lem r.stated r.named (omega arith) (omega arith) c (passed_by r.stated c none_failed);
+            named = built_places r.stated s r.named (omega (arith, h.1)) (omega (arith, h.0, h.1)) c (passed_by r.stated c none_failed);
             rest =
                 fuel_enough file (suc (length file - j)) (length file - i) j (after r.stated i c) (omega arith) left
-                ∙ sym (goes_on (length file - i) file i r.stated not_done not_inside (sym command) none_failed)
+                ∙ sym (goes_on (length file - i) file i r.stated not_done not_inside command none_failed)
                 ∙ r.rest;
             within = h.0;
-          })
+          }
 
   -- where an expression is next
   module _ (inside : same_phase s.phase InExpression ≡ true) where
@@ -160,18 +166,15 @@ module _ {file : List ℕ} {i : ℕ} {s : Progress} {t : SchemaTables} {places :
           let n = step_count r.stated.blocks + length (all_steps e) in
           sym by_content_lem ∙ rw (content, lt-leb n most_steps (omega (arith, r.holds.steps)))
 
-      pub reads_after : {s' : Progress} {t' : SchemaTables} {places' : List ℕ} {bound' : ℕ} → let n = s.steps + length (all_steps e) in n ≤ most_steps
-          → s' ≡ progress_with s n → t' ≡ tables_with t (last_type s.types) s.steps e → places' ≡ places_with ns places
-          → bound' ≡ bound_with ns bound → Reads file (p + 1) s' t' places' bound'
+      pub reads_after : s.steps + length (all_steps e) ≤ most_steps → Reads file (p + 1) (built_from s e ns)
       unfolding by_content
-      reads_after fits state tables named above =
+      reads_after fits =
           let g = r.stated in
           let w = whole_read in
           let begins = rise_most i ns p w.rises in
           let ends = w.ends in
           let f : step_count g.blocks + length (all_steps e) ≤ most_steps = omega (arith, r.holds.steps) in
-          rw (state, tables, named, above)
-          (record {
+          record {
             stated = after_expression g e ns;
             holds = expression_holds r.holds (eqb-true (rank g.phase) (rank InExpression) is_inside) e ns fits;
             named = rw (← reverse_aux-eq ns g.names) (places_with_lem ns i p r.named w.rises w.types ends);
@@ -179,46 +182,31 @@ module _ {file : List ℕ} {i : ℕ} {s : Progress} {t : SchemaTables} {places :
                 fuel_enough file (suc (length file - (p + 1))) (length file - i) (p + 1) (after_expression g e ns) (omega arith) (omega arith)
                 ∙ (rw (content, le-leb (step_count g.blocks + length (all_steps e)) most_steps f) at by_content_lem);
             within = omega arith;
-          })
+          }
 
   -- after DONE
   module _ (done : same_phase s.phase AfterDone ≡ true) where
     is_done : same_phase r.stated.phase AfterDone ≡ true
     is_done = rw (← r.holds.phase) done
 
-    reads_over : i < length file → commands file ≡ stopped 3 i
+    pub reads_over : i < length file → commands file ≡ stopped 3 i
     reads_over l = sym r.rest ∙ over (length file - i) file i r.stated is_done l
 
-    module _ (end : length file ≤ i) (a : StatedSchema) where
-      answered : CommandsBy (states r.stated) a → CommandsBy (commands file) a
-      answered k = subst (λ (c : Commands). CommandsBy c a) (sym (ends (length file - i) file i r.stated is_done end) ∙ r.rest) k
+    module _ (end : length file ≤ i) where
+      answered : (a : Result Schema Refusal) → CommandsBy (states r.stated) a → CommandsBy (commands file) a
+      answered a k = subst (λ (c : Commands). CommandsBy c a) (sym (ends (length file - i) file i r.stated is_done end) ∙ r.rest) k
 
       -- question 7, by the least place of the types not given
-      module _ {p : ℕ} (least : p ≡ least_from places (length file) s.types (bound - s.types)) where
-        least_stated : let n = length r.stated.blocks in p ≡ least_from places (length file) n (bound - n)
+      module _ {p : ℕ} (least : p ≡ least_from s.places (length file) s.schema.types (s.bound - s.schema.types)) where
+        least_stated : let n = length r.stated.blocks in p ≡ least_from s.places (length file) n (s.bound - n)
         least_stated = rw (← r.holds.types) least
 
-        answer_unknown : p < length file → a ≡ stopped_at 7 p → CommandsBy (commands file) a
-        answer_unknown l e =
+        pub answer_unknown : p < length file → CommandsBy (commands file) (Err (record { why = UnknownType; place = p }))
+        answer_unknown l =
             let f = first_named r.named (length r.stated.blocks) least_stated l in
-            answered (inl (f.0, rw (← f.1) e))
+            answered (Err (record { why = UnknownType; place = p })) (inl (f.0, ap (refused_at 7) f.1), tt)
 
-        answer_known : length file ≤ p → a.verdict ≡ fine → a.schema ≡ value_in s t → CommandsBy (commands file) a
-        answer_known l o v =
+        pub answer_known : length file ≤ p → CommandsBy (commands file) (Ok s.schema)
+        answer_known l =
             let none = none_named r.named (length r.stated.blocks) least_stated r.within l in
-            answered (inr (none, (o, subst (StatedValue r.stated) (sym v) (stated_value r.holds))))
-
-    -- the answer: 3, then 7, then the schema
-    pub answer_ended : {p : ℕ} {v : Schema} → p ≡ least_from places (length file) s.types (bound - s.types) → v ≡ value_in s t
-        → CommandsBy (commands file) (ended_at i p (length file) v)
-    answer_ended {p} least e =
-        elim (dec_lt i (length file)) [
-          | yes l ↦ rw (lt-ltb i (length file) l) (answer_stopped file _ (reads_over l) refl)
-          | no n ↦
-              let end : length file ≤ i = omega arith in
-              rw (le-ltb i (length file) end)
-              (elim (dec_lt p (length file)) [
-                | yes l ↦ rw (lt-ltb p (length file) l) (answer_unknown end _ least l refl)
-                | no m ↦ let k : length file ≤ p = omega arith in rw (le-ltb p (length file) k) (answer_known end _ least k refl e)
-              ])
-        ]
+            answered (Ok s.schema) (inr (none, refl), stated_value r.holds)

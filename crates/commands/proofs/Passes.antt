@@ -13,13 +13,12 @@ use Rattle.sdtd.specs.declared.Tag.{Tag}
 use Rattle.sdtd.specs.declared.TypeNo.{TypeNo}
 use Rattle.schema.specs.States.{member}
 use Rattle.command.specs.Asked.{first_no}
-use Rattle.command.specs.Command.{is_command}
 use Rattle.command.specs.declared.Command.{Command}
 use Rattle.command.specs.declared.Command.TheVariants.{Tags, TypeBlock, Final, Step, Root, Nil, Done}
 use Rattle.command.proofs.AskedLaws.{AllYes}
 use Rattle.commands.specs.Questions.{rank, same_phase, in_type_block, in_order, in_range, within_counts, not_given, questions, failed}
 use Rattle.commands.specs.File.{Stated, current, step_count, same_step, has_step, has_root, seen_of}
-use Rattle.commands.specs.declared.progress.Phase.TheVariants.{BeforeTags, BeforeTypes, InBlock, AfterRoot}
+use Rattle.commands.specs.declared.phase.Phase.TheVariants.{BeforeTags, BeforeTypes, InBlock, AfterRoot}
 use Rattle.commands.proofs.Passing.{answered}
 
 -- one of two tests
@@ -79,23 +78,23 @@ not_alone false n t = t
 module _ (g : Stated) where
   -- by the questions one by one
   passes : (c : Command) → let s = seen_of g c in
-      T (is_command c) → T (in_order s c) → T (in_range s c) → T (within_counts s c) → T (not_given s c) → failed s c ≡ 0
-  passes c known order range counts new = none_no (questions (seen_of g c) c) (known & order & range & counts & new & tt)
+      T (in_order s c) → T (in_range s c) → T (within_counts s c) → T (not_given s c) → failed s c ≡ 0
+  passes c order range counts new = none_no (questions (seen_of g c) c) (order & range & counts & new & tt)
 
   pub pass_tags : (n : ℕ) → rank g.phase ≡ rank BeforeTags → 1 ≤ n → n ≤ most_tags → failed (seen_of g (Tags n)) (Tags n) ≡ 0
   pass_tags n o a b =
-      passes (Tags n) tt (eq_test (rank g.phase) 0 o) (and_both (leb 1 n) (leb n most_tags) (le_test 1 n a) (le_test n most_tags b)) tt tt
+      passes (Tags n) (eq_test (rank g.phase) 0 o) (and_both (leb 1 n) (leb n most_tags) (le_test 1 n a) (le_test n most_tags b)) tt tt
 
   pub pass_type : (t : Tag) (s : ℕ) → T (same_phase g.phase BeforeTypes || in_type_block g.phase) → t.0 < g.tags → s ≤ most_states
       → length g.blocks < most_types → failed (seen_of g (TypeBlock t s)) (TypeBlock t s) ≡ 0
   pass_type t s o a b few =
-      passes (TypeBlock t s) tt o (and_both (ltb t.0 g.tags) (leb s most_states) (lt_test t.0 g.tags a) (le_test s most_states b))
+      passes (TypeBlock t s) o (and_both (ltb t.0 g.tags) (leb s most_states) (lt_test t.0 g.tags a) (le_test s most_states b))
       (lt_test (length g.blocks) most_types few) tt
 
   pub pass_final : (q : ℕ) → rank g.phase ≡ rank InBlock → q < (current g.blocks).states → ¬ T (member q (current g.blocks).accepting)
       → failed (seen_of g (Final q)) (Final q) ≡ 0
   pass_final q o a new =
-      passes (Final q) tt (eq_test (rank g.phase) (rank InBlock) o) (lt_test q (current g.blocks).states a) tt
+      passes (Final q) (eq_test (rank g.phase) (rank InBlock) o) (lt_test q (current g.blocks).states a) tt
       (not_T (member q (current g.blocks).accepting) new)
 
   pub pass_step : (p : ℕ) (j : TypeNo) (q : ℕ) → rank g.phase ≡ rank InBlock → p < (current g.blocks).states → j.0 < most_types
@@ -103,7 +102,7 @@ module _ (g : Stated) where
       → failed (seen_of g (Step p j q)) (Step p j q) ≡ 0
   pass_step p j q o a b c few new =
       let n = (current g.blocks).states in
-      passes (Step p j q) tt (eq_test (rank g.phase) (rank InBlock) o)
+      passes (Step p j q) (eq_test (rank g.phase) (rank InBlock) o)
       (and_both (ltb p n) (ltb j.0 most_types && ltb q n) (lt_test p n a)
       (and_both (ltb j.0 most_types) (ltb q n) (lt_test j.0 most_types b) (lt_test q n c)))
       (lt_test (step_count g.blocks) most_steps few) (alone_not (has_step p j.0 q (current g.blocks).steps) new)
@@ -111,22 +110,22 @@ module _ (g : Stated) where
   pub pass_root : (a : TypeNo) → T (same_phase g.phase AfterRoot || in_type_block g.phase) → a.0 < length g.blocks
       → length g.roots < most_roots → ¬ T (has_root a.0 g.roots) → failed (seen_of g (Root a)) (Root a) ≡ 0
   pass_root a o b few new =
-      passes (Root a) tt o (lt_test a.0 (length g.blocks) b) (lt_test (length g.roots) most_roots few)
+      passes (Root a) o (lt_test a.0 (length g.blocks) b) (lt_test (length g.roots) most_roots few)
       (alone_not (has_root a.0 g.roots) new)
 
   pub pass_nil : T (in_type_block g.phase) → ¬ T (current g.blocks).nillable → failed (seen_of g Nil) Nil ≡ 0
-  pass_nil o new = passes Nil tt o tt tt (not_T (current g.blocks).nillable new)
+  pass_nil o new = passes Nil o tt tt (not_T (current g.blocks).nillable new)
 
   pub pass_done : rank g.phase ≡ rank AfterRoot → failed (seen_of g Done) Done ≡ 0
-  pass_done o = passes Done tt (eq_test (rank g.phase) (rank AfterRoot) o) tt tt tt
+  pass_done o = passes Done (eq_test (rank g.phase) (rank AfterRoot) o) tt tt tt
 
   -- what passes is not given yet
   pub step_new : (p : ℕ) (j : TypeNo) (q : ℕ) → failed (seen_of g (Step p j q)) (Step p j q) ≡ 0
       → ¬ T (has_step p j.0 q (current g.blocks).steps)
-  step_new p j q z = not_alone (has_step p j.0 q (current g.blocks).steps) (answered g (Step p j q) z).4
+  step_new p j q z = not_alone (has_step p j.0 q (current g.blocks).steps) (answered g (Step p j q) z).3
 
   pub root_new : (a : TypeNo) → failed (seen_of g (Root a)) (Root a) ≡ 0 → ¬ T (has_root a.0 g.roots)
-  root_new a z = not_alone (has_root a.0 g.roots) (answered g (Root a) z).4
+  root_new a z = not_alone (has_root a.0 g.roots) (answered g (Root a) z).3
 
   pub nil_new : failed (seen_of g Nil) Nil ≡ 0 → ¬ T (current g.blocks).nillable
-  nil_new z = T_not (current g.blocks).nillable (answered g Nil z).4
+  nil_new z = T_not (current g.blocks).nillable (answered g Nil z).3

@@ -3,7 +3,7 @@
 use mathlib.Core.Path.{◌≡◌, refl, ap, ◌∙◌}
 use mathlib.Core.Logic.{◌≢◌}
 use mathlib.Core.List.{List, [], ◌∷◌, ◌++◌, reverse_aux, append-nil, cons≢nil}
-use Prim.Native.Nat.{ℕ, zero, suc, ◌+◌, ◌-◌, ◌%◌, ◌≤◌, ◌<◌, min, max}
+use Prim.Native.Nat.{ℕ, zero, suc, ◌+◌, ◌-◌, ◌%◌, ◌≤◌, ◌<◌, min}
 use native.Mathlib.Decide.{dec_lt}
 use native.Mathlib.Nat.{suc-add}
 use native.Mathlib.Omega.{arith}
@@ -12,11 +12,12 @@ use lib.ListN.{length, get_or, set, length-set, replicate, length-replicate, get
 use lib.Seq.{get_or-set_same, get_or-set_other}
 use Rattle.sdtd.specs.Limits.{most_types}
 use Rattle.command.specs.declared.Command.{Command}
-use Rattle.command.specs.declared.Command.TheVariants.{Tags, TypeBlock, Final, Step, Root, Nil, Done, Expression, NoCommand}
+use Rattle.command.specs.declared.Command.TheVariants.{Tags, TypeBlock, Final, Step, Root, Nil, Done, Expression}
 use Rattle.expression.specs.Content.{Name}
 use Rattle.expression.proofs.WholeContents.{Rise, rise_most, TypesBelow}
 use Rattle.commands.specs.File.{Stated, after, unknown_in}
-use Rattle.commands.specs.Progress.{places_after, bound_after, places_with, bound_with, least_from}
+use Rattle.commands.specs.Building.{place_named, bound_named, built, places_with, bound_with, least_from}
+use Rattle.commands.specs.declared.builder.Builder.{Builder}
 use Rattle.commands.proofs.Passing.{Passed}
 
 -- `least_from` is at most `none`
@@ -110,8 +111,7 @@ module _ {ns : List Name} {none i : ℕ} {places : List ℕ} {bound : ℕ} (h : 
 
   -- one that names the type j at the place x
   pub name_places : {m : ℕ} (j x : ℕ) → j < most_types → i ≤ x → x < none → x < m
-      → PlacesHold (record { type = j; place = x } ∷ ns) none m (set places (j % most_types) (min (get_or places (j % most_types) 0) x))
-      (max bound (j % most_types + 1))
+      → PlacesHold (record { type = j; place = x } ∷ ns) none m (place_named j x places) (bound_named j bound)
   name_places j x l a b before =
       let n : j % most_types ≡ j = omega arith in
       let v = min (get_or places j 0) x in
@@ -132,18 +132,17 @@ module _ {ns : List Name} {none i : ℕ} {places : List ℕ} {bound : ℕ} (h : 
       })
 
 -- after a command at the place i that passed its questions
-pub places_after_lem : (g : Stated) {none i m : ℕ} {places : List ℕ} {bound : ℕ} → PlacesHold g.names none i places bound → i < m → i < none
-    → (c : Command) → Passed g c → PlacesHold (after g i c).names none m (places_after i places c) (bound_after bound c)
-unfolding after
-places_after_lem g h l b (Tags n) p = same_places h (omega arith)
-places_after_lem g h l b (TypeBlock t s) p = same_places h (omega arith)
-places_after_lem g h l b (Final q) p = same_places h (omega arith)
-places_after_lem g {i = i} h l b (Step x j y) p = name_places h j.0 i p.4 (omega arith) b l
-places_after_lem g h l b (Root a) p = same_places h (omega arith)
-places_after_lem g h l b Nil p = same_places h (omega arith)
-places_after_lem g h l b Done p = same_places h (omega arith)
-places_after_lem g h l b (Expression x) p = absurd p
-places_after_lem g h l b NoCommand p = absurd p
+pub built_places : (g : Stated) {none i m : ℕ} (s : Builder) → PlacesHold g.names none i s.places s.bound → i < m → i < none
+    → (c : Command) → Passed g c → PlacesHold (after g i c).names none m (built s i c).places (built s i c).bound
+unfolding after built
+built_places g s h l b (Tags n) p = same_places h (omega arith)
+built_places g s h l b (TypeBlock t k) p = same_places h (omega arith)
+built_places g s h l b (Final q) p = same_places h (omega arith)
+built_places g {i = i} s h l b (Step x j y) p = name_places h j.0 i p.4 (omega arith) b l
+built_places g s h l b (Root a) p = same_places h (omega arith)
+built_places g s h l b Nil p = same_places h (omega arith)
+built_places g s h l b Done p = same_places h (omega arith)
+built_places g s h l b (Expression x) p = absurd p
 
 -- after the names of an expression that begins at the place i and ends at the place p
 pub places_with_lem : (ns : List Name) {xs : List Name} {none : ℕ} (i p : ℕ) {places : List ℕ} {bound : ℕ} → PlacesHold xs none i places bound

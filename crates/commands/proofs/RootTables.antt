@@ -13,7 +13,7 @@ use Rattle.schema.specs.Value.{up_from, roots_of}
 use Rattle.schema.specs.Trimming.{MarksExactly}
 use Rattle.schema.proofs.Values.{up_last}
 use Rattle.commands.specs.File.{has_root}
-use Rattle.commands.specs.Progress.{root_among}
+use Rattle.commands.specs.Building.{root_among}
 use Rattle.commands.proofs.Standing.{StandsIn, Standing, none_stands, set_stands}
 
 -- the test says whether the type is one of them

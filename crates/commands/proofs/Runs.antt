@@ -8,12 +8,12 @@ use borrow.Author.Tests.{ne_eqb}
 use lib.ListN.{length, length-append}
 use Rattle.command.specs.Command.{bytes_of, file_of, size}
 use Rattle.command.specs.declared.Command.{Command}
-use Rattle.command.specs.declared.Command.TheVariants.{Tags, TypeBlock, Final, Step, Root, Nil, Done, Expression, NoCommand}
+use Rattle.command.specs.declared.Command.TheVariants.{Tags, TypeBlock, Final, Step, Root, Nil, Done, Expression}
 use Rattle.command.proofs.CommandLaws.{size_some, file_more, length_more, read_back}
 use Rattle.commands.specs.Questions.{rank, same_phase, failed}
 use Rattle.commands.specs.File.{Stated, nothing_stated, seen_of, after, states, commands_from, commands}
-use Rattle.commands.specs.declared.progress.Phase.TheVariants.{InExpression, AfterDone}
-use Rattle.commands.proofs.Passing.{Passed, passed, passed_command}
+use Rattle.commands.specs.declared.phase.Phase.TheVariants.{InExpression, AfterDone}
+use Rattle.commands.proofs.Passing.{Passed, passed}
 use Rattle.commands.proofs.Drafts.{fuel_enough}
 use Rattle.commands.proofs.OneByOne.{goes_on, ends}
 
@@ -27,7 +27,6 @@ not_done g (Root a) p = ne_eqb (rank g.phase) (rank AfterDone) (λ e. omega arit
 not_done g Nil p = ne_eqb (rank g.phase) (rank AfterDone) (λ e. omega arith)
 not_done g Done p = ne_eqb (rank g.phase) (rank AfterDone) (λ e. omega arith)
 not_done g (Expression x) p = absurd p
-not_done g NoCommand p = absurd p
 
 -- nor is an expression next
 pub not_inside : (g : Stated) (c : Command) → Passed g c → same_phase g.phase InExpression ≡ false
@@ -39,7 +38,6 @@ not_inside g (Root a) p = ne_eqb (rank g.phase) (rank InExpression) p.2
 not_inside g Nil p = ne_eqb (rank g.phase) (rank InExpression) p.2
 not_inside g Done p = ne_eqb (rank g.phase) (rank InExpression) (λ e. omega arith)
 not_inside g (Expression x) p = absurd p
-not_inside g NoCommand p = absurd p
 
 -- one turn, at a command's bytes
 turn_at : (before rest : List ℕ) (g : Stated) (c : Command) {file : List ℕ} → file ≡ before ++ (bytes_of c ++ rest)
@@ -48,10 +46,9 @@ turn_at : (before rest : List ℕ) (g : Stated) (c : Command) {file : List ℕ} 
     ≡ commands_from (suc (length file - (length before + size c))) file (length before + size c) (after g (length before) c)
 turn_at before rest g c {file} e z =
     let i = length before in
-    let k = passed_command g c z in
     let l : length file ≡ i + (size c + length rest) = rw (e, length-append, length-append) in
-    let s = size_some c k in
-    goes_on (length file - i) file i g (not_done g c (passed g c z)) (not_inside g c (passed g c z)) (read_back before rest c k e) z
+    let s = size_some c in
+    goes_on (length file - i) file i g (not_done g c (passed g c z)) (not_inside g c (passed g c z)) (read_back before rest c e) z
     ∙ fuel_enough file (length file - i) (suc (length file - (i + size c))) (i + size c) (after g i c) (omega arith) (omega arith)
 
 -- In each file that begins with the bytes of the commands, they pass and state g.

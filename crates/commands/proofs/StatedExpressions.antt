@@ -2,6 +2,7 @@
 use mathlib.Core.Path.{◌≡◌, refl, sym, ap, subst, ◌∙◌}
 use mathlib.Core.Logic.{◌≢◌}
 use mathlib.Core.Bool.{Bool, true, false, cond}
+use Rattle.std.specs.Prelude.{Some}
 use mathlib.Core.List.{List, [], ◌∷◌, ◌++◌, map, reverse, reverse-reverse, append-nil, Memᴰ}
 use Prim.Native.Nat.{ℕ, zero, suc, ◌+◌, ◌≤◌, ◌<◌}
 use native.Mathlib.Decide.{dec_lt}
@@ -25,12 +26,12 @@ use Rattle.sdtd.specs.Schema.{Block, Schema, block_of, no_block}
 use Rattle.sdtd.specs.declared.Tag.{Tag}
 use Rattle.command.specs.Command.{command_at, size}
 use Rattle.command.specs.declared.Command.{Command}
-use Rattle.command.specs.declared.Command.TheVariants.{Tags, TypeBlock, Final, Step as StepCommand, Root, Nil, Done, Expression, NoCommand}
+use Rattle.command.specs.declared.Command.TheVariants.{Tags, TypeBlock, Final, Step as StepCommand, Root, Nil, Done, Expression}
 use Rattle.sdtd.specs.Schema.{step}
 use Rattle.commands.specs.Written.{ByExpression, Written}
 use Rattle.commands.specs.TypePlaces.{place_of_type}
 use Rattle.commands.specs.Questions.{rank}
-use Rattle.commands.specs.declared.progress.Phase.TheVariants.{InBlock, InExpression}
+use Rattle.commands.specs.declared.phase.Phase.TheVariants.{InBlock, InExpression}
 use Rattle.expression.proofs.WholeContents.{types_of, TypesBelow, whole_content}
 use Rattle.commands.proofs.StatedLimits.{Each, each_none, each_more, mem-reverse, each_turned, each_current, others, same_others, type_phase}
 use Rattle.commands.proofs.Passing.{Passed, ExpressionRead, kept_to_end}
@@ -85,14 +86,14 @@ automaton_block e l d i =
 pub record DraftWritten (file : List ℕ) (d : Draft) : Type 0 where
   pub tag : Tag
   pub states : ℕ
-  pub begins : command_at file d.place ≡ TypeBlock tag states
+  pub begins : command_at file d.place ≡ Some (TypeBlock tag states)
   pub same_tag : d.tag ≡ tag.0
   pub stands : states ≡ 0 → ByExpression file (d.place + 3) (block_by d)
 
 -- the TYPE of the block that the file is in, of so many states
 record Begun (file : List ℕ) (d : Draft) (states : ℕ) : Type 0 where
   tag : Tag
-  begins : command_at file d.place ≡ TypeBlock tag states
+  begins : command_at file d.place ≡ Some (TypeBlock tag states)
   same_tag : d.tag ≡ tag.0
 
 -- a NIL more
@@ -160,7 +161,7 @@ module _ (file : List ℕ) where
         waits = λ z. absurd (omega arith);
       }
 
-  by_command : (i : ℕ) (g : Stated) (c : Command) → command_at file i ≡ c → Passed g c → AllWritten file i g
+  by_command : (i : ℕ) (g : Stated) (c : Command) → command_at file i ≡ Some c → Passed g c → AllWritten file i g
       → AllWritten file (i + size c) (after g i c)
   unfolding after
   by_command i g (Tags n) e p h =
@@ -211,7 +212,6 @@ module _ (file : List ℕ) where
   by_command i g Done e p h =
       record { older = h.older; whole = λ d. h.whole (omega arith); block = λ q. absurd (omega arith); waits = λ q. absurd (omega arith) }
   by_command i g (Expression x) e p h = absurd p
-  by_command i g NoCommand e p h = absurd p
 
   -- the automaton in place of the block that waited for it
   expression_written : (e : Exp) (ns : List Name) (p : ℕ) (ds : List Draft) → content_at file ((current ds).place + 3) ≡ whole e ns p

@@ -9,11 +9,9 @@ use Rattle.sdtd.specs.Schema.{Step}
 use Rattle.schema.specs.States.{members}
 use Rattle.schema.specs.Value.{up_from, step_at, steps_of, offset, block_at}
 use Rattle.schema.specs.declared.value.Schema.{Schema}
+use Rattle.commands.proofs.SchemaTables.{SchemaTables, tables_of}
 use Rattle.schema.proofs.Values.{offset_step, up_last}
 use Rattle.commands.specs.File.{Draft, step_count, block_by}
-use Rattle.commands.specs.Progress.{value_of}
-use Rattle.commands.proofs.SchemaTables.{SchemaTables}
-use Rattle.commands.specs.declared.progress.Progress.{Progress}
 use Rattle.commands.proofs.Holding.{StepsHold, DraftHolds, BlocksHold}
 use Rattle.commands.proofs.Standing.{StandsIn}
 use Rattle.commands.proofs.NilTables.{flags, flags_count}
@@ -42,13 +40,8 @@ offset_back t [] h = refl
 offset_back t (d ∷ ds) h =
     offset_step t.counts (length ds) ∙ (λ i. offset_back t ds h.1 i + h.0.count i)
 
--- the schema value of the tables
-abbrev pub value_in : Progress → SchemaTables → Schema
-value_in s t = value_of s t.tag t.states t.accepting t.counts t.from t.by t.to
-
-module _ (p : Progress) (t : SchemaTables) where
-  block_back : (d : Draft) (a s : ℕ) → offset t.counts a ≡ s → get_or p.nillable a false ≡ d.nillable → DraftHolds t d a s
-      → block_at (value_in p t) a ≡ block_by d
+module _ (v : Schema) where
+  block_back : (d : Draft) (a s : ℕ) → offset v.steps a ≡ s → get_or v.nillable a false ≡ d.nillable → DraftHolds (tables_of v) d a s → block_at v a ≡ block_by d
   unfolding block_at
   block_back d a s e n h i =
       record {
@@ -56,16 +49,16 @@ module _ (p : Progress) (t : SchemaTables) where
         nillable = n i;
         states = h.states i;
         accepting = members (h.accepting i);
-        steps = ((λ j. steps_of t.from t.by t.to (e j) (h.count j)) ∙ steps_back t d.steps s h.steps) i;
+        steps = ((λ j. steps_of v.from v.by v.to (e j) (h.count j)) ∙ steps_back (tables_of v) d.steps s h.steps) i;
       }
 
-  pub blocks_back : (bs : List Draft) → StandsIn false p.nillable (flags bs) → BlocksHold t bs
-      → map (block_at (value_in p t)) (up_from 0 (length bs)) ≡ map block_by (reverse bs)
+  pub blocks_back : (bs : List Draft) → StandsIn false v.nillable (flags bs) → BlocksHold (tables_of v) bs
+      → map (block_at v) (up_from 0 (length bs)) ≡ map block_by (reverse bs)
   unfolding up_from
   blocks_back [] k h = refl
   blocks_back (d ∷ ds) k h =
       let z : 0 + length ds ≡ length ds = omega arith in
-      let nil : get_or p.nillable (length ds) false ≡ d.nillable = rw (flags_count ds) at k.0 in
-      up_last (block_at (value_in p t)) 0 (length ds)
-      ∙ rw z (λ i. blocks_back ds k.1 h.1 i ++ (block_back d (length ds) (step_count ds) (offset_back t ds h.1) nil h.0 i ∷ []))
+      let nil : get_or v.nillable (length ds) false ≡ d.nillable = rw (flags_count ds) at k.0 in
+      up_last (block_at v) 0 (length ds)
+      ∙ rw z (λ i. blocks_back ds k.1 h.1 i ++ (block_back d (length ds) (step_count ds) (offset_back (tables_of v) ds h.1) nil h.0 i ∷ []))
       ∙ sym (map-reverse block_by d ds)

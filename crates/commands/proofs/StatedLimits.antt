@@ -23,11 +23,11 @@ use Rattle.expression.proofs.TestLaws.{accepts_below}
 use Rattle.expression.proofs.AutomatonLimits.{steps_inside}
 use Rattle.expression.proofs.WholeContents.{types_of, types_more, whole_content}
 use Rattle.commands.specs.Questions.{rank}
-use Rattle.commands.specs.declared.progress.Phase.TheVariants.{BeforeTypes, InBlock, InExpression, AfterRoot}
+use Rattle.commands.specs.declared.phase.Phase.TheVariants.{BeforeTypes, InBlock, InExpression, AfterRoot}
 use Rattle.commands.specs.File.{Draft, Stated, nothing_stated, current, step_count, with_final, with_step, with_nil, in_current, after, with_automaton}
 use Rattle.commands.specs.File.{after_expression, states, commands, block_by, schema_by, unknown_in, unknown}
 use Rattle.command.specs.declared.Command.{Command}
-use Rattle.command.specs.declared.Command.TheVariants.{Tags, TypeBlock, Final, Step as StepCommand, Root, Nil, Done, Expression, NoCommand}
+use Rattle.command.specs.declared.Command.TheVariants.{Tags, TypeBlock, Final, Step as StepCommand, Root, Nil, Done, Expression}
 use Rattle.commands.proofs.TableLaws.{same_count, same_steps, step_steps}
 use Rattle.commands.proofs.Passing.{Passed, ExpressionRead, HoldsAtEnd, kept_to_end}
 
@@ -265,7 +265,6 @@ within_kept i g Done p h =
     let r = h.counts.roots_least (omega arith) in
     record { counts = omega arith; blocks = h.blocks; whole = λ d. h.whole (omega arith); older = h.older; named = h.named; roots = h.roots }
 within_kept i g (Expression x) p h = absurd p
-within_kept i g NoCommand p h = absurd p
 
 -- the automaton of an expression in the block that the file is in
 automaton_within : {tags : ℕ} (e : Exp) (d : Draft) → uses e ≤ most_uses → DraftWithin tags d → DraftWithin tags (with_automaton e d)

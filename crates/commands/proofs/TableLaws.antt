@@ -12,7 +12,7 @@ use Rattle.schema.specs.States.{insert, no_states}
 use Rattle.schema.specs.Value.{step_at}
 use Rattle.commands.specs.File.{same_step, has_step, Draft, current, step_count, with_final, with_step, with_nil, in_current}
 use Rattle.commands.specs.Value.{EmptyFrom}
-use Rattle.commands.specs.Progress.{last_type, given_in}
+use Rattle.commands.specs.Building.{last_type, given_in}
 use Rattle.commands.proofs.SchemaTables.{SchemaTables}
 use Rattle.commands.proofs.Holding.{StepsHold, DraftHolds, BlocksHold, Sized, EmptyPast}
 

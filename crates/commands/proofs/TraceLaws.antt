@@ -14,11 +14,11 @@ use lib.Seq.{get_or-append-add}
 use Rattle.sdtd.specs.Schema.{step, no_block}
 use Rattle.sdtd.specs.declared.Tag.{Tag}
 use Rattle.command.specs.declared.Command.{Command}
-use Rattle.command.specs.declared.Command.TheVariants.{Tags, TypeBlock, Final, Step, Root, Nil, Done, Expression, NoCommand}
+use Rattle.command.specs.declared.Command.TheVariants.{Tags, TypeBlock, Final, Step, Root, Nil, Done, Expression}
 use Rattle.expression.specs.Content.{Name}
 use Rattle.commands.specs.Questions.{rank}
 use Rattle.commands.specs.File.{Draft, Stated, current, with_final, with_step, with_nil, in_current, after, with_automaton, block_by, unknown}
-use Rattle.commands.specs.declared.progress.Phase.TheVariants.{InBlock}
+use Rattle.commands.specs.declared.phase.Phase.TheVariants.{InBlock}
 use Rattle.commands.proofs.Passing.{Passed, passed}
 use Rattle.commands.proofs.TableLaws.{same_count}
 use Rattle.commands.proofs.StatedLimits.{known_in}
@@ -35,7 +35,6 @@ names-after g i (Root a) m = m
 names-after g i Nil m = m
 names-after g i Done m = m
 names-after g i (Expression x) m = m
-names-after g i NoCommand m = m
 
 blocks-after : (g : Stated) (i : ℕ) (c : Command) → length g.blocks ≤ length (after g i c).blocks
 unfolding after
@@ -47,7 +46,6 @@ blocks-after g i (Root a) = omega arith
 blocks-after g i Nil = omega (arith, same_count with_nil g.blocks)
 blocks-after g i Done = omega arith
 blocks-after g i (Expression x) = omega arith
-blocks-after g i NoCommand = omega arith
 
 module _ {file : List ℕ} {g : Stated} where
   -- the names so far are among those at the end
@@ -158,7 +156,6 @@ stays_over g i Nil n p o =
     record { over = record { given = omega arith; no_more = λ q. omega (arith, o.no_more q) }; same = nil_same g.blocks n }
 stays_over g i Done n p o = record { over = record { given = o.given; no_more = λ q. absurd (omega arith) }; same = refl }
 stays_over g i (Expression x) n p o = absurd p
-stays_over g i NoCommand n p o = absurd p
 
 module _ {file : List ℕ} {g : Stated} where
   -- a block that is over is at the end as it is, but for its NIL

@@ -1,20 +1,21 @@
 -- A file that is read to its end, turn by turn: one turn for each command, and one for a TYPE with the expression that follows it.
-use mathlib.Core.Path.{◌≡◌, refl, ap, subst, ◌∙◌}
+use mathlib.Core.Path.{◌≡◌, refl, ap, ◌∙◌}
 use mathlib.Core.Logic.{◌≢◌}
 use mathlib.Core.Bool.{Bool, true, false}
 use mathlib.Core.List.{List}
+use Rattle.std.specs.Prelude.{Some}
 use Prim.Native.Nat.{ℕ, zero, suc, ◌+◌, ◌-◌, ◌≤◌, ◌<◌}
 use native.Mathlib.Omega.{arith}
 use borrow.Author.Tests.{eqb-true, eq-eqb, ne_eqb, le-leb, leb-true}
-use lib.Dec.{T, eqb, leb}
+use lib.Dec.{eqb, leb}
 use lib.ListN.{length}
 use Rattle.sdtd.proofs.Basics.{not_both}
 use Rattle.sdtd.specs.Limits.{most_steps}
 use Rattle.sdtd.specs.declared.Tag.{Tag}
 use Rattle.command.specs.Cases.{on_type}
-use Rattle.command.specs.Command.{is_command, command_at, size}
+use Rattle.command.specs.Command.{command_at, size}
 use Rattle.command.specs.declared.Command.{Command}
-use Rattle.command.specs.declared.Command.TheVariants.{Tags, TypeBlock, Final, Step, Root, Nil, Done, Expression, NoCommand}
+use Rattle.command.specs.declared.Command.TheVariants.{Tags, TypeBlock, Final, Step, Root, Nil, Done, Expression}
 use Rattle.command.proofs.CommandLaws.{command_in_file, size_some}
 use Rattle.expression.specs.Expression.{Expression as Exp}
 use Rattle.expression.specs.Tests.{all_steps}
@@ -23,8 +24,8 @@ use Rattle.expression.proofs.WholeContents.{rise_most, whole_content}
 use Rattle.commands.specs.Questions.{rank, same_phase, failed}
 use Rattle.commands.specs.File.{Stated, nothing_stated, step_count, seen_of, after, after_expression}
 use Rattle.commands.specs.File.{states, by_content, commands_from, commands}
-use Rattle.commands.specs.declared.progress.Phase.TheVariants.{InExpression, AfterDone}
-use Rattle.commands.proofs.Passing.{Passed, passed, passed_command, not_stopped, turn, after_content}
+use Rattle.commands.specs.declared.phase.Phase.TheVariants.{InExpression, AfterDone}
+use Rattle.commands.proofs.Passing.{Passed, passed, not_stopped, turn, after_command, after_content}
 use Rattle.commands.proofs.OneByOne.{goes_on, reads_expression, ends}
 use Rattle.commands.proofs.Runs.{not_done, not_inside}
 
@@ -35,9 +36,9 @@ opens_expression c = on_type (λ t s. eqb s 0) false c
 -- From the place i on, where g₀ is stated, each command passes its questions up to the end of the file, where g is stated.
 pub data Trace (file : List ℕ) (g : Stated) : ℕ → Stated → Type 0 where
   ended : {i : ℕ} {g₀ : Stated} → g₀ ≡ g → rank g₀.phase ≡ rank AfterDone → length file ≤ i → Trace file g i g₀
-  command : {i : ℕ} {g₀ : Stated} (c : Command) → command_at file i ≡ c → failed (seen_of g₀ c) c ≡ 0 → opens_expression c ≡ false
+  command : {i : ℕ} {g₀ : Stated} (c : Command) → command_at file i ≡ Some c → failed (seen_of g₀ c) c ≡ 0 → opens_expression c ≡ false
       → Trace file g (i + size c) (after g₀ i c) → Trace file g i g₀
-  content : {i : ℕ} {g₀ : Stated} (t : Tag) (e : Exp) (ns : List Name) (p : ℕ) → command_at file i ≡ TypeBlock t 0
+  content : {i : ℕ} {g₀ : Stated} (t : Tag) (e : Exp) (ns : List Name) (p : ℕ) → command_at file i ≡ Some (TypeBlock t 0)
       → failed (seen_of g₀ (TypeBlock t 0)) (TypeBlock t 0) ≡ 0 → content_at file (i + 3) ≡ whole e ns p
       → step_count g₀.blocks + length (all_steps e) ≤ most_steps
       → Trace file g (p + 1) (after_expression (after g₀ i (TypeBlock t 0)) e ns) → Trace file g i g₀
@@ -62,11 +63,10 @@ outside_after g i (Root a) p o = omega arith
 outside_after g i Nil p o = p.2
 outside_after g i Done p o = omega arith
 outside_after g i (Expression x) p o = absurd p
-outside_after g i NoCommand p o = absurd p
 
 module _ (file : List ℕ) (g : Stated) where
   -- one command that passes
-  one_turn : (i : ℕ) (g₀ : Stated) (c : Command) → command_at file i ≡ c → failed (seen_of g₀ c) c ≡ 0
+  one_turn : (i : ℕ) (g₀ : Stated) (c : Command) → command_at file i ≡ Some c → failed (seen_of g₀ c) c ≡ 0
       → (rank (after g₀ i c).phase ≢ rank InExpression → Trace file g (i + size c) (after g₀ i c))
       → (rank (after g₀ i c).phase ≡ rank InExpression → ContentThen file g (i + size c) (after g₀ i c)) → Trace file g i g₀
   unfolding after
@@ -87,16 +87,13 @@ module _ (file : List ℕ) (g : Stated) where
   one_turn i g₀ Nil h z more read = command Nil h z refl (more (outside_after g₀ i Nil (passed g₀ Nil z) refl))
   one_turn i g₀ Done h z more read = command Done h z refl (more (outside_after g₀ i Done (passed g₀ Done z) refl))
   one_turn i g₀ (Expression x) h z more read = absurd (passed g₀ (Expression x) z)
-  one_turn i g₀ NoCommand h z more read = absurd (passed g₀ NoCommand z)
 
   trace_from : (fuel i : ℕ) (g₀ : Stated) → commands_from fuel file i g₀ ≡ states g
       → (rank g₀.phase ≢ rank InExpression → Trace file g i g₀) × (rank g₀.phase ≡ rank InExpression → ContentThen file g i g₀)
   unfolding commands_from
   trace_from zero i g₀ e = not_stopped e
   trace_from (suc fuel) i g₀ e =
-      let c = command_at file i in
-      let n = failed (seen_of g₀ c) c in
-      turn (same_phase g₀.phase AfterDone) (leb (length file) i) (same_phase g₀.phase InExpression) (eqb n 0) n i e
+      turn (same_phase g₀.phase AfterDone) (leb (length file) i) (same_phase g₀.phase InExpression) i e
       (λ a b same.
       let d = eqb-true (rank g₀.phase) (rank AfterDone) a in
       (λ o. ended same d (leb-true (length file) i b), λ x. absurd (omega arith)))
@@ -108,10 +105,11 @@ module _ (file : List ℕ) (g : Stated) where
             let later = (trace_from fuel (m + 1) (after_expression g₀ k ns) rest).0 (omega arith) in
             record { expression = k; names = ns; end = m; read = whole; fits = fits; then = later }),
       ))
-      (λ z rest.
-      let k = eqb-true n 0 z in
+      (λ read.
+      after_command g₀ i (commands_from fuel file) (command_at file i) read
+      (λ c stands k rest.
       let r = trace_from fuel (i + size c) (after g₀ i c) rest in
-      (λ o. one_turn i g₀ c refl k r.0 r.1, λ x. absurd (inside_none x (not_inside g₀ c (passed g₀ c k)))))
+      (λ o. one_turn i g₀ c stands k r.0 r.1, λ x. absurd (inside_none x (not_inside g₀ c (passed g₀ c k))))))
     where
       inside_none : rank g₀.phase ≡ rank InExpression → same_phase g₀.phase InExpression ≡ false → ⊥
       inside_none x f = not_both (eq-eqb (rank g₀.phase) (rank InExpression) x) f
@@ -139,12 +137,11 @@ module _ (file : List ℕ) (g : Stated) where
   trace_reads {i} {g₀} (ended e d all) (suc fuel) l =
       ends fuel file i g₀ (eq-eqb (rank g₀.phase) (rank AfterDone) d) all ∙ ap states e
   trace_reads {i} {g₀} (command c h z o t) (suc fuel) l =
-      let k = passed_command g₀ c z in
-      let b = subst (λ (x : Command). T (is_command x) → i + size x ≤ length file) h (command_in_file file i) k in
-      let s = size_some c k in
+      let b = command_in_file file i h in
+      let s = size_some c in
       goes_on fuel file i g₀ (not_done g₀ c (passed g₀ c z)) (not_inside g₀ c (passed g₀ c z)) h z ∙ trace_reads {i = i + size c} t fuel (omega arith)
   trace_reads {i} {g₀} (content t e ns p h z read fits rest) (suc zero) l =
-      let b = subst (λ (x : Command). T (is_command x) → i + size x ≤ length file) h (command_in_file file i) tt in
+      let b = command_in_file file i h in
       absurd (omega arith)
   trace_reads {i} {g₀} (content t e ns p h z read fits rest) (suc (suc fuel)) l =
       let c = TypeBlock t 0 in

@@ -1,5 +1,5 @@
 -- "The schema file": what its commands state, command by command, up to a refusal or the end.
-use Rattle.std.specs.Prelude.{◌≡◌, Bool, true, false, cond, ◌&&◌, ◌||◌, ℕ, zero, suc, ◌+◌, T, eqb, leb, ltb, length, get_or}
+use Rattle.std.specs.Prelude.{◌≡◌, Bool, true, false, cond, Option, Some, None, ◌&&◌, ◌||◌, ℕ, zero, suc, ◌+◌, T, eqb, leb, ltb, length, get_or}
 use mathlib.Core.List.{List, [], ◌∷◌, ◌++◌, map, reverse, Memᴰ}
 use Rattle.sdtd.specs.Schema.{Block, Schema, step}
 use Rattle.sdtd.specs.Schema.{Step as StepOf}
@@ -9,15 +9,15 @@ use Rattle.sdtd.specs.Limits.{most_states, most_steps}
 use Rattle.command.specs.Command.{is_old, file_of, command_at, size}
 use Rattle.command.specs.Cases.{on_step, on_root, on_nil}
 use Rattle.command.specs.declared.Command.{Command}
-use Rattle.command.specs.declared.Command.TheVariants.{Tags, TypeBlock, Final, Step, Root, Nil, Done, Expression, NoCommand}
+use Rattle.command.specs.declared.Command.TheVariants.{Tags, TypeBlock, Final, Step, Root, Nil, Done, Expression}
 use Rattle.expression.specs.Expression.{Expression as Exp}
 use Rattle.expression.specs.Automaton.{uses}
 use Rattle.expression.specs.Tests.{accepts, all_steps}
 use Rattle.expression.specs.Content.{Name, Content, broken, whole, content_at}
 use Rattle.expression.specs.Answer.{set_of}
 use Rattle.commands.specs.Questions.{same_phase, failed}
-use Rattle.commands.specs.declared.progress.Phase.{Phase}
-use Rattle.commands.specs.declared.progress.Phase.TheVariants.{BeforeTags, BeforeTypes, InBlock, InExpression, AfterExpression, AfterRoot, AfterDone}
+use Rattle.commands.specs.declared.phase.Phase.{Phase}
+use Rattle.commands.specs.declared.phase.Phase.TheVariants.{BeforeTags, BeforeTypes, InBlock, InExpression, AfterExpression, AfterRoot, AfterDone}
 use Rattle.commands.specs.declared.questions.Seen.{Seen}
 
 -- a type's block so far: the place of its TYPE, whether it has a NIL, its accepting states as a set, its steps the last first
@@ -147,7 +147,6 @@ after g i (Root a) = record { phase = AfterRoot; tags = g.tags; blocks = g.block
 after g i Nil = record { phase = g.phase; tags = g.tags; blocks = in_current with_nil g.blocks; names = g.names; roots = g.roots }
 after g i Done = record { phase = AfterDone; tags = g.tags; blocks = g.blocks; names = g.names; roots = g.roots }
 after g i (Expression x) = g
-after g i NoCommand = g
 
 -- "It becomes an automaton": the block has the expression's automaton (`automaton_block`)
 abbrev pub with_automaton : Exp → Draft → Draft
@@ -184,16 +183,21 @@ by_content g rest (broken n p) = stopped n p
 by_content g rest (whole e ns p) =
     cond (leb (step_count g.blocks + length (all_steps e)) most_steps) (rest (p + 1) (after_expression g e ns)) (stopped 5 p)
 
+-- the rest of the file after the command at the place i, or a refusal; where none stands there, by question 2
+unfoldable pub by_command : Stated → ℕ → (ℕ → Stated → Commands) → Option Command → Commands
+by_command g i rest None = stopped 2 i
+by_command g i rest (Some c) =
+    let n = failed (seen_of g c) c in
+    cond (eqb n 0) (rest (i + size c) (after g i c)) (stopped n i)
+
 -- The commands from the place i on, after what is stated so far; `fuel` is more than the bytes left (so its first clause is never reached).
 -- "A refusal answers number and place, the offset of the command in question unless said otherwise." "A byte after DONE gets 3 at that byte,
 -- whichever it is." "An empty or unfinished file gets 2 at its length." Inside an expression `content_at` asks its commands.
 unfoldable pub commands_from : ℕ → List ℕ → ℕ → Stated → Commands
 commands_from zero file i g = stopped 2 i
 commands_from (suc fuel) file i g =
-    let c = command_at file i in
-    let n = failed (seen_of g c) c in
     let expression = by_content g (commands_from fuel file) (content_at file i) in
-    let command = cond (eqb n 0) (commands_from fuel file (i + size c) (after g i c)) (stopped n i) in
+    let command = by_command g i (commands_from fuel file) (command_at file i) in
     cond (same_phase g.phase AfterDone) (cond (leb (length file) i) (states g) (stopped 3 i))
     (cond (same_phase g.phase InExpression) expression command)
 

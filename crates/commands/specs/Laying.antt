@@ -1,12 +1,12 @@
 -- What the private steps over an expression's automaton compute: its steps laid into the tables by from, type, to; and what its 32s name.
-use Rattle.std.specs.Prelude.{◌≡◌, false, cond, ◌&&◌, List, [], ◌∷◌, map, ℕ, zero, suc, ◌+◌, ◌%◌, ◌^◌, ◌≤◌, ◌<◌, min, eqb, ltb, length, get_or}
+use Rattle.std.specs.Prelude.{◌≡◌, false, cond, ◌&&◌, List, [], ◌∷◌, map, ℕ, zero, suc, ◌+◌, ◌%◌, ◌^◌, ◌≤◌, ◌<◌, min, eqb, length, get_or}
 use Rattle.sdtd.specs.Limits.{most_types, most_states, most_steps}
 use Rattle.sdtd.specs.Schema.{Step, step}
-use Rattle.sdtd.specs.Answer.{Verdict, fine, refused_at}
 use Rattle.schema.specs.States.{member}
 use Rattle.schema.specs.Putting.{put_all}
 use Rattle.sdtd.specs.Lists.{of_each}
 use Rattle.expression.specs.Content.{Name}
+use Rattle.commands.specs.declared.builder.Builder.{Builder}
 
 -- what f gives of each member of the set that is below k, rising
 abbrev pub of_members : {A : Type 0} → ℕ → (ℕ → List A) → ℕ → List A
@@ -34,16 +34,12 @@ pub record PutAs (xs : List ℕ) (n : ℕ) (t t' : List ℕ) (r : ℕ) : Type 0 
   pub count : r ≡ min (n + length xs) (most_steps + 1)
   pub put : n + length xs ≤ most_steps → t' ≡ put_all xs n t
 
--- steps are put so into three tables
-pub record LaidAs (xs : List Step) (n : ℕ) (from by to from' by' to' : List ℕ) (r : ℕ) : Type 0 where
-  pub sources : PutAs (map (λ (x : Step). x.from) xs) n from from' r
-  pub types : PutAs (map (λ (x : Step). x.by) xs) n by by' r
-  pub targets : PutAs (map (λ (x : Step). x.to) xs) n to to' r
-
--- "Its steps count toward the 1,024 (5, at the 3F)": the verdict on an expression that ends at the place p, with so many steps in all
-abbrev pub fitting : Verdict → ℕ → ℕ → Verdict
-fitting fine p n = cond (ltb most_steps n) (refused_at 5 p) fine
-fitting (refused_at k q) p n = refused_at k q
+-- Steps are put so into the three tables of what is built, behind its steps; the rest stays.
+pub record LaidAs (xs : List Step) (s s' : Builder) : Type 0 where
+  pub sources : PutAs (map (λ (x : Step). x.from) xs) s.steps s.schema.from s'.schema.from s'.steps
+  pub types : PutAs (map (λ (x : Step). x.by) xs) s.steps s.schema.by s'.schema.by s'.steps
+  pub targets : PutAs (map (λ (x : Step). x.to) xs) s.steps s.schema.to s'.schema.to s'.steps
+  pub others : s' ≡ record s { steps = s'.steps; schema = record (s.schema) { from = s'.schema.from; by = s'.schema.by; to = s'.schema.to } }
 
 -- what the n uses from s on name, by the tables of their types and places
 unfoldable pub names_from : List ℕ → List ℕ → ℕ → ℕ → List Name

@@ -1,13 +1,12 @@
--- "For each command" outside an expression: the questions 2 to 6, asked of what is seen of the file where the command stands.
+-- "For each command" outside an expression: the questions 3 to 6, asked of what is seen of the file where the command stands.
 use Rattle.std.specs.Prelude.{Bool, true, false, not, ◌&&◌, ◌||◌, List, [], ◌∷◌, ℕ, eqb, leb, ltb}
 use Rattle.sdtd.specs.Limits.{most_tags, most_types, most_roots, most_states, most_steps}
 use Rattle.schema.specs.States.{member}
 use Rattle.command.specs.Asked.{first_no}
-use Rattle.command.specs.Command.{is_command}
 use Rattle.command.specs.declared.Command.{Command}
-use Rattle.command.specs.declared.Command.TheVariants.{Tags, TypeBlock, Final, Step, Root, Nil, Done, Expression, NoCommand}
-use Rattle.commands.specs.declared.progress.Phase.{Phase}
-use Rattle.commands.specs.declared.progress.Phase.TheVariants.{BeforeTags, BeforeTypes, InBlock, InExpression, AfterExpression, AfterRoot, AfterDone}
+use Rattle.command.specs.declared.Command.TheVariants.{Tags, TypeBlock, Final, Step, Root, Nil, Done, Expression}
+use Rattle.commands.specs.declared.phase.Phase.{Phase}
+use Rattle.commands.specs.declared.phase.Phase.TheVariants.{BeforeTags, BeforeTypes, InBlock, InExpression, AfterExpression, AfterRoot, AfterDone}
 use Rattle.commands.specs.declared.questions.Seen.{Seen}
 
 -- Where a file stands, in order: before TAGS, before the first TYPE, in a block by states, in an expression, after its 3F, after a ROOT, after
@@ -43,7 +42,6 @@ in_order s (Root a) = same_phase s.phase AfterRoot || in_type_block s.phase
 in_order s Nil = in_type_block s.phase
 in_order s Done = same_phase s.phase AfterRoot
 in_order s (Expression x) = false
-in_order s NoCommand = false
 
 -- "Are the operands in range (count 1 to 32; tag below the count; states 1 to 32; state below its type's; STEP's type below 64; ROOT's type
 -- already given)?" "A TYPE with state count 0": 0 is in range too.
@@ -56,7 +54,6 @@ in_range s (Root a) = ltb a.0 s.types
 in_range s Nil = true
 in_range s Done = true
 in_range s (Expression x) = true
-in_range s NoCommand = true
 
 -- "Is it within 64 types and 1,024 steps?" "a ninth [ROOT] gets 5"
 abbrev pub within_counts : Seen → Command → Bool
@@ -68,7 +65,6 @@ within_counts s (Root a) = ltb s.roots most_roots
 within_counts s Nil = true
 within_counts s Done = true
 within_counts s (Expression x) = true
-within_counts s NoCommand = true
 
 -- "Is this FINAL or STEP not yet given in its block?" "[ROOT] each another type; [..] a repeat 6" "[NIL] once [..] (else 6)"
 abbrev pub not_given : Seen → Command → Bool
@@ -80,12 +76,11 @@ not_given s (Root a) = not s.given
 not_given s Nil = not s.given
 not_given s Done = true
 not_given s (Expression x) = true
-not_given s NoCommand = true
 
--- The questions in order, each with its number and whether the answer is yes. 2 is: "Is it one of the six, its operands inside the file?",
--- of the commands of documents 01 and 02.
+-- The questions in order, each with its number and whether the answer is yes. Before them comes 2: "Is it one of the six, its operands inside
+-- the file?", of the commands of documents 01 and 02, where none stands.
 abbrev pub questions : Seen → Command → List (ℕ × Bool)
-questions s c = (2, is_command c) ∷ (3, in_order s c) ∷ (4, in_range s c) ∷ (5, within_counts s c) ∷ (6, not_given s c) ∷ []
+questions s c = (3, in_order s c) ∷ (4, in_range s c) ∷ (5, within_counts s c) ∷ (6, not_given s c) ∷ []
 
 -- the number of the first question that the command fails; 0 where it passes them all
 abbrev pub failed : Seen → Command → ℕ

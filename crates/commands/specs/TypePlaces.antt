@@ -1,14 +1,19 @@
 -- The places of the TYPE commands of any file, refused or not.
-use Rattle.std.specs.Prelude.{cond, List, [], ◌∷◌, ◌++◌, ℕ, zero, suc, ◌+◌, length, get_or}
-use Rattle.command.specs.Command.{is_command, command_at, size}
+use Rattle.std.specs.Prelude.{Option, Some, None, List, [], ◌∷◌, ◌++◌, ℕ, zero, suc, ◌+◌, length, get_or}
+use Rattle.command.specs.Command.{command_at, size}
 use Rattle.command.specs.Cases.{on_type}
+use Rattle.command.specs.declared.Command.{Command}
+
+-- the place i if a TYPE stands there, and the rest after the command; nothing where there is none
+abbrev pub places_on : ℕ → (ℕ → List ℕ) → Option Command → List ℕ
+places_on i rest None = []
+places_on i rest (Some c) = on_type (λ t s. i ∷ []) [] c ++ rest (i + size c)
 
 -- the places of the TYPEs from the place i on, up to where no command stands; `fuel` is more than the bytes left
 unfoldable pub places_from : ℕ → List ℕ → ℕ → List ℕ
 places_from zero file i = []
 places_from (suc fuel) file i =
-    let c = command_at file i in
-    cond (is_command c) (on_type (λ t s. i ∷ []) [] c ++ places_from fuel file (i + size c)) []
+    places_on i (places_from fuel file) (command_at file i)
 
 -- those of the whole file
 abbrev pub places_of_types : List ℕ → List ℕ

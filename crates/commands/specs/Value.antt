@@ -6,7 +6,7 @@ use Rattle.schema.specs.Value.{offset, meaning}
 use Rattle.schema.specs.declared.value.Schema.{Schema}
 use Rattle.commands.specs.File.{Stated, schema_by}
 
--- the schema value beside a refusal: no tag, no type, no root
+-- the schema value of no schema: no tag, no type, no root
 abbrev pub no_schema : Schema
 no_schema =
     record {

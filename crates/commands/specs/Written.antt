@@ -1,5 +1,5 @@
 -- "The accepted schema is the one that the file states": what a block of the schema has to do with the TYPE that begins it.
-use Rattle.std.specs.Prelude.{◌≡◌, List, ℕ, ◌+◌}
+use Rattle.std.specs.Prelude.{◌≡◌, Some, List, ℕ, ◌+◌}
 use Rattle.sdtd.specs.Schema.{Block}
 use Rattle.sdtd.specs.declared.Tag.{Tag}
 use Rattle.command.specs.Command.{command_at, size}
@@ -21,6 +21,6 @@ pub record Written (file : List ℕ) (b : Block) : Type 0 where
   pub place : ℕ
   pub tag : Tag
   pub states : ℕ
-  pub begins : command_at file place ≡ TypeBlock tag states
+  pub begins : command_at file place ≡ Some (TypeBlock tag states)
   pub same_tag : b.tag ≡ tag.0
   pub stands : states ≡ 0 → ByExpression file (place + size (TypeBlock tag states)) b

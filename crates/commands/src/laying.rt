@@ -1,15 +1,15 @@
-// An expression's automaton, laid into the tables.
-ghost use Rattle.std.specs.Prelude.{◌≡◌, [], ◌∷◌, ℕ, suc, ◌+◌, ◌-◌, ◌≤◌, ◌<◌, length, get_or, set};
+// An expression's automaton, laid into what is built.
+ghost use Rattle.std.specs.Prelude.{◌≡◌, [], ◌∷◌, ℕ, ◌+◌, ◌≤◌, ◌<◌, length, get_or};
 ghost use Rattle.sdtd.specs.Limits.{most_types, most_states, most_steps};
 ghost use Rattle.sdtd.specs.Schema.{step};
-ghost use Rattle.commands.specs.Progress.{last_type, places_with, bound_with};
-ghost use Rattle.commands.specs.Laying.{Grouped, laid_by, laid_from, laid_steps, LaidAs, fitting, names_from};
+ghost use Rattle.commands.specs.Building.{all_named, Added};
+ghost use Rattle.commands.specs.Laying.{Grouped, laid_by, laid_from, laid_steps, LaidAs, names_from};
 
-use crate::progress::{Progress, TYPE_NUMBERS, last_type};
-use crate::tables::{earlier, larger};
+use crate::builder::{Builder, TYPE_NUMBERS};
+use crate::phase::Phase;
 use expression::Automaton;
 use schema::{STATES, STEPS, StateSet, TYPES};
-use sdtd::Verdict;
+use sdtd::{Refusal, Refused, TypeNo};
 
 // the states that an automaton can have
 const ROOM: usize = STATES as usize;
@@ -33,164 +33,103 @@ fn group<'a>(set: u32, types: &'a [u8; ROOM], sets: &'a mut [u32; TYPES]) -> u64
     named
 }
 
-// One step more; none behind the last place.
-#[tactic(auto, unfolding(sdtd::specs::Lists::of_each, schema::specs::Putting::put_all))]
-fn put_step<'a>(
-    p: u8,
-    j: u8,
-    q: u8,
-    n: usize,
-    from: &'a mut [u8; STEPS],
-    by: &'a mut [u8; STEPS],
-    to: &'a mut [u8; STEPS],
-) -> usize
-    requires { n ≤ most_steps + 1 }
-    ensures { LaidAs (step p j q ∷ []) n from.old by.old to.old
-        from.new by.new to.new result }
-{
-    if STEPS <= n {
-        return STEPS + 1;
-    }
-    from[n] = p;
-    by[n] = j;
-    to[n] = q;
-    n + 1
-}
-
-// The steps from the state p by the type j, to the uses in the set.
-fn lay_by<'a>(
-    set: u32,
-    p: u8,
-    j: u8,
-    n: usize,
-    from: &'a mut [u8; STEPS],
-    by: &'a mut [u8; STEPS],
-    to: &'a mut [u8; STEPS],
-) -> usize
-    requires { n ≤ most_steps + 1 }
-    ensures { LaidAs (laid_by p j set) n from.old by.old to.old
-        from.new by.new to.new result }
-{
-    let mut count = n;
-    let mut rest = set;
-    while rest != 0 {
-        let q = u32::trailing_zeros(rest) as u8;
-        count = put_step(p, j, q, count, from, by, to);
-        rest = rest & (rest - 1);
-    }
-    count
-}
-
-// The steps from the state p, to the uses in the set, type by type; `sets` are empty before and after.
-fn lay_from<'a>(
-    set: u32,
-    p: u8,
-    types: &'a [u8; ROOM],
-    sets: &'a mut [u32; TYPES],
-    n: usize,
-    from: &'a mut [u8; STEPS],
-    by: &'a mut [u8; STEPS],
-    to: &'a mut [u8; STEPS],
-) -> usize
-    requires { (n ≤ most_steps + 1) × (length sets.old ≡ most_types) × ((k : ℕ) → get_or sets.old k 0 ≡ 0) }
-    ensures { LaidAs (laid_from types.now p set) n from.old by.old to.old
-        from.new by.new to.new result
-        × (length sets.new ≡ most_types) × ((k : ℕ) → get_or sets.new k 0 ≡ 0) }
-{
-    let mut count = n;
-    let mut rest = group(set, types, sets);
-    while rest != 0 {
-        let j = u64::trailing_zeros(rest) as u8;
-        let own = sets[j as usize];
-        count = lay_by(own, p, j, count, from, by, to);
-        sets[j as usize] = StateSet::NONE.0;
-        rest = rest & (rest - 1);
-    }
-    count
-}
-
-// The automaton's steps by from, type, to, from the place n on; and the place behind them, or one past the last.
-pub(crate) fn lay_steps<'a>(
-    read: Automaton,
-    n: usize,
-    from: &'a mut [u8; STEPS],
-    by: &'a mut [u8; STEPS],
-    to: &'a mut [u8; STEPS],
-) -> usize
-    requires { (read.uses < most_states) × (n ≤ most_steps + 1) }
-    ensures { LaidAs (laid_steps read.next read.types read.uses) n
-        from.old by.old to.old from.new by.new to.new result }
-{
-    let uses = read.uses;
-    let mut sets = [StateSet::NONE.0; TYPES];
-    let mut count = n;
-    let mut p = 0u8;
-    while p <= uses {
-        let set = read.next[p as usize];
-        count = lay_from(set, p, &read.types, &mut sets, count, from, by, to);
-        p += 1;
-    }
-    count
-}
-
-// The verdict on an expression, with so many steps in all.
-pub(crate) fn fits(read: Automaton, steps: usize) -> Verdict
-    ensures { result ≡ fitting read.verdict read.end steps }
-{
-    let verdict = read.verdict;
-    match verdict {
-        Verdict::Fine => {
-            if STEPS < steps {
-                return Verdict::RefusedAt(5, read.end);
-            }
-            Verdict::Fine
+impl Builder {
+    // Adds the automaton of an expression, if its steps fit.
+    pub fn add_expression(&mut self, read: &Automaton) -> Result<(), Refusal>
+        requires { (read.now.uses < most_states) × (self.old.steps ≤ most_steps) × (self.old.bound ≤ most_types) }
+        ensures { Added self.old self.new read.now result }
+    {
+        let before = self.steps;
+        self.lay_steps(read);
+        if STEPS < self.steps {
+            return Err(Refused::TooMany.at(read.end));
         }
-        Verdict::RefusedAt(n, p) => Verdict::RefusedAt(n, p),
+        let last = self.last_type();
+        self.schema.states[last] = read.uses + 1;
+        self.schema.accepting[last] = read.accepting.0;
+        self.schema.steps[last] = (self.steps - before) as u16;
+        self.phase = Phase::AfterExpression;
+        self.add_names(read);
+        Ok(())
     }
-}
 
-// The last type's state count and accepting states.
-pub(crate) fn lay_states<'a>(
-    read: Automaton,
-    types: u8,
-    states: &'a mut [u8; TYPES],
-    accepting: &'a mut [u32; TYPES],
-)
-    requires { read.uses < most_states }
-    ensures { (states.new ≡ set states.old (last_type types) (suc read.uses))
-        × (accepting.new ≡ set accepting.old (last_type types) read.accepting.0) }
-{
-    let last = last_type(types);
-    let ends = read.accepting;
-    states[last] = read.uses + 1;
-    accepting[last] = ends.0;
-}
-
-// The last type's number of steps: so many in all, without those before.
-pub(crate) fn count_steps(progress: Progress, total: usize, counts: &mut [u16; TYPES])
-    requires { (progress.steps ≤ total) × (total ≤ most_steps) }
-    ensures { counts.new ≡ set counts.old (last_type progress.types) (total - progress.steps) }
-{
-    let last = last_type(progress.types);
-    counts[last] = (total - progress.steps) as u16;
-}
-
-// The places of the types that the automaton's uses name; and the bound above them.
-pub(crate) fn add_names(read: Automaton, places: &mut [usize; TYPES], bound: usize) -> usize
-    requires { (read.uses < most_states) × (bound ≤ most_types) }
-    ensures { (places.new ≡ places_with (names_from read.types read.places 1 read.uses) places.old)
-        × (result ≡ bound_with (names_from read.types read.places 1 read.uses) bound) }
-{
-    let uses = read.uses;
-    let mut above = bound;
-    let mut q = 1u8;
-    while q <= uses {
-        let at = q as usize;
-        let named = (read.types[at] % TYPE_NUMBERS) as usize;
-        let first = places[named];
-        places[named] = earlier(first, read.places[at]);
-        above = larger(above, named + 1);
-        q += 1;
+    // One step more; behind the last place none, and the number of steps is one past it.
+    #[tactic(auto, unfolding(sdtd::specs::Lists::of_each, schema::specs::Putting::put_all))]
+    fn put_step(&mut self, p: u8, j: u8, q: u8)
+        requires { self.old.steps ≤ most_steps + 1 }
+        ensures { LaidAs (step p j q ∷ []) self.old self.new }
+    {
+        let n = self.steps;
+        if STEPS <= n {
+            self.steps = STEPS + 1;
+            return;
+        }
+        self.schema.from[n] = p;
+        self.schema.by[n] = j;
+        self.schema.to[n] = q;
+        self.steps = n + 1;
     }
-    above
+
+    // The steps from the state p by the type j, to the uses in the set.
+    fn lay_by(&mut self, set: u32, p: u8, j: u8)
+        requires { self.old.steps ≤ most_steps + 1 }
+        ensures { LaidAs (laid_by p j set) self.old self.new }
+    {
+        let mut rest = set;
+        while rest != 0 {
+            let q = u32::trailing_zeros(rest) as u8;
+            self.put_step(p, j, q);
+            rest = rest & (rest - 1);
+        }
+    }
+
+    // The steps from the state p, to the uses in the set, type by type; `sets` are empty before and after.
+    fn lay_from<'a>(
+        &'a mut self,
+        set: u32,
+        p: u8,
+        types: &'a [u8; ROOM],
+        sets: &'a mut [u32; TYPES],
+    )
+        requires { (self.old.steps ≤ most_steps + 1) × (length sets.old ≡ most_types) × ((k : ℕ) → get_or sets.old k 0 ≡ 0) }
+        ensures { LaidAs (laid_from types.now p set) self.old self.new
+            × (length sets.new ≡ most_types) × ((k : ℕ) → get_or sets.new k 0 ≡ 0) }
+    {
+        let mut rest = group(set, types, sets);
+        while rest != 0 {
+            let j = u64::trailing_zeros(rest) as u8;
+            let own = sets[j as usize];
+            self.lay_by(own, p, j);
+            sets[j as usize] = StateSet::NONE.0;
+            rest = rest & (rest - 1);
+        }
+    }
+
+    // The automaton's steps by from, type, to.
+    fn lay_steps(&mut self, read: &Automaton)
+        requires { (read.now.uses < most_states) × (self.old.steps ≤ most_steps) }
+        ensures { LaidAs (laid_steps read.now.next read.now.types read.now.uses) self.old self.new }
+    {
+        let uses = read.uses;
+        let mut sets = [StateSet::NONE.0; TYPES];
+        let mut p = 0u8;
+        while p <= uses {
+            self.lay_from(read.next[p as usize], p, &read.types, &mut sets);
+            p += 1;
+        }
+    }
+
+    // The automaton's uses name their types.
+    fn add_names(&mut self, read: &Automaton)
+        requires { (read.now.uses < most_states) × (self.old.bound ≤ most_types) }
+        ensures { self.new ≡ all_named self.old (names_from read.now.types read.now.places 1 read.now.uses) }
+    {
+        let uses = read.uses;
+        let mut q = 1u8;
+        while q <= uses {
+            let at = q as usize;
+            self.name(TypeNo(read.types[at]), read.places[at]);
+            q += 1;
+        }
+    }
 }

@@ -1,12 +1,12 @@
 // The commands of the schema file, questions 2 to 7 and 21 to 23, and the schema that they state.
 #![tactic(auto)]
 
+mod builder;
 mod commands;
 mod laying;
-mod progress;
+mod phase;
 mod questions;
-mod tables;
 mod type_places;
 
-pub use commands::{StatedSchema, no_schema, read_commands};
+pub use commands::read_commands;
 pub use type_places::type_place;

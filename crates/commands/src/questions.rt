@@ -1,12 +1,13 @@
-// What each command outside an expression is asked, questions 2 to 6.
+// What each command outside an expression is asked, questions 3 to 6.
 ghost use Rattle.std.specs.Prelude.{◌≡◌};
-ghost use Rattle.command.specs.Command.{is_command};
+ghost use Rattle.sdtd.specs.Answer.{number_told};
 ghost use Rattle.commands.specs.Questions.{in_type_block, in_order, in_range, within_counts, not_given, failed};
-ghost use Rattle.commands.specs.Progress.{seen_by};
 
-use crate::progress::{MOST_ROOTS, Phase, Progress, TYPE_NUMBERS, same_phase};
+use crate::builder::{MOST_ROOTS, TYPE_NUMBERS};
+use crate::phase::Phase;
 use command::Command;
 use schema::{STATES, STEPS, StateSet, TAGS};
+use sdtd::Refused;
 
 // What is seen of the file where a command is asked: the phase, the numbers of tags, types, roots and steps so far; of the block that the file is
 // in, the state count and the accepting states; and whether that block has the command's STEP or NIL already, or the file the command's ROOT.
@@ -22,45 +23,11 @@ pub(crate) struct Seen {
     pub given: bool,
 }
 
-// What is seen of a file that was read so far.
-pub(crate) fn seen_of(progress: Progress, states: u8, accepting: StateSet, given: bool) -> Seen
-    ensures { result ≡ seen_by progress states accepting given }
-{
-    let phase = progress.phase;
-    Seen {
-        phase,
-        tags: progress.tags,
-        types: progress.types,
-        roots: progress.roots,
-        steps: progress.steps,
-        states,
-        accepting,
-        given,
-    }
-}
-
-// Is it a command?
-fn is_command(command: Command) -> bool
-    ensures { result ≡ is_command command }
-{
-    match command {
-        Command::Tags(_) => true,
-        Command::TypeBlock(_, _) => true,
-        Command::Final(_) => true,
-        Command::Step(_, _, _) => true,
-        Command::Root(_) => true,
-        Command::Nil => true,
-        Command::Done => true,
-        Command::Expression(_) => true,
-        Command::NoCommand => false,
-    }
-}
-
 // Is the file in a type's block, by states or after an expression?
 fn in_type_block(phase: Phase) -> bool
     ensures { result ≡ in_type_block phase }
 {
-    same_phase(phase, Phase::InBlock) | same_phase(phase, Phase::AfterExpression)
+    phase.is(Phase::InBlock) | phase.is(Phase::AfterExpression)
 }
 
 // Does it stand in its order?
@@ -69,15 +36,14 @@ fn in_order(seen: Seen, command: Command) -> bool
 {
     let phase = seen.phase;
     match command {
-        Command::Tags(_) => same_phase(phase, Phase::BeforeTags),
-        Command::TypeBlock(_, _) => same_phase(phase, Phase::BeforeTypes) | in_type_block(phase),
-        Command::Final(_) => same_phase(phase, Phase::InBlock),
-        Command::Step(_, _, _) => same_phase(phase, Phase::InBlock),
-        Command::Root(_) => same_phase(phase, Phase::AfterRoot) | in_type_block(phase),
+        Command::Tags(_) => phase.is(Phase::BeforeTags),
+        Command::TypeBlock(_, _) => phase.is(Phase::BeforeTypes) | in_type_block(phase),
+        Command::Final(_) => phase.is(Phase::InBlock),
+        Command::Step(_, _, _) => phase.is(Phase::InBlock),
+        Command::Root(_) => phase.is(Phase::AfterRoot) | in_type_block(phase),
         Command::Nil => in_type_block(phase),
-        Command::Done => same_phase(phase, Phase::AfterRoot),
+        Command::Done => phase.is(Phase::AfterRoot),
         Command::Expression(_) => false,
-        Command::NoCommand => false,
     }
 }
 
@@ -94,7 +60,6 @@ fn in_range(seen: Seen, command: Command) -> bool
         Command::Nil => true,
         Command::Done => true,
         Command::Expression(_) => true,
-        Command::NoCommand => true,
     }
 }
 
@@ -111,7 +76,6 @@ fn within_counts(seen: Seen, command: Command) -> bool
         Command::Nil => true,
         Command::Done => true,
         Command::Expression(_) => true,
-        Command::NoCommand => true,
     }
 }
 
@@ -129,28 +93,24 @@ fn not_given(seen: Seen, command: Command) -> bool
         Command::Nil => !seen.given,
         Command::Done => true,
         Command::Expression(_) => true,
-        Command::NoCommand => true,
     }
 }
 
-// The number of the first question that the command fails, 2 to 6, or 0.
-pub(crate) fn failed_by(seen: Seen, command: Command) -> u8
-    ensures { result ≡ failed seen command }
+// The questions 3 to 6, in order.
+pub(crate) fn failed_by(seen: Seen, command: Command) -> Result<(), Refused>
+    ensures { number_told result ≡ failed seen command }
 {
-    if !is_command(command) {
-        return 2;
-    }
     if !in_order(seen, command) {
-        return 3;
+        return Err(Refused::OutOfOrder);
     }
     if !in_range(seen, command) {
-        return 4;
+        return Err(Refused::OutOfRange);
     }
     if !within_counts(seen, command) {
-        return 5;
+        return Err(Refused::TooMany);
     }
     if !not_given(seen, command) {
-        return 6;
+        return Err(Refused::Repeated);
     }
-    0
+    Ok(())
 }

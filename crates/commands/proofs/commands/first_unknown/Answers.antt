@@ -1,4 +1,4 @@
--- `commands::commands::first_unknown` meets its contract. The loop's invariant: the earlier of the place so far and the least of those left is
+-- The loop's invariant: the earlier of the place so far and the least of those left is
 -- the least of all.
 use mathlib.Core.Path.{◌≡◌, ◌∙◌}
 use mathlib.Core.List.{List}
@@ -6,7 +6,7 @@ use Prim.Native.Nat.{ℕ, suc, ◌+◌, ◌-◌, ◌≤◌, ◌<◌, min}
 use native.Mathlib.Numerals.{add-one}
 use native.Mathlib.Omega.{arith}
 use lib.ListN.{get_or}
-use Rattle.commands.specs.Progress.{least_from}
+use Rattle.commands.specs.Building.{least_from}
 use Rattle.commands.proofs.Places.{least_most}
 use Rattle.commands.proofs.commands.first_unknown.Goals as goal
 
@@ -33,7 +33,7 @@ loop-k-init c =
 pub loop-k-preserved : goal.loop-k-preserved
 loop-k-preserved c =
     let l = c.loop-k in
-    rw c.earlier-first.ensures (omega arith, later _ _ _ l.first l.k (omega arith) ∙ l.invariant.1)
+    rw c.min-first.ensures (omega arith, later _ _ _ l.first l.k (omega arith) ∙ l.invariant.1)
 
 pub returns : goal.returns
 returns c =

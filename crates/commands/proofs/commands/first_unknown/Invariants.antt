@@ -1,8 +1,8 @@
--- `commands::commands::first_unknown` meets its contract. The loop's invariant: the earlier of the place so far and the least of those left is
+-- The loop's invariant: the earlier of the place so far and the least of those left is
 -- the least of all.
 use mathlib.Core.Path.{◌≡◌}
 use Prim.Native.Nat.{◌-◌, ◌≤◌, min}
-use Rattle.commands.specs.Progress.{least_from}
+use Rattle.commands.specs.Building.{least_from}
 use Rattle.commands.proofs.commands.first_unknown.Given as goal
 
 abbrev pub invariant-loop-k : goal.invariant-loop-k

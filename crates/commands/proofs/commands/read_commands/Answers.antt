@@ -1,147 +1,98 @@
--- `commands::commands::read_commands` meets its contract. The loop's invariant: the progress and the tables hold what the commands so far
--- state, and the commands from the place on decide. The measure is what is left of the file: a command that passed ends inside it, and so does
--- an expression.
-use mathlib.Core.Path.{◌≡◌, refl, sym, ◌∙◌}
+-- The loop's invariant: what is built holds what the commands so far state, and the commands from the place on decide. The measure is what is
+-- left of the file: a command that passed ends inside it, and so does an expression.
+use mathlib.Core.Path.{◌≡◌, refl, sym, ap, ◌∙◌}
 use mathlib.Core.Bool.{true, false}
-use Prim.Native.Nat.{◌+◌, ◌≤◌, ◌<◌}
 use native.Mathlib.Omega.{arith}
-use lib.ListN.{length}
-use Rattle.sdtd.specs.Limits.{most_types, most_steps}
-use Rattle.commands.proofs.SchemaTables.{SchemaTables}
-use Rattle.commands.specs.Questions.{same_phase, failed}
-use Rattle.commands.specs.declared.progress.Phase.TheVariants.{InExpression, AfterDone}
-use Rattle.commands.proofs.Holding.{seen_in}
-use Rattle.commands.proofs.Drafts.{zeros_empty}
-use Rattle.sdtd.specs.Answer.{fine}
-use Rattle.commands.specs.Laying.{fitting}
-use Rattle.commands.proofs.ExpressionReads.{Found, found, uses_few}
-use Rattle.commands.proofs.ExpressionTurns.{turn_refused, turn_end, turn_reads}
-use Rattle.commands.proofs.OneByOne.{reads_first, reads_stopped, reads_next, answer_stopped, answer_ended}
+use Rattle.std.specs.Prelude.{Some, None, Err, MatchResult}
+use Rattle.std.proofs.Common.{rules}
+use Rattle.std.proofs.lemmas.Result.{err_from_is_err_and}
+use Rattle.sdtd.specs.Answer.{refused_at, question_number}
+use Rattle.sdtd.specs.declared.Refusal.{Refusal}
+use Rattle.sdtd.specs.declared.Refused.TheVariants.{NoCommand}
+use Rattle.command.specs.Command.{command_at}
+use Rattle.commands.specs.Questions.{same_phase}
+use Rattle.commands.specs.Building.{failed_by}
+use Rattle.commands.specs.declared.phase.Phase.TheVariants.{InExpression, AfterDone}
+use Rattle.commands.proofs.ExpressionTurns.{turn_refused, turn_fits, turn_end, turn_too_many, turn_reads}
+use Rattle.commands.proofs.OneByOne.{reads_first, reads_missing, reads_refused, reads_next, reads_over, answer_stopped, answer_unknown, answer_known}
 use Rattle.commands.proofs.commands.read_commands.Goals as goal
 
-pub loop-read-init : goal.loop-read-init
-loop-read-init c =
-    rw c.nothing_read-progress.ensures
-    (reads_first _
-    (record {
-      tag = refl;
-      states = refl;
-      accepting = refl;
-      counts = refl;
-      from = refl;
-      by = refl;
-      to = refl;
-    })
-    (record {
-      tag = zeros_empty most_types;
-      states = zeros_empty most_types;
-      accepting = zeros_empty most_types;
-      counts = zeros_empty most_types;
-      from = zeros_empty most_steps;
-      by = zeros_empty most_steps;
-      to = zeros_empty most_steps;
-    }))
+pub loop-built-init : goal.loop-built-init
+loop-built-init c = rw c.new-built.ensures (reads_first c.args.file.now)
 
-pub lay_steps-total-requires : goal.lay_steps-total-requires
-lay_steps-total-requires c =
-    let read : Found c.args.file.now c.loop-read.at c.read_content-read.result = found _ _ _ c.read_content-read.ensures in
-    (uses_few read, omega (arith, c.loop-read.invariant.holds.steps_most))
+pub returns-in_err-read : goal.returns-in_err-read
+returns-in_err-read c =
+    let inside : same_phase c.loop-built.built.phase InExpression ≡ true = sym c.is-in-loop-built.ensures ∙ c.if-is.true in
+    let p = err_from_is_err_and c.from_residual.result c.from_residual.ensures.1 in
+    rw (p.1, p.2) (answer_stopped _ (Err c.in_err-read.field-0.0) (turn_refused c.loop-built.invariant inside c.in_err-read.field-0.0 c.in_err-read.ensures) refl)
 
-pub returns-in-RefusedAt : goal.returns-in-RefusedAt
-returns-in-RefusedAt c =
-    let inside : same_phase c.loop-read.progress.phase InExpression ≡ true = sym c.is_in_expression.ensures ∙ c.if-is_in_expression.true in
-    let read : Found c.args.file.now c.loop-read.at c.read_content-read.result = found _ _ _ c.read_content-read.ensures in
-    answer_stopped _ _
-    (turn_refused c.loop-read.invariant inside read c.lay_steps-total.ensures (sym c.fits.ensures ∙ c.in-RefusedAt.is))
-    c.stopped.ensures
+pub add_expression-requires : goal.add_expression-requires
+add_expression-requires c =
+    let inside : same_phase c.loop-built.built.phase InExpression ≡ true = sym c.is-in-loop-built.ensures ∙ c.if-is.true in
+    turn_fits c.loop-built.invariant inside c.in_ok-read.read c.in_ok-read.ensures
 
-pub lay_states-requires : goal.lay_states-requires
-lay_states-requires c =
-    let read : Found c.args.file.now c.loop-read.at c.read_content-read.result = found _ _ _ c.read_content-read.ensures in
-    uses_few read
-
-pub add_names-bound-requires : goal.add_names-bound-requires
-add_names-bound-requires c =
-    let read : Found c.args.file.now c.loop-read.at c.read_content-read.result = found _ _ _ c.read_content-read.ensures in
-    (uses_few read, c.loop-read.invariant.named.bound_most)
+pub returns-in_err-add_expression : goal.returns-in_err-add_expression
+returns-in_err-add_expression c =
+    let inside : same_phase c.loop-built.built.phase InExpression ≡ true = sym c.is-in-loop-built.ensures ∙ c.if-is.true in
+    let p = err_from_is_err_and c.from_residual-in_err-add_expression.result c.from_residual-in_err-add_expression.ensures.1 in
+    let e = c.in_err-add_expression.field-0.0 in
+    rw (p.1, p.2)
+    (answer_stopped _ (Err e) (turn_too_many c.loop-built.invariant inside c.in_ok-read.read c.in_ok-read.ensures e c.in_err-add_expression.ensures) refl)
 
 pub overflow_add-at : goal.overflow_add-at
 overflow_add-at c =
-    let inside : same_phase c.loop-read.progress.phase InExpression ≡ true = sym c.is_in_expression.ensures ∙ c.if-is_in_expression.true in
-    let read : Found c.args.file.now c.loop-read.at c.read_content-read.result = found _ _ _ c.read_content-read.ensures in
-    let is_fine : fitting c.read_content-read.result.verdict c.read_content-read.result.end c.lay_steps-total.result ≡ fine = sym c.fits.ensures ∙ c.in_default.is in
-    let ends_at : (c.read_content-read.result.end + 1 ≤ length c.args.file.now)
-    × (c.loop-read.at < c.read_content-read.result.end + 1) = turn_end c.loop-read.invariant inside read c.lay_steps-total.ensures is_fine in
-    omega (arith, ends_at)
+    let inside : same_phase c.loop-built.built.phase InExpression ≡ true = sym c.is-in-loop-built.ensures ∙ c.if-is.true in
+    omega (arith, turn_end c.loop-built.invariant inside c.in_ok-read.read c.in_ok-read.ensures)
 
-pub loop-read-smaller-then-is_in_expression : goal.loop-read-smaller-then-is_in_expression
-loop-read-smaller-then-is_in_expression c =
-    let inside : same_phase c.loop-read.progress.phase InExpression ≡ true = sym c.is_in_expression.ensures ∙ c.if-is_in_expression.true in
-    let read : Found c.args.file.now c.loop-read.at c.read_content-read.result = found _ _ _ c.read_content-read.ensures in
-    let is_fine : fitting c.read_content-read.result.verdict c.read_content-read.result.end c.lay_steps-total.result ≡ fine = sym c.fits.ensures ∙ c.in_default.is in
-    let ends_at : (c.read_content-read.result.end + 1 ≤ length c.args.file.now)
-    × (c.loop-read.at < c.read_content-read.result.end + 1) = turn_end c.loop-read.invariant inside read c.lay_steps-total.ensures is_fine in
-    omega (arith, ends_at)
+pub loop-built-smaller-then-is : goal.loop-built-smaller-then-is
+loop-built-smaller-then-is c =
+    let inside : same_phase c.loop-built.built.phase InExpression ≡ true = sym c.is-in-loop-built.ensures ∙ c.if-is.true in
+    omega (arith, turn_end c.loop-built.invariant inside c.in_ok-read.read c.in_ok-read.ensures)
 
-pub loop-read-preserved-then-is_in_expression : goal.loop-read-preserved-then-is_in_expression
-loop-read-preserved-then-is_in_expression c =
-    let inside : same_phase c.loop-read.progress.phase InExpression ≡ true = sym c.is_in_expression.ensures ∙ c.if-is_in_expression.true in
-    let read : Found c.args.file.now c.loop-read.at c.read_content-read.result = found _ _ _ c.read_content-read.ensures in
-    let is_fine : fitting c.read_content-read.result.verdict c.read_content-read.result.end c.lay_steps-total.result ≡ fine = sym c.fits.ensures ∙ c.in_default.is in
-    turn_reads c.loop-read.invariant inside read c.lay_steps-total.ensures is_fine c.progress_with-progress.ensures
-    c.lay_states.ensures.0 c.lay_states.ensures.1 c.count_steps.ensures c.add_names-bound.ensures.0 c.add_names-bound.ensures.1
+pub loop-built-preserved-then-is : goal.loop-built-preserved-then-is
+loop-built-preserved-then-is c =
+    let inside : same_phase c.loop-built.built.phase InExpression ≡ true = sym c.is-in-loop-built.ensures ∙ c.if-is.true in
+    turn_reads c.loop-built.invariant inside c.in_ok-read.read c.in_ok-read.ensures c.add_expression.new.self c.in_ok-add_expression.ensures
 
-pub returns-then-number-ne0 : goal.returns-then-number-ne0
-returns-then-number-ne0 c =
-    let tables : SchemaTables = let l = c.loop-read in
-    record {
-      tag = l.tag;
-      states = l.states;
-      accepting = l.accepting;
-      counts = l.counts;
-      from = l.from;
-      by = l.by;
-      to = l.to;
-    } in
-    let more : same_phase c.loop-read.progress.phase AfterDone ≡ false = sym c.is_done.ensures ∙ c.loop-read-test.true in
-    let outside : same_phase c.loop-read.progress.phase InExpression ≡ false = sym c.is_in_expression.ensures ∙ c.if-is_in_expression.false in
-    let number : c.failed_in-number.result ≡ failed (seen_in c.loop-read.progress tables c.command_at-c.result) c.command_at-c.result = c.failed_in-number.ensures in
-    answer_stopped _ _
-    (reads_stopped c.loop-read.invariant more outside c.command_at-c.ensures number c.if-number-ne0.true)
-    c.stopped-then-number-ne0.ensures
+pub returns-in_err-command : goal.returns-in_err-command
+returns-in_err-command c =
+    let more : same_phase c.loop-built.built.phase AfterDone ≡ false = sym c.is.ensures ∙ c.loop-built-test.true in
+    let outside : same_phase c.loop-built.built.phase InExpression ≡ false = sym c.is-in-loop-built.ensures ∙ c.if-is.false in
+    let p = err_from_is_err_and c.from_residual-in_err-command.result c.from_residual-in_err-command.ensures.1 in
+    let e = c.in_err-command.field-0.0 in
+    let missing : command_at c.args.file.now c.loop-built.at ≡ None = search rules in
+    let told : e ≡ record { why = NoCommand; place = c.loop-built.at } = search rules in
+    rw (p.1, p.2) (answer_stopped _ (Err e) (reads_missing c.loop-built.invariant more outside missing) (ap (λ (x : Refusal). refused_at (question_number x.why) x.place) told))
 
-pub loop-read-preserved : goal.loop-read-preserved
-loop-read-preserved c =
-    let tables : SchemaTables = let l = c.loop-read in
-    record {
-      tag = l.tag;
-      states = l.states;
-      accepting = l.accepting;
-      counts = l.counts;
-      from = l.from;
-      by = l.by;
-      to = l.to;
-    } in
-    let more : same_phase c.loop-read.progress.phase AfterDone ≡ false = sym c.is_done.ensures ∙ c.loop-read-test.true in
-    let outside : same_phase c.loop-read.progress.phase InExpression ≡ false = sym c.is_in_expression.ensures ∙ c.if-is_in_expression.false in
-    let number : c.failed_in-number.result ≡ failed (seen_in c.loop-read.progress tables c.command_at-c.result) c.command_at-c.result = c.failed_in-number.ensures in
-    let passed : failed (seen_in c.loop-read.progress tables c.command_at-c.result) c.command_at-c.result ≡ 0 = sym number ∙ c.if-number-ne0.false in
-    let step = c.add_step.ensures in
-    reads_next c.loop-read.invariant more outside c.command_at-c.ensures passed
-    c.size_of-at.ensures c.progress_after-progress.ensures
-    (λ k.
-    record {
-      tag = c.add_type.ensures.0 k;
-      states = c.add_type.ensures.1 k;
-      accepting = c.add_final.ensures k;
-      counts = c.add_place.ensures.0 k;
-      from = step.0 k;
-      by = step.1 k;
-      to = step.2 k;
-    })
-    c.add_place.ensures.1 c.bound_after-bound.ensures
+pub returns-in_err-map_err : goal.returns-in_err-map_err
+returns-in_err-map_err c =
+    let more : same_phase c.loop-built.built.phase AfterDone ≡ false = sym c.is.ensures ∙ c.loop-built-test.true in
+    let outside : same_phase c.loop-built.built.phase InExpression ≡ false = sym c.is-in-loop-built.ensures ∙ c.if-is.false in
+    let p = err_from_is_err_and c.from_residual-in_err-map_err.result c.from_residual-in_err-map_err.ensures.1 in
+    let e = c.in_err-map_err.field-0.0 in
+    let stands : command_at c.args.file.now c.loop-built.at ≡ Some c.in_ok-command.command = search rules in
+    let told : MatchResult c.ask.result (λ x. ⊥) (λ why. e ≡ record { why = why; place = c.loop-built.at }) = search rules in
+    rw (p.1, p.2) (answer_stopped _ (Err e) (reads_refused c.loop-built.invariant more outside stands c.ask.result c.ask.ensures e told) refl)
+
+pub loop-built-preserved : goal.loop-built-preserved
+loop-built-preserved c =
+    let more : same_phase c.loop-built.built.phase AfterDone ≡ false = sym c.is.ensures ∙ c.loop-built-test.true in
+    let outside : same_phase c.loop-built.built.phase InExpression ≡ false = sym c.is-in-loop-built.ensures ∙ c.if-is.false in
+    let stands : command_at c.args.file.now c.loop-built.at ≡ Some c.in_ok-command.command = search rules in
+    let passed : failed_by c.loop-built.built c.in_ok-command.command ≡ 0 = search rules in
+    rw (c.size.ensures, c.add.ensures) (reads_next c.loop-built.invariant more outside stands passed)
+
+pub returns-then-at-file : goal.returns-then-at-file
+returns-then-at-file c =
+    let done : same_phase c.loop-built.built.phase AfterDone ≡ true = sym c.is.ensures ∙ c.loop-built-test.false in
+    rw c.at-then-at-file.ensures (answer_stopped _ (Err _) (reads_over c.loop-built.invariant done (omega arith)) refl)
+
+pub returns-then-unknown-file : goal.returns-then-unknown-file
+returns-then-unknown-file c =
+    let done : same_phase c.loop-built.built.phase AfterDone ≡ true = sym c.is.ensures ∙ c.loop-built-test.false in
+    rw c.at-then-unknown-file.ensures (answer_unknown c.loop-built.invariant done (omega arith) c.first_unknown-unknown.ensures (omega arith))
 
 pub returns : goal.returns
 returns c =
-    let done : same_phase c.loop-read.progress.phase AfterDone ≡ true = sym c.is_done.ensures ∙ c.loop-read-test.false in
-    rw c.ended.ensures (answer_ended c.loop-read.invariant done c.first_unknown-unknown.ensures c.schema_of-schema.ensures)
+    let done : same_phase c.loop-built.built.phase AfterDone ≡ true = sym c.is.ensures ∙ c.loop-built-test.false in
+    answer_known c.loop-built.invariant done (omega arith) c.first_unknown-unknown.ensures (omega arith)

@@ -1,4 +1,4 @@
--- `commands::laying::group` meets its contract. The loop's invariant: the sets so far, with the uses that are left, have the whole set's uses.
+-- The loop's invariant: the sets so far, with the uses that are left, have the whole set's uses.
 use mathlib.Core.Path.{◌≡◌}
 use mathlib.Core.Bool.{false, ◌&&◌, ◌||◌}
 use Prim.Native.Nat.{ℕ, ◌%◌, ◌^◌, ◌<◌}

@@ -1,4 +1,4 @@
--- `commands::type_places::type_place` meets its contract. The loop's invariant: the type sought is the type number `left` from `at` on.
+-- The loop's invariant: the type sought is the type number `left` from `at` on.
 use mathlib.Core.Path.{◌≡◌}
 use Prim.Native.Nat.{◌-◌}
 use lib.ListN.{length, get_or}
@@ -6,8 +6,8 @@ use Rattle.commands.specs.TypePlaces.{place_of_type}
 use Rattle.commands.proofs.TypePlaces.{types_at}
 use Rattle.commands.proofs.type_places.type_place.Given as goal
 
-abbrev pub invariant-loop-c : goal.invariant-loop-c
-invariant-loop-c l = get_or (types_at l.file l.at) l.left 0 ≡ place_of_type l.file l.initial.left
+abbrev pub invariant-loop-command : goal.invariant-loop-command
+invariant-loop-command l = get_or (types_at l.file l.at) l.left 0 ≡ place_of_type l.file l.initial.left
 
-abbrev pub decreases-loop-c : goal.decreases-loop-c
-decreases-loop-c l = length l.file - l.at
+abbrev pub decreases-loop-command : goal.decreases-loop-command
+decreases-loop-command l = length l.file - l.at

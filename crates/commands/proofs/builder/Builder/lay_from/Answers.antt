@@ -1,4 +1,4 @@
--- `commands::laying::lay_from` meets its contract. The loop's invariant: what lays the steps by the types that are left, lays all.
+-- The loop's invariant: what lays the steps by the types that are left, lays all.
 use mathlib.Core.Path.{refl, ◌∙◌}
 use Prim.Native.Nat.{◌-◌, ◌<◌}
 use native.Mathlib.Omega.{arith}
@@ -12,7 +12,7 @@ use Rattle.expression.proofs.SetLaws.{member_zero, smallest_member, smallest_out
 use Rattle.commands.specs.Laying.{laid_by}
 use Rattle.commands.proofs.LayingLaws.{members_none, members_next, laid_nothing, laid_both, laid_most}
 use Rattle.commands.proofs.GroupLaws.{grouped_laid, left_same, done_empty}
-use Rattle.commands.proofs.laying.lay_from.Goals as goal
+use Rattle.commands.proofs.builder.Builder.lay_from.Goals as goal
 
 pub loop-rest-init : goal.loop-rest-init
 loop-rest-init c =
@@ -23,7 +23,7 @@ loop-rest-init c =
       g.long,
       λ j m. refl,
       g.others,
-      λ from by to r h. rw (grouped_laid a.set a.p a.types.now c.group-rest.new.sets c.group-rest.result g) at h,
+      λ s h. rw (grouped_laid a.set a.p a.types.now c.group-rest.new.sets c.group-rest.result g) at h,
     )
 
 pub loop-rest-preserved : goal.loop-rest-preserved
@@ -35,20 +35,20 @@ loop-rest-preserved c =
     let s = small in
     let out = smallest_out most_types x (omega arith) l.invariant.0 in
     let next = members_next most_types (λ j. laid_by c.args.p j (get_or c.group-rest.new.sets j 0)) x (omega arith) l.invariant.0 in
-    let own = rw (l.invariant.3 j s.1) at c.lay_by-count.ensures in (
+    let own = rw (l.invariant.3 j s.1) at c.lay_by.ensures in (
       omega (arith, and_le_r x (x - 1), l.invariant.0),
-      laid_most _ c.lay_by-count.ensures,
+      laid_most _ c.lay_by.ensures,
       length-set l.sets j 0 ∙ l.invariant.2,
       rw out (left_same l.sets j x (omega (arith, l.invariant.2, s.0)) s.1 c.group-rest.new.sets l.invariant.3),
       rw out (done_empty l.sets j x (omega (arith, l.invariant.2, s.0)) s.1 l.invariant.4),
-      λ from by to r h. l.invariant.5 from by to r (rw next (laid_both (laid_by c.args.p j (get_or c.group-rest.new.sets j 0)) _ own h)),
+      λ s h. l.invariant.5 s (rw next (laid_both (laid_by c.args.p j (get_or c.group-rest.new.sets j 0)) _ own h)),
     )
 
 pub returns : goal.returns
 returns c =
     let l = c.loop-rest in
     let none = members_none most_types (λ j. laid_by c.args.p j (get_or c.group-rest.new.sets j 0)) in (
-      l.invariant.5 _ _ _ _ (rw (c.loop-rest-test.false, none) (laid_nothing l.invariant.1)),
+      l.invariant.5 _ (rw (c.loop-rest-test.false, none) (laid_nothing _ l.invariant.1)),
       l.invariant.2,
       λ k. l.invariant.4 k (rw c.loop-rest-test.false (member_zero k)),
     )

@@ -1,5 +1,4 @@
--- `commands::tables::has_step` meets its contract. The loop's invariant: the step was found, or is one of those left, exactly where it is
--- one of all.
+-- The loop's invariant: the step was found, or is one of those left, exactly where it is one of all.
 use mathlib.Core.Path.{◌≡◌, sym, ◌∙◌}
 use mathlib.Core.Bool.{Bool, ◌||◌, or_assoc, or-false}
 use mathlib.Core.List.{List}
@@ -8,8 +7,8 @@ use native.Mathlib.Numerals.{add-one}
 use native.Mathlib.Omega.{arith}
 use Rattle.schema.specs.Value.{step_at}
 use Rattle.commands.specs.File.{same_step}
-use Rattle.commands.specs.Progress.{given_in}
-use Rattle.commands.proofs.tables.has_step.Goals as goal
+use Rattle.commands.specs.Building.{given_in}
+use Rattle.commands.proofs.builder.Builder.has_step.Goals as goal
 
 module _ (from by to : List ℕ) (p j q i : ℕ) (found : Bool) where
   later : (end : ℕ) → i < end
@@ -27,9 +26,10 @@ module _ (from by to : List ℕ) (p j q i : ℕ) (found : Bool) where
 pub loop-i-preserved : goal.loop-i-preserved
 loop-i-preserved c =
     let a = c.args in
+    let v = a.self.now.schema in
     let l = c.loop-i in
-    let more = later a.from.now a.by.now a.to.now a.p a.j.0 a.q l.i l.found (a.start + a.n) (omega arith) in
-    (omega arith, omega arith, rw c.same_step-same.ensures (more ∙ l.invariant.2))
+    let more = later v.from v.by v.to a.p a.j.0 a.q l.i l.found (a.start + a.n) (omega arith) in
+    (omega arith, omega arith, more ∙ l.invariant.2)
 
 pub returns : goal.returns
 returns c = sym (none_left _ _ _ _ _ _ _ _ _ (omega arith)) ∙ c.loop-i.invariant.2

@@ -1,0 +1,172 @@
+-- What the private steps over the commands compute: what is built after each command, and what is read from it.
+use Rattle.std.specs.Prelude.{◌≡◌, Result, Bool, true, false, cond, ◌&&◌, ◌||◌, List, [], ◌∷◌, map, ℕ, zero, suc, ◌+◌, ◌-◌, ◌%◌, ◌≤◌, min, max, eqb, leb, ltb, length, get_or, set, replicate}
+use Rattle.sdtd.specs.Answer.{Ordered, ask, fine, refused_at, verdict_of}
+use Rattle.sdtd.specs.declared.Refusal.{Refusal}
+use Rattle.sdtd.specs.Limits.{most_types, most_roots, most_steps}
+use Rattle.sdtd.specs.Schema.{Step as StepOf}
+use Rattle.schema.specs.States.{insert}
+use Rattle.schema.specs.Value.{step_at, roots_of}
+use Rattle.schema.specs.Putting.{put_all}
+use Rattle.schema.specs.declared.value.Schema.{Schema}
+use Rattle.command.specs.Cases.{on_step, on_root, on_nil}
+use Rattle.command.specs.declared.Command.{Command}
+use Rattle.command.specs.declared.Command.TheVariants.{Tags, TypeBlock, Final, Step, Root, Nil, Done, Expression}
+use Rattle.expression.specs.Content.{Name}
+use Rattle.expression.specs.declared.content.Automaton.{Automaton}
+use Rattle.commands.specs.Questions.{failed}
+use Rattle.commands.specs.File.{same_step, has_root}
+use Rattle.commands.specs.Value.{no_schema}
+use Rattle.commands.specs.Laying.{laid_steps, names_from}
+use Rattle.commands.specs.declared.builder.Builder.{Builder}
+use Rattle.commands.specs.declared.phase.Phase.TheVariants.{BeforeTags, BeforeTypes, InBlock, InExpression, AfterExpression, AfterRoot, AfterDone}
+use Rattle.commands.specs.declared.questions.Seen.{Seen}
+
+-- before the first command of a file of n bytes
+abbrev pub nothing_built : ℕ → Builder
+nothing_built n = record { schema = no_schema; phase = BeforeTags; steps = 0; places = replicate most_types n; bound = 0 }
+
+-- the place of the block that the file is in
+abbrev pub last_type : ℕ → ℕ
+last_type types = (types % most_types + (most_types - 1)) % most_types
+
+-- one of the n steps from the place i on is p, j, q
+unfoldable pub given_in : List ℕ → List ℕ → List ℕ → ℕ → ℕ → ℕ → ℕ → ℕ → Bool
+given_in from by to p j q i zero = false
+given_in from by to p j q i (suc n) = same_step p j q (step_at from by to i) || given_in from by to p j q (suc i) n
+
+-- one of the last n steps of the count is p, j, q
+abbrev pub given_last : List ℕ → List ℕ → List ℕ → ℕ → ℕ → ℕ → ℕ → ℕ → Bool
+given_last from by to count n p j q = cond (leb n count && leb count most_steps) (given_in from by to p j q (count - n) n) false
+
+-- the type a is one of the first n roots of the table, if it is below `most_types`
+abbrev pub root_among : List ℕ → ℕ → ℕ → Bool
+root_among root n a = ltb a most_types && has_root a (roots_of root n)
+
+-- the command is a STEP or a NIL that the block that the file is in has, or a ROOT that the file has
+abbrev pub given : Builder → Command → Bool
+given s c =
+    let v = s.schema in
+    let a = last_type v.types in
+    on_step (given_last v.from v.by v.to s.steps (get_or v.steps a 0)) false c
+    || (on_root (root_among v.root v.roots) false c || on_nil (get_or v.nillable a false) false c)
+
+-- what is seen of the file where the command is asked
+abbrev pub seen_by : Builder → Command → Seen
+seen_by s c =
+    let v = s.schema in
+    let a = last_type v.types in
+    record {
+      phase = s.phase;
+      tags = v.tags;
+      types = v.types;
+      roots = v.roots;
+      steps = s.steps;
+      states = get_or v.states a 0;
+      accepting = record { 0 = get_or v.accepting a 0 };
+      given = given s c;
+    }
+
+-- the number of the first question that the command fails
+abbrev pub failed_by : Builder → Command → ℕ
+failed_by s c = failed (seen_by s c) c
+
+-- one type more, the type a, of this tag and state count
+abbrev pub with_type : Schema → ℕ → ℕ → ℕ → Schema
+with_type v a g k = record v { types = a + 1; tag = set v.tag a g; states = set v.states a k }
+
+-- one accepting state more of the type a
+abbrev pub with_accepting : Schema → ℕ → ℕ → Schema
+with_accepting v a q = record v { accepting = set v.accepting a (insert q (get_or v.accepting a 0)) }
+
+-- one step more of the type a, at the place n
+abbrev pub with_one_step : Schema → ℕ → ℕ → ℕ → ℕ → ℕ → Schema
+with_one_step v a n p j q =
+    record v {
+      steps = set v.steps a (get_or v.steps a 0 % most_steps + 1);
+      from = set v.from n p;
+      by = set v.by n j;
+      to = set v.to n q;
+    }
+
+-- one root more, behind the others
+abbrev pub with_root : Schema → ℕ → Schema
+with_root v a = let n = v.roots % most_roots in record v { roots = n + 1; root = set v.root n a }
+
+-- the places, and the bound above each type named, where a STEP or 32 at the place i names the type a
+abbrev pub place_named : ℕ → ℕ → List ℕ → List ℕ
+place_named a i l = set l (a % most_types) (min (get_or l (a % most_types) 0) i)
+
+abbrev pub bound_named : ℕ → ℕ → ℕ
+bound_named a bound = max bound (a % most_types + 1)
+
+abbrev pub named : Builder → ℕ → ℕ → Builder
+named s a i = record s { places = place_named a i s.places; bound = bound_named a s.bound }
+
+-- what is built after the command at the place i that passed its questions
+unfoldable pub built : Builder → ℕ → Command → Builder
+built s i (Tags n) = record s { schema = record (s.schema) { tags = n }; phase = BeforeTypes }
+built s i (TypeBlock g k) =
+    record s { schema = with_type s.schema (s.schema.types % most_types) g.0 k; phase = cond (eqb k 0) InExpression InBlock }
+built s i (Final q) = record s { schema = with_accepting s.schema (last_type s.schema.types) q }
+built s i (Step p j q) =
+    let n = s.steps % most_steps in
+    named (record s { schema = with_one_step s.schema (last_type s.schema.types) n p j.0 q; steps = n + 1 }) j.0 i
+built s i (Root a) = record s { schema = with_root s.schema a.0; phase = AfterRoot }
+built s i Nil = record s { schema = record (s.schema) { nillable = set s.schema.nillable (last_type s.schema.types) true } }
+built s i Done = record s { phase = AfterDone }
+built s i (Expression x) = s
+
+-- the places and the bound after the names of an expression
+unfoldable pub places_with : List Name → List ℕ → List ℕ
+places_with [] l = l
+places_with (x ∷ xs) l = places_with xs (place_named x.type x.place l)
+
+unfoldable pub bound_with : List Name → ℕ → ℕ
+bound_with [] bound = bound
+bound_with (x ∷ xs) bound = bound_with xs (bound_named x.type bound)
+
+-- the steps put into the tables from the place n on
+abbrev pub with_steps : Schema → ℕ → List StepOf → Schema
+with_steps v n xs =
+    record v {
+      from = put_all (map (λ (x : StepOf). x.from) xs) n v.from;
+      by = put_all (map (λ (x : StepOf). x.by) xs) n v.by;
+      to = put_all (map (λ (x : StepOf). x.to) xs) n v.to;
+    }
+
+-- the state count, the accepting states and the number of steps of the type a
+abbrev pub with_parts : Schema → ℕ → ℕ → ℕ → ℕ → Schema
+with_parts v a states accepting count =
+    record v { states = set v.states a states; accepting = set v.accepting a accepting; steps = set v.steps a count }
+
+-- what is built after an expression of so many states, with these accepting states, these steps and these names
+abbrev pub built_with : Builder → ℕ → ℕ → List StepOf → List Name → Builder
+built_with s states accepting steps names =
+    let v = s.schema in
+    record {
+      schema = with_steps (with_parts v (last_type v.types) states accepting (length steps)) s.steps steps;
+      phase = AfterExpression;
+      steps = s.steps + length steps;
+      places = places_with names s.places;
+      bound = bound_with names s.bound;
+    }
+
+-- by its automaton
+abbrev pub built_by : Builder → Automaton → Builder
+built_by s a =
+    built_with s (suc a.uses) a.accepting.0 (laid_steps a.next a.types a.uses) (names_from a.types a.places 1 a.uses)
+
+-- the least of `none` and the places of the n types from k on
+unfoldable pub least_from : List ℕ → ℕ → ℕ → ℕ → ℕ
+least_from places none k zero = none
+least_from places none k (suc n) = min (get_or places k 0) (least_from places none (suc k) n)
+
+-- the names of an expression are added; the rest stays
+abbrev pub all_named : Builder → List Name → Builder
+all_named s names = record s { places = places_with names s.places; bound = bound_with names s.bound }
+
+-- "Its steps count toward the 1,024 (5, at the 3F)": an expression is added, if its steps fit
+abbrev pub Added : Builder → Builder → Automaton → Result Unit Refusal → Type 0
+Added s s' a r =
+    let n = s.steps + length (laid_steps a.next a.types a.uses) in
+    Ordered (ask (refused_at 5 a.end) (n ≤ most_steps) ∷ []) (λ b. (b ≡ fine) × (s' ≡ built_by s a)) (verdict_of r)
