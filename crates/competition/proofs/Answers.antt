@@ -14,7 +14,6 @@ use Rattle.sdtd.proofs.Witnesses.{parts_of}
 use Rattle.competition.specs.Witness.{head_of}
 use Rattle.competition.specs.Search.{Written, SearchMeans}
 use Rattle.competition.specs.Queue.{CompetesMeans}
-use Rattle.competition.specs.declared.search.Searched.TheVariants.{ShortBuffer, OutsideLimits, Restrained, Competes}
 
 -- a witness shows a competition
 pub witness_competes : {S : Schema} {bytes : List ℕ} → Witness S bytes → Competition S
@@ -40,17 +39,17 @@ head_written w rest =
     ∙ (λ i. record { of = type_no p.parent; first = type_no p.first; second = type_no p.second; word = long i })
 
 module _ (S : Schema) (was : List ℕ) where
-  pub short_searched : length was < least_witness → SearchMeans S was was ShortBuffer
+  pub short_searched : length was < least_witness → SearchMeans S was was 1
   short_searched l =
       record { answer = inl (λ h. omega arith, refl); written = λ e. absurd (omega arith); unchanged = λ d. refl }
 
   module _ (long : least_witness ≤ length was) where
-    pub outside_searched : ¬ WithinLimits S → SearchMeans S was was OutsideLimits
+    pub outside_searched : ¬ WithinLimits S → SearchMeans S was was 10
     outside_searched o =
         record { answer = inr (long, inl (o, refl)); written = λ e. absurd (omega arith); unchanged = λ d. refl }
 
     module _ (within : WithinLimits S) where
-      pub competing_searched : {is : List ℕ} → CompetesMeans S was is true → SearchMeans S was is Competes
+      pub competing_searched : {is : List ℕ} → CompetesMeans S was is true → SearchMeans S was is 9
       competing_searched w =
           record {
             answer = inr (long, inr (within, inl (λ n. n (written_competes w), refl)));
@@ -58,7 +57,7 @@ module _ (S : Schema) (was : List ℕ) where
             unchanged = λ d. absurd (d refl);
           }
 
-      pub restrained_searched : {is : List ℕ} → CompetesMeans S was is false → SearchMeans S was is Restrained
+      pub restrained_searched : {is : List ℕ} → CompetesMeans S was is false → SearchMeans S was is 0
       restrained_searched n =
           record {
             answer = inr (long, inr (within, inr (n.0, refl)));

@@ -1,5 +1,5 @@
 -- What the search of one type means for the schema.
-use mathlib.Core.Path.{sym, ap, ◌∙◌}
+use mathlib.Core.Path.{◌≡◌, sym, ap, ◌∙◌}
 use mathlib.Core.Logic.{◌≢◌}
 use mathlib.Core.Bool.{Bool, false}
 use mathlib.Core.List.Memᴰ
@@ -8,7 +8,8 @@ use Prim.Native.Nat.{ℕ, zero, suc, ◌≤◌, ◌<◌}
 use native.Mathlib.Omega.{arith}
 use lib.Dec.{T}
 use lib.ListN.{length, get_or, length-append, get_or-eq_default}
-use Rattle.sdtd.specs.Limits.{most_states, most_word}
+use Rattle.std.specs.List.{Contains}
+use Rattle.sdtd.specs.Limits.{most_states, most_steps, most_word}
 use Rattle.sdtd.specs.Schema.{Step, Schema, no_block, block_of, tag_of, step, Leads, stay, go, WithinLimits}
 use Rattle.sdtd.specs.Trim.{Bears, none, both, AllBear, Live, Useful}
 use Rattle.sdtd.specs.Competition.{OpenedAlike, Compete, CompeteIn, pair_number}
@@ -19,12 +20,13 @@ use Rattle.sdtd.proofs.Rivals.{RivalSteps, rivals_compete, no_rivals}
 use Rattle.competition.specs.Rivals.{open_alike}
 use Rattle.schema.specs.Rows.{Counts, to_in, ways_in, RowsMean}
 use Rattle.schema.specs.Trimming.{WaysExactly}
-use Rattle.competition.specs.Rows.{row_of, Stands, Leading}
-use Rattle.competition.specs.Marks.{first_state_of, second_state_of, by_of, parent_of, word_to}
+use Rattle.competition.specs.Rows.{row_of, Leading}
+use Rattle.competition.specs.Found.{found_at, word_to}
 use Rattle.competition.specs.Rivals.{AreRivals}
 use Rattle.competition.specs.Queue.{Trail, ClosedPairs, TrailToRivals}
-use Rattle.competition.specs.declared.rows.Row.{Row}
+use Rattle.competition.specs.declared.queue.Found.{Found}
 use Rattle.schema.proofs.RowLaws.{Reads, Says, row_says, row_has}
+use Rattle.competition.proofs.RowLaws.{in_row, row_contains}
 use Rattle.competition.proofs.WaysLaws.{common, has_common}
 use Rattle.competition.proofs.Words.{word_first, word_more}
 use Rattle.competition.proofs.Queues.{rivals_swap}
@@ -54,28 +56,27 @@ from_live {a = a} {s} c = live_closed.step a s c.given (bears_live.0 c.bears) c.
 -- The search of the type a goes by the rows of the schema, where a table tells in which ways types bear a tree.
 module _
     {S : Schema} (within : WithinLimits S) (ways : List ℕ) (exact : WaysExactly S ways) {entries begins : List ℕ}
-    (rows : RowsMean S entries begins) (a : ℕ) where
-  abbrev row_at : ℕ → Row
-  row_at p = row_of begins a p
+    (rows : RowsMean S entries begins) (sized : length entries ≡ most_steps) (a : ℕ) where
+  abbrev row_at : ℕ → List ℕ
+  row_at p = row_of entries begins a p
 
   -- an entry of a row is a step that counts
-  entry_says : (p e : ℕ) → p < most_states → Stands entries (row_at p) e → Says S a p e
-  entry_says p e l s = row_says within rows a p e l (record { place = s.place; least = s.least; most = s.most; is = s.is })
+  entry_says : (p e : ℕ) → p < most_states → Contains (row_at p) e → Says S a p e
+  entry_says p e l s = row_says within rows a p e l (in_row entries begins a p s)
 
   -- the entry of a step, in its state's row
   record HasEntry (s : Step) : Type 0 where
     entry : ℕ
-    stands : Stands entries (row_at s.from) entry
+    stands : Contains (row_at s.from) entry
     reads : Reads s.from s.to s.by (tag_of S s.by) (get_or ways s.by 0) entry
 
   has_entry : {s : Step} → Counts S a s → HasEntry s
   has_entry {s} c =
       let h = row_has within rows c (exact s.by) in
-      let r = h.1 in
-      record { entry = h.0; stands = record { place = r.place; least = r.least; most = r.most; is = r.is }; reads = h.2 }
+      record { entry = h.0; stands = row_contains entries begins a s.from sized rows.inside h.1; reads = h.2 }
 
   -- two entries by which a type leads on are steps that count
-  leading_counts : {p q j p' q' : ℕ} → p < most_states → q < most_states → Leading entries (row_at p) (row_at q) j p' q'
+  leading_counts : {p q j p' q' : ℕ} → p < most_states → q < most_states → Leading (row_at p) (row_at q) j p' q'
       → Counts S a (step p j p') × Counts S a (step q j q')
   leading_counts {p} {q} lp lq l =
       let o = l.other in (
@@ -93,17 +94,26 @@ module _
         bear = all_append r.bear (both c.0.bears none);
       }
 
-  module _ {queue : List ℕ} {at : ℕ} (t : Trail entries begins a queue at) where
+  module _ {queue : List Found} {at : ℕ} (t : Trail row_at queue at) where
+    -- the two states of a pair of the trail are below 32
+    pub inside : (i : ℕ) → i ≤ at → ((found_at queue i).first < most_states) × ((found_at queue i).second < most_states)
+    inside zero h = (omega (arith, t.first), omega (arith, t.first))
+    inside (suc i) h = let o = (t.led (suc i) (omega arith) h).other in (omega (arith, o.first), omega (arith, o.second))
+
     -- the word w leads to the pair at the place i and has at most i types
     abbrev Way : ℕ → List ℕ → Type 0
-    Way i w = WordTo S a w (first_state_of (get_or queue i 0)) (second_state_of (get_or queue i 0)) × (length w ≤ i)
+    Way i w = WordTo S a w (found_at queue i).first (found_at queue i).second × (length w ≤ i)
 
     way_first : Way 0 []
     way_first = (rw (t.first.0, t.first.1) (record { left = stay; right = stay; bear = none }), omega arith)
 
-    way_later : (i : ℕ) (w : List ℕ) → 0 < i → i ≤ at → Way (parent_of (get_or queue i 0)) w → Way i (w ++ (by_of (get_or queue i 0) ∷ []))
+    earlier : (i : ℕ) → 0 < i → i ≤ at
+        → ((found_at queue (found_at queue i).parent).first < most_states) × ((found_at queue (found_at queue i).parent).second < most_states)
+    earlier i l h = inside (found_at queue i).parent (omega (arith, t.linked i l h))
+
+    way_later : (i : ℕ) (w : List ℕ) → 0 < i → i ≤ at → Way (found_at queue i).parent w → Way i (w ++ ((found_at queue i).by.0 ∷ []))
     way_later i w l h r = (
-      word_on r.0 (leading_counts (omega arith) (omega arith) (t.led i l h)),
+      word_on r.0 (leading_counts (earlier i l h).0 (earlier i l h).1 (t.led i l h)),
       simp length-append (omega (arith, t.linked i l h, r.1)),
     )
 
@@ -112,13 +122,13 @@ module _
     way zero (suc i) l h = absurd (omega arith)
     way (suc fuel) zero l h = rw (word_first queue (suc fuel)) way_first
     way (suc fuel) (suc i) l h =
-        let e = get_or queue (suc i) 0 in
-        let earlier : parent_of e < suc i = t.linked (suc i) (omega arith) h in
-        let r = way fuel (parent_of e) (omega arith) (omega arith) in
-        rw (word_more queue fuel i) (way_later (suc i) (word_to fuel queue (parent_of e)) (omega arith) h r)
+        let e : Found = found_at queue (suc i) in
+        let before : e.parent < suc i = t.linked (suc i) (omega arith) h in
+        let r = way fuel e.parent (omega arith) (omega arith) in
+        rw (word_more queue fuel i) (way_later (suc i) (word_to fuel queue e.parent) (omega arith) h r)
 
     -- the word to the last entry leads to both its states
-    pub trail_word : WordTo S a (word_to at queue at) (first_state_of (get_or queue at 0)) (second_state_of (get_or queue at 0))
+    pub trail_word : WordTo S a (word_to at queue at) (found_at queue at).first (found_at queue at).second
     trail_word = (way at at (omega arith) (omega arith)).0
 
     pub trail_short : length (word_to at queue at) ≤ at
@@ -126,20 +136,20 @@ module _
 
   -- rivals are rival steps by different types
   rivals_steps :
-      {p q j k : ℕ} → p < most_states → q < most_states → AreRivals entries (row_at p) (row_at q) j k → RivalSteps S a p q j k
+      {p q j k : ℕ} → p < most_states → q < most_states → AreRivals (row_at p) (row_at q) j k → RivalSteps S a p q j k
   rivals_steps {p} {q} {j} {k} lp lq r =
       let o = r.rival in
       let x = entry_says p r.entry lp r.stands in
       let y = entry_says q o.entry lq o.stands in
       let cj : Counts S a (step p j (to_in r.entry)) = rw r.by at x.counts in
       let ck : Counts S a (step q k (to_in o.entry)) = rw o.by at y.counts in
-      let c = common (ways_in r.entry) (ways_in o.entry) o.alike in
+      let c = common (ways_in r.entry) (ways_in o.entry) o.other.alike in
       record {
         next_j = to_in r.entry;
         next_k = to_in o.entry;
         step_j = cj.given;
         step_k = ck.given;
-        one_tag = ap (tag_of S) (sym r.by) ∙ sym x.tag ∙ sym o.one_tag ∙ y.tag ∙ ap (tag_of S) o.by;
+        one_tag = ap (tag_of S) (sym r.by) ∙ sym x.tag ∙ sym o.other.one_tag ∙ y.tag ∙ ap (tag_of S) o.by;
         alike = rw (r.by, o.by) at (alike c.kind ((x.ways.exact c.kind).0 c.first) ((y.ways.exact c.kind).0 c.second));
         bears_j = cj.bears;
         bears_k = ck.bears;
@@ -149,7 +159,7 @@ module _
 
   -- steps by one type that count are entries by which it leads on
   pub counts_leading :
-      {p q j p' q' : ℕ} → Counts S a (step p j p') → Counts S a (step q j q') → Leading entries (row_at p) (row_at q) j p' q'
+      {p q j p' q' : ℕ} → Counts S a (step p j p') → Counts S a (step q j q') → Leading (row_at p) (row_at q) j p' q'
   counts_leading c e =
       let x = has_entry c in
       let y = has_entry e in
@@ -175,7 +185,7 @@ module _
 
   -- rival steps by different types are rivals, and leave live states
   pub steps_rivals : {p q j k : ℕ} → RivalSteps S a p q j k → j ≢ k
-      → AreRivals entries (row_at p) (row_at q) j k × Live S a p × Live S a q
+      → AreRivals (row_at p) (row_at q) j k × Live S a p × Live S a q
   steps_rivals s different =
       let c = counts s.step_j s.bears_j s.live_j in
       let e = counts s.step_k s.bears_k s.live_k in
@@ -190,9 +200,12 @@ module _
                 entry = y.entry;
                 stands = y.stands;
                 by = y.reads.by_is;
-                one_tag = y.reads.tag_is ∙ sym s.one_tag ∙ sym x.reads.tag_is;
-                different = λ same. different (sym x.reads.by_is ∙ sym same ∙ y.reads.by_is);
-                alike = rw (x.reads.ways_is, y.reads.ways_is) (open_alike_lem s.alike);
+                other =
+                    record {
+                      one_tag = y.reads.tag_is ∙ sym s.one_tag ∙ sym x.reads.tag_is;
+                      different = λ same. different (sym x.reads.by_is ∙ sym same ∙ y.reads.by_is);
+                      alike = rw (x.reads.ways_is, y.reads.ways_is) (open_alike_lem s.alike);
+                    };
               };
         },
         from_live c,
@@ -200,22 +213,22 @@ module _
       )
 
   -- a trail to rivals ends in types that compete after its word
-  pub trail_competes : {queue : List ℕ} {at j k : ℕ} → Useful S a → TrailToRivals entries begins a queue at j k
+  pub trail_competes : {queue : List Found} {at j k : ℕ} → Useful S a → TrailToRivals row_at queue at j k
       → CompeteEither S a (word_to at queue at) j k
   trail_competes {queue} {at} {j} {k} u r =
-      let lp : first_state_of (get_or queue at 0) < most_states = omega arith in
-      let lq : second_state_of (get_or queue at 0) < most_states = omega arith in
+      let lp : (found_at queue at).first < most_states = (inside r.trail at (omega arith)).0 in
+      let lq : (found_at queue at).second < most_states = (inside r.trail at (omega arith)).1 in
       let w = trail_word r.trail in
       let x = r.rivals in
       record {
-        different = λ e. x.rival.different (x.rival.by ∙ sym e ∙ sym x.by);
+        different = λ e. x.rival.other.different (x.rival.by ∙ sym e ∙ sym x.by);
         rising = rivals_compete u.0 u.1 w.left w.right w.bear (rivals_steps lp lq x);
         falling = rivals_compete u.0 u.1 w.right w.left w.bear (rivals_steps lq lp (rivals_swap x));
         short = omega (arith, trail_short r.trail, r.trail.place_below);
       }
 
   -- where a closed set of pairs has no rivals, no types compete
-  pub closed_restrained : {reached : List Bool} → ClosedPairs entries begins a reached → ¬ CompeteIn S a
+  pub closed_restrained : {reached : List Bool} → ClosedPairs row_at reached → ¬ CompeteIn S a
   closed_restrained {reached} d = no_rivals {P = LivePair} closed free
     where
       -- the number of the pair is in the set, where both states are live

@@ -1,7 +1,6 @@
 -- Laws of what the loops of the search compute.
 pub mod WaysLaws
 pub mod RowLaws
-pub mod MarkLaws
 pub mod Kept
 pub mod MarkGrowth
 pub mod Queues
@@ -11,5 +10,5 @@ pub mod Shortest
 pub mod SearchMeaning
 pub mod RootLaws
 pub mod Answers
-pub mod Judged
+pub mod JudgedSchemas
 pub mod OneWitness

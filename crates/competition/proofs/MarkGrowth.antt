@@ -2,65 +2,53 @@
 use mathlib.Core.Path.{◌≡◌, refl, sym, ◌∙◌, subst}
 use mathlib.Core.Logic.{◌⊎◌, inl, inr, ⊎_elim}
 use mathlib.Core.Bool.{Bool, true, false, cond}
-use mathlib.Core.List.{List}
-use Prim.Native.Nat.{ℕ, zero, suc, ◌-◌, ◌<◌, ◌≤◌}
+use mathlib.Core.List.{List, [], ◌∷◌}
+use Prim.Native.Nat.{ℕ, ◌<◌, ◌≤◌}
 use native.Mathlib.Omega.{arith}
 use borrow.Author.Tests.{lt-ltb, eq-eqb}
 use lib.Dec.{T, eqb, ltb, eqb→eq}
 use lib.ListN.{get_or}
-use Rattle.sdtd.specs.Limits.{most_types, most_states, most_pairs}
+use Rattle.std.specs.List.{Contains, fold}
+use Rattle.sdtd.specs.Limits.{most_states, most_pairs}
 use Rattle.sdtd.specs.Competition.{pair_number}
 use Rattle.sdtd.proofs.Pairs.{pair_below_most}
 use Rattle.schema.specs.Rows.{to_in, by_in}
-use Rattle.competition.specs.Rows.{row_from, row_of, Stands, LeadsWith, Leading}
-use Rattle.competition.specs.Marks.{Marks, link_of, entry_of, first_state_of, second_state_of, by_of, parent_of}
-use Rattle.competition.specs.Marks.{mark_of, mark_both, mark_each, mark_over, mark_with, mark_rows}
+use Rattle.competition.specs.Rows.{LeadsWith, Leading}
+use Rattle.competition.specs.Found.{pair_found, found_at}
+use Rattle.competition.specs.Marks.{Marks, mark_of, mark_both, mark_with, mark_rows}
 use Rattle.competition.specs.Queue.{LedTo}
-use Rattle.competition.specs.declared.rows.Row.{Row}
-use Rattle.competition.proofs.RowLaws.{stands_rest}
+use Rattle.competition.specs.declared.queue.Found.{Found}
+use Rattle.competition.proofs.RowLaws.{contains_first, contains_later, contains_cases}
 use Rattle.competition.proofs.Kept.{IsMarked, entry_at, entry_number, EntryLeads, Kept, joined}
 use Rattle.competition.proofs.Kept.{set_marks, room, old_entry, new_mark, still_leads, join_kept}
 
--- what an entry is made of
-entry_first : (p q l : ℕ) → p < most_states → first_state_of (entry_of p q l) ≡ p
-entry_first p q l hp = omega arith
-
-entry_second : (p q l : ℕ) → p < most_states → q < most_states → second_state_of (entry_of p q l) ≡ q
-entry_second p q l hp hq = omega arith
-
-entry_by : (p q j at : ℕ) → p < most_states → q < most_states → j < most_types → by_of (entry_of p q (link_of j at)) ≡ j
-entry_by p q j at hp hq hj = omega arith
-
-entry_parent : (p q j at : ℕ) → p < most_states → q < most_states → j < most_types → parent_of (entry_of p q (link_of j at)) ≡ at
-entry_parent p q j at hp hq hj = omega arith
-
--- pairs are found from the entry e of the queue, which is at the place `at`, in the type a
-module _ (entries begins : List ℕ) (a at e : ℕ) where
+-- pairs are found from the entry e of the queue, which is at the place `at`
+module _ (rows : ℕ → List ℕ) (at : ℕ) (e : Found) where
   -- the rows of e's states
-  abbrev left : Row
-  left = row_of begins a (first_state_of e)
+  abbrev left : List ℕ
+  left = rows e.first
 
-  abbrev right : Row
-  right = row_of begins a (second_state_of e)
+  abbrev right : List ℕ
+  right = rows e.second
 
   -- what holds while pairs are found from e: e stands at its place, and all that the entries before it lead to stands in the queue
   pub record Ready (m : Marks) : Type 0 where
-    pub kept : Kept entries begins a m
-    pub queued : at < m.count
+    pub kept : Kept rows m
+    pub queued : at < m.queue.count
     pub here : entry_at m at ≡ e
-    pub earlier_placed : (h : ℕ) → h < at → EntryLeads entries begins a m m.count h
+    pub earlier_placed : (h : ℕ) → h < at → EntryLeads rows m m.queue.count h
 
   -- from m to m' entries and marks are only added, and the pairs New are marked
   pub record Grows (m m' : Marks) (New : ℕ → ℕ → Type 0) : Type 0 where
     pub ready : Ready m'
-    pub more : m.count ≤ m'.count
+    pub more : m.queue.count ≤ m'.queue.count
     pub marks : (n : ℕ) → IsMarked m n → IsMarked m' n
-    pub stay : (i : ℕ) → i < m.count → entry_at m' i ≡ entry_at m i
+    pub stay : (i : ℕ) → i < m.queue.count → entry_at m' i ≡ entry_at m i
     pub new : (p q : ℕ) → New p q → IsMarked m' (pair_number p q)
 
   -- the type j leads from e's pair to the pair p, q
   abbrev pub LeadsTo : ℕ → ℕ → ℕ → Type 0
-  LeadsTo j p q = Leading entries left right j p q
+  LeadsTo j p q = Leading left right j p q
 
   stays : {m : Marks} {New : ℕ → ℕ → Type 0} → Ready m → ((p q : ℕ) → New p q → IsMarked m (pair_number p q)) → Grows m m New
   stays r news = record { ready = r; more = omega arith; marks = λ n t. t; stay = λ i h. refl; new = news }
@@ -84,12 +72,12 @@ module _ (entries begins : List ℕ) (a at e : ℕ) where
       record { ready = f.ready; more = f.more; marks = f.marks; stay = f.stay; new = λ p q c. f.new p q c.1 }
 
   -- an entry of such a pair was found from e
-  led : (queue : List ℕ) (x j p q : ℕ) → get_or queue at 0 ≡ e → parent_of x ≡ at → by_of x ≡ j → first_state_of x ≡ p → second_state_of x ≡ q
-      → LeadsTo j p q → LedTo entries begins a queue x
+  led : (queue : List Found) (x : Found) (j p q : ℕ) → found_at queue at ≡ e → x.parent ≡ at → x.by.0 ≡ j → x.first ≡ p → x.second ≡ q
+      → LeadsTo j p q → LedTo rows queue x
   led queue x j p q here parent by first second l = rw (parent, here, by, first, second) l
 
-  joins : (m : Marks) (n x : ℕ) → Ready m → entry_number x ≡ n → n < most_pairs → get_or m.reached n false ≡ false → parent_of x ≡ at
-      → LedTo entries begins a m.queue x → Grows m (joined m n x) (λ p q. pair_number p q ≡ n)
+  joins : (m : Marks) (n : ℕ) (x : Found) → Ready m → entry_number x ≡ n → n < most_pairs → get_or m.reached n false ≡ false → x.parent ≡ at
+      → LedTo rows m.queue.found x → Grows m (joined m n x) (λ p q. pair_number p q ≡ n)
   joins m n x r is below fresh parent f =
       record {
         ready =
@@ -105,60 +93,52 @@ module _ (entries begins : List ℕ) (a at e : ℕ) where
         new = λ p q s. rw s (new_mark r.kept n x is below fresh);
       }
 
-  mark_cases : (m : Marks) (n x : ℕ) → Ready m → entry_number x ≡ n → n < most_pairs → parent_of x ≡ at → LedTo entries begins a m.queue x
+  mark_cases : (m : Marks) (n : ℕ) (x : Found) → Ready m → entry_number x ≡ n → n < most_pairs → x.parent ≡ at → LedTo rows m.queue.found x
       → (b : Bool) → get_or m.reached n false ≡ b
-      → Grows m (cond b m (cond (ltb m.count most_pairs) (joined m n x) m)) (λ p q. pair_number p q ≡ n)
+      → Grows m (cond b m (cond (ltb m.queue.count most_pairs) (joined m n x) m)) (λ p q. pair_number p q ≡ n)
   mark_cases m n x r is below parent f true old = stays r (λ p q s. rw s (subst T (sym old) tt))
   mark_cases m n x r is below parent f false fresh =
-      rw (lt-ltb m.count most_pairs (room r.kept n x is below fresh)) (joins m n x r is below fresh parent f)
+      rw (lt-ltb m.queue.count most_pairs (room r.kept n x is below fresh)) (joins m n x r is below fresh parent f)
 
-  module _ (j : ℕ) (small : j < most_types) where
-    mark_grows : (m : Marks) (p q : ℕ) → Ready m → p < most_states → q < most_states → LeadsTo j p q
-        → Grows m (mark_of m p q (link_of j at)) (λ p' q'. pair_number p' q' ≡ pair_number p q)
-    unfolding mark_of
-    mark_grows m p q r hp hq l =
-        let x : ℕ = entry_of p q (link_of j at) in
-        let first : first_state_of x ≡ p = entry_first p q (link_of j at) hp in
-        let second : second_state_of x ≡ q = entry_second p q (link_of j at) hp hq in
-        let parent : parent_of x ≡ at = entry_parent p q j at hp hq small in
-        mark_cases m (pair_number p q) x r (rw (first, second)) (pair_below_most p q hp hq) parent
-        (led m.queue x j p q r.here parent (entry_by p q j at hp hq small) first second l)
-        (get_or m.reached (pair_number p q) false) refl
+  mark_grows : (m : Marks) (j p q : ℕ) → Ready m → p < most_states → q < most_states → LeadsTo j p q
+      → Grows m (mark_of m (pair_found p q j at)) (λ p' q'. pair_number p' q' ≡ pair_number p q)
+  unfolding mark_of
+  mark_grows m j p q r hp hq l =
+      let x : Found = pair_found p q j at in
+      mark_cases m (pair_number p q) x r refl (pair_below_most p q hp hq) refl (led m.queue.found x j p q r.here refl refl refl refl l)
+      (get_or m.reached (pair_number p q) false) refl
 
-  -- what each entry of a row marks, from the place s on
-  each_grows : (mark : ℕ → Marks → Marks) (row : Row) (New : ℕ → ℕ → ℕ → Type 0)
-      → ((x : ℕ) → Stands entries row x → (m : Marks) → Ready m → Grows m (mark x m) (New x))
-      → (s n : ℕ) → row.start ≤ s → n ≡ row.end - s → (m : Marks) → Ready m
-      → Grows m (mark_each mark entries s n m) (λ p q. (x : ℕ) × Stands entries (row_from s row.end) x × New x p q)
-  unfolding mark_each
-  each_grows mark row New each s zero h k m r = stays r (λ p q c. absurd (omega (arith, k, c.1.least, c.1.most)))
-  each_grows mark row New each s (suc n) h k m r =
-      let one = each (get_or entries s 0) (record { place = s; least = h; most = omega (arith, k); is = refl }) m r in
-      grows_then one (each_grows mark row New each (suc s) n (omega arith) (omega (arith, k)) _ one.ready) split
+  -- what each entry of a row marks, one after another
+  each_grows : (mark : Marks → ℕ → Marks) (row : List ℕ) (New : ℕ → ℕ → ℕ → Type 0)
+      → ((x : ℕ) → Contains row x → (m : Marks) → Ready m → Grows m (mark m x) (New x))
+      → (m : Marks) → Ready m → Grows m (fold mark m row) (λ p q. (x : ℕ) × Contains row x × New x p q)
+  each_grows mark [] New each m r = stays r (λ p q c. absurd (omega (arith, c.1)))
+  each_grows mark (y ∷ row) New each m r =
+      let one = each y (contains_first y row) m r in
+      grows_then one (each_grows mark row New (λ x s. each x (contains_later y row x s)) _ one.ready) split
     where
-      split : (p q : ℕ) → (x : ℕ) × Stands entries (row_from s row.end) x × New x p q
-          → New (get_or entries s 0) p q ⊎ ((x : ℕ) × Stands entries (row_from (suc s) row.end) x × New x p q)
+      split : (p q : ℕ) → (x : ℕ) × Contains (y ∷ row) x × New x p q → New y p q ⊎ ((x : ℕ) × Contains row x × New x p q)
       split p q c =
           ⊎_elim
-          (λ (same : get_or entries s 0 ≡ c.0). inl (rw same c.2))
+          (λ (same : y ≡ c.0). inl (rw same c.2))
           (λ rest. inr (c.0, rest, c.2))
-          (stands_rest c.1)
+          (contains_cases y row c.0 c.1)
 
   -- what each entry of a row marks is marked for the whole row
-  over_grows : (mark : ℕ → Marks → Marks) (row : Row) {New : ℕ → ℕ → ℕ → Type 0} {All : ℕ → ℕ → Type 0}
-      → ((x : ℕ) → Stands entries row x → (m : Marks) → Ready m → Grows m (mark x m) (New x))
-      → ((p q : ℕ) → All p q → (x : ℕ) × Stands entries row x × New x p q)
-      → (m : Marks) → Ready m → Grows m (mark_over mark entries row m) All
+  over_grows : (mark : Marks → ℕ → Marks) (row : List ℕ) {New : ℕ → ℕ → ℕ → Type 0} {All : ℕ → ℕ → Type 0}
+      → ((x : ℕ) → Contains row x → (m : Marks) → Ready m → Grows m (mark m x) (New x))
+      → ((p q : ℕ) → All p q → (x : ℕ) × Contains row x × New x p q)
+      → (m : Marks) → Ready m → Grows m (fold mark m row) All
   over_grows mark row {New} each found m r =
-      let g = each_grows mark row New each row.start (row.end - row.start) (omega arith) refl m r in
+      let g = each_grows mark row New each m r in
       record { ready = g.ready; more = g.more; marks = g.marks; stay = g.stay; new = λ p q c. g.new p q (found p q c) }
 
   -- an entry x of the left row and an entry y of the right one
-  both_grows : (x y : ℕ) → Stands entries left x → Stands entries right y → (m : Marks) → Ready m
-      → Grows m (mark_both x y at m) (λ p q. T (eqb (by_in y) (by_in x)) × (pair_number p q ≡ pair_number (to_in x) (to_in y)))
+  both_grows : (x y : ℕ) → Contains left x → Contains right y → (m : Marks) → Ready m
+      → Grows m (mark_both x at m y) (λ p q. T (eqb (by_in y) (by_in x)) × (pair_number p q ≡ pair_number (to_in x) (to_in y)))
   both_grows x y sx sy m r =
       grows_if (eqb (by_in y) (by_in x)) r
-      (λ t. mark_grows (by_in x) (omega arith) m (to_in x) (to_in y) r (omega arith) (omega arith)
+      (λ t. mark_grows m (by_in x) (to_in x) (to_in y) r (omega arith) (omega arith)
       (record {
         entry = x;
         stands = sx;
@@ -166,14 +146,14 @@ module _ (entries begins : List ℕ) (a at e : ℕ) where
         other = record { entry = y; stands = sy; one_type = eqb→eq (by_in y) (by_in x) t; first = refl; second = refl };
       }))
 
-  with_grows : (x : ℕ) → Stands entries left x → (m : Marks) → Ready m → Grows m (mark_with entries right x at m) (LeadsWith entries right x)
+  with_grows : (x : ℕ) → Contains left x → (m : Marks) → Ready m → Grows m (mark_with right at m x) (LeadsWith right x)
   with_grows x sx =
-      over_grows (λ y. mark_both x y at) right (λ y sy. both_grows x y sx sy)
+      over_grows (mark_both x at) right (λ y sy. both_grows x y sx sy)
       (λ p q c. (c.entry, c.stands, (rw (eq-eqb (by_in c.entry) (by_in x) c.one_type) tt, rw (c.first, c.second))))
 
   -- a type leads from e's pair to the pair p, q
   abbrev pub Led : ℕ → ℕ → Type 0
   Led p q = (j : ℕ) × LeadsTo j p q
 
-  pub step_grows : (m : Marks) → Ready m → Grows m (mark_rows entries left right at m) Led
-  step_grows = over_grows (λ x. mark_with entries right x at) left with_grows (λ p q c. (c.1.entry, c.1.stands, c.1.other))
+  pub step_grows : (m : Marks) → Ready m → Grows m (mark_rows left right at m) Led
+  step_grows = over_grows (mark_with right at) left with_grows (λ p q c. (c.1.entry, c.1.stands, c.1.other))

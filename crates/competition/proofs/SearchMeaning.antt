@@ -8,6 +8,7 @@ use native.Mathlib.Decide.{dec_lt}
 use native.Mathlib.Omega.{arith}
 use lib.Dec.{T}
 use lib.ListN.{length, get_or, drop}
+use Rattle.sdtd.specs.Limits.{most_steps}
 use Rattle.sdtd.specs.Schema.{WithinLimits}
 use Rattle.sdtd.specs.Trim.{Bears, Useful}
 use Rattle.sdtd.specs.Competition.{Compete, CompeteIn, CompeteOutside, Competition, of_roots, in_type, witness_bytes, by_types}
@@ -16,7 +17,9 @@ use Rattle.schema.specs.Value.{meaning}
 use Rattle.schema.specs.Ways.{bears_in}
 use Rattle.schema.specs.Rows.{RowsMean}
 use Rattle.schema.specs.Trimming.{Exact}
-use Rattle.competition.specs.Marks.{word_to}
+use Rattle.competition.specs.Rows.{row_of}
+use Rattle.competition.specs.Found.{word_to}
+use Rattle.competition.specs.declared.queue.Found.{Found}
 use Rattle.competition.specs.Queue.{is_useful, CompetingIn, RestrainedIn}
 use Rattle.competition.specs.Search.{Written}
 use Rattle.competition.specs.Witness.{word_place}
@@ -34,10 +37,10 @@ tables_of v t = record { reached = t.reached; ways = t.ways; types = v.types }
 
 module _
     (v : Schema) (t : Trimming) (entries begins : List ℕ) (within : WithinLimits (meaning v)) (exact : Exact (meaning v) t)
-    (rows : RowsMean (meaning v) entries begins) (apart : ¬ CompeteOutside (meaning v)) where
+    (rows : RowsMean (meaning v) entries begins) (sized : length entries ≡ most_steps) (apart : ¬ CompeteOutside (meaning v)) where
   -- nothing was found in the type a
   abbrev NoneFound : ℕ → Type 0
-  NoneFound a = RestrainedIn entries begins (tables_of v t) a
+  NoneFound a = RestrainedIn (row_of entries begins a) (tables_of v t) a
 
   -- the tables say which types are useful
   is_useful_lem : (a : ℕ) → T (is_useful (tables_of v t) a) ↔ Useful (meaning v) a
@@ -53,7 +56,7 @@ module _
   restrained : (a : ℕ) → NoneFound a → ¬ CompeteIn (meaning v) a
   restrained a r k =
       let c = k.compete in
-      closed_restrained within t.ways exact.ways rows a (r ((is_useful_lem a).1 (c.reached, c.bears))).1 k
+      closed_restrained within t.ways exact.ways rows sized a (r ((is_useful_lem a).1 (c.reached, c.bears))).1 k
 
   -- the search found nothing in any type
   pub none_compete : ((a : ℕ) → a < v.types → NoneFound a) → ¬ Competition (meaning v)
@@ -79,10 +82,10 @@ module _
           rw (e, f) (c.falling (omega (arith, c.different)))
 
   -- The search found rivals in the type a, and nothing in any smaller type.
-  module _ (a at j k : ℕ) (queue : List ℕ) (found : CompetingIn entries begins (tables_of v t) a queue at j k)
+  module _ (a at j k : ℕ) (queue : List Found) (found : CompetingIn (row_of entries begins a) (tables_of v t) a queue at j k)
       (smaller : (c : ℕ) → c < a → NoneFound c) where
     competing : CompeteEither (meaning v) a (word_to at queue at) j k
-    competing = trail_competes within t.ways exact.ways rows a ((is_useful_lem a).0 found.useful) found.to_rivals
+    competing = trail_competes within t.ways exact.ways rows sized a ((is_useful_lem a).0 found.useful) found.to_rivals
 
     smallest : (c : ℕ) → CompeteIn (meaning v) c → a ≤ c
     smallest c x = by_order (dec_lt c a)
@@ -107,7 +110,7 @@ module _
                 word = w;
                 compete = smaller_first competing;
                 smallest = smallest;
-                shortest = trail_shortest within t.ways exact.ways rows a found.to_rivals;
+                shortest = trail_shortest within t.ways exact.ways rows sized a found.to_rivals;
                 short = competing.short;
                 written = refl;
               });

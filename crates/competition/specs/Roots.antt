@@ -1,5 +1,6 @@
 -- What the private searches of the roots answer. Tables have an entry for each type.
-use Rattle.std.specs.Prelude.{◌≡◌, ◌↔◌, Bool, false, cond, List, map, ℕ, ◌<◌, T, get_or}
+use Rattle.std.specs.Prelude.{◌≡◌, ◌↔◌, Bool, false, cond, List, map, ℕ, ◌<◌, T, get_or, Option, Some, None}
+use Rattle.sdtd.specs.declared.TypeNo.{TypeNo}
 use Rattle.sdtd.specs.Limits.{most_types}
 use Rattle.sdtd.specs.Schema.{Schema}
 use Rattle.sdtd.specs.Tree.{Kind, IsRoot}
@@ -9,10 +10,7 @@ use Rattle.schema.specs.Value.{up_from}
 use Rattle.schema.specs.Ways.{opens_by, bears_in}
 use Rattle.competition.specs.Rivals.{open_alike}
 use Rattle.competition.specs.Search.{Written}
-use Rattle.competition.specs.declared.rivals.Rival.{Rival}
-use Rattle.competition.specs.declared.rivals.Rival.TheVariants.{One, NoType}
 use Rattle.competition.specs.declared.rivals.Rivals.{Rivals}
-use Rattle.competition.specs.declared.rivals.Rivals.TheVariants.{Of, NoTypes}
 
 -- the ways of the types that are marked as roots, and 0 for the others
 abbrev pub ways_of_roots : List Bool → List ℕ → List ℕ
@@ -35,13 +33,13 @@ pub record OpeningRivals (opening tag : List ℕ) (j k : ℕ) : Type 0 where
   pub one_tag : get_or tag j 0 ≡ get_or tag k 0
   pub alike : T (open_alike (get_or opening j 0) (get_or opening k 0))
 
-abbrev pub RivalAfterMeans : List ℕ → List ℕ → ℕ → Rival → Type 0
-RivalAfterMeans opening tag j (One k) = OpeningRivals opening tag j k.0
-RivalAfterMeans opening tag j NoType = (k : ℕ) → ¬ OpeningRivals opening tag j k
+abbrev pub RivalAfterMeans : List ℕ → List ℕ → ℕ → Option TypeNo → Type 0
+RivalAfterMeans opening tag j (Some k) = OpeningRivals opening tag j k.0
+RivalAfterMeans opening tag j None = (k : ℕ) → ¬ OpeningRivals opening tag j k
 
-abbrev pub RivalRootsMean : List ℕ → List ℕ → Rivals → Type 0
-RivalRootsMean opening tag (Of j k) = OpeningRivals opening tag j.0 k.0
-RivalRootsMean opening tag NoTypes = (j k : ℕ) → ¬ OpeningRivals opening tag j k
+abbrev pub RivalRootsMean : List ℕ → List ℕ → Option Rivals → Type 0
+RivalRootsMean opening tag (Some r) = OpeningRivals opening tag r.first.0 r.second.0
+RivalRootsMean opening tag None = (j k : ℕ) → ¬ OpeningRivals opening tag j k
 
 -- two roots compete, and the buffer has a witness; or none do, and the buffer is as it was
 pub record RootsCompeteMeans (S : Schema) (was is : List ℕ) (r : Bool) : Type 0 where

@@ -1,12 +1,14 @@
--- What the calls about competition answer: document 01, "Competition"; document 02, Req 01, 04, 05 and 06.
-use Rattle.std.specs.Prelude.{◌≡◌, List, [], ◌∷◌, ◌++◌, ℕ, length, drop}
+-- What the calls about competition answer.
+use Rattle.std.specs.Prelude.{◌≡◌, List, [], ◌∷◌, ◌++◌, ℕ, length, drop, Result, Ok, Err}
 use Rattle.sdtd.specs.Schema.{Schema}
 use Rattle.sdtd.specs.Competition.{Witness}
 use Rattle.sdtd.specs.Reduced.{used_asked}
+use Rattle.sdtd.specs.declared.Refused.{Refused}
+use Rattle.sdtd.specs.declared.Refused.TheVariants.{ShortWitness, OutsideLimits, NoRoot, UnusedType, Competition}
 use Rattle.sdtd.specs.Answer.{Question, Ordered, fine, refused_at, Verdict}
 use Rattle.competition.specs.Questions.{buffer_asked, limits_asked, root_asked, competition_asked}
-use Rattle.competition.specs.declared.search.Searched.{Searched}
-use Rattle.competition.specs.declared.search.Searched.TheVariants.{ShortBuffer, OutsideLimits, Restrained, Competes}
+use Rattle.competition.specs.declared.verdict.Judged.{Judged}
+use Rattle.competition.specs.declared.verdict.Judged.TheVariants.{ShortBuffer, Outside, NoRootBears, Unused, Competes}
 
 -- a witness fills the first bytes of the buffer, and the rest is as it was
 pub record Written (S : Schema) (was is : List ℕ) : Type 0 where
@@ -18,18 +20,11 @@ pub record Written (S : Schema) (was is : List ℕ) : Type 0 where
 abbrev pub search_questions : Schema → List ℕ → List (Question ℕ)
 search_questions S was = buffer_asked 1 was ∷ limits_asked 10 S ∷ competition_asked 9 S ∷ []
 
--- Document 01's number for each case, 0 where no question is answered no.
-abbrev pub number_for : Searched → ℕ
-number_for ShortBuffer = 1
-number_for OutsideLimits = 10
-number_for Restrained = 0
-number_for Competes = 9
-
 -- What the search answers, and what the buffer holds: "on 9" a witness; "on every other answer it is all unchanged".
-pub record SearchMeans (S : Schema) (was is : List ℕ) (r : Searched) : Type 0 where
-  pub answer : Ordered (search_questions S was) (λ n. n ≡ 0) (number_for r)
-  pub written : number_for r ≡ 9 → Written S was is
-  pub unchanged : ¬ (number_for r ≡ 9) → is ≡ was
+pub record SearchMeans (S : Schema) (was is : List ℕ) (n : ℕ) : Type 0 where
+  pub answer : Ordered (search_questions S was) (λ m. m ≡ 0) n
+  pub written : n ≡ 9 → Written S was is
+  pub unchanged : ¬ (n ≡ 9) → is ≡ was
 
 -- The same with a verdict, each refusal at "place 0", and with 8 before 9: "The root question (8) holds if any root bears a tree." Between them it is
 -- asked of the first n types whether they are used: "Just before competition, after 8, such a file gets 24"; the place is the number of the type.
@@ -53,3 +48,19 @@ JudgeMeans S was is r = JudgedBy (questions_of S was 0) S was is r
 -- of each type
 abbrev pub ReducedMeans : Schema → List ℕ → List ℕ → Verdict → Type 0
 ReducedMeans S was is r = JudgedBy (questions_of S was (length S.blocks)) S was is r
+
+-- the question that an answer of the code names, and the verdict that it tells: the place of a type that is not used is its number
+abbrev pub why_of : Judged → Refused
+why_of ShortBuffer = ShortWitness
+why_of Outside = OutsideLimits
+why_of NoRootBears = NoRoot
+why_of (Unused a) = UnusedType
+why_of Competes = Competition
+
+abbrev pub judged_of : {A : Type 0} → Result A Judged → Verdict
+judged_of (Ok x) = fine
+judged_of (Err ShortBuffer) = refused_at 1 0
+judged_of (Err Outside) = refused_at 10 0
+judged_of (Err NoRootBears) = refused_at 8 0
+judged_of (Err (Unused a)) = refused_at 24 a.0
+judged_of (Err Competes) = refused_at 9 0

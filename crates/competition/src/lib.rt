@@ -1,8 +1,9 @@
 // Competition in a schema, of roots and of types: the search over pairs of states with its witness, and the verdict on a schema.
 #![tactic(auto)]
 
-mod entries;
 mod marks;
+mod numbers;
+mod queue;
 mod rivals;
 mod roots;
 mod rows;
@@ -10,6 +11,6 @@ mod search;
 mod verdict;
 mod witness;
 
-pub use search::{Searched, competition};
-pub use verdict::{judge, judge_reduced};
+pub use search::competition;
+pub use verdict::{Judged, judge, judge_reduced};
 pub use witness::{LEAST_WITNESS, WORD_PLACE, WitnessHead, witness_head};

@@ -1,184 +1,106 @@
-// Pairs of states marked as reached, with a queue of those found.
-ghost use Rattle.std.specs.Prelude.{◌≡◌, ◌<◌, ◌≤◌};
-ghost use Rattle.sdtd.specs.Limits.{most_states, most_steps, most_pairs};
-ghost use Rattle.sdtd.specs.Competition.{pair_number};
-ghost use Rattle.pairs.specs.Table.{PairTable};
-ghost use Rattle.competition.specs.Marks.{most_links, marks, mark_of, mark_both, mark_with, mark_rows};
+// One step of the search: the pairs that follow a pair of the queue are marked as reached, and join the queue.
+ghost use Rattle.std.specs.Prelude.{◌≡◌, ◌<◌};
+ghost use Rattle.sdtd.specs.Limits.{most_states};
+ghost use Rattle.competition.specs.Marks.{marks, mark_of, mark_both, mark_with, mark_rows};
 
-use crate::entries::{entry_of, link_of};
-use crate::rows::Row;
-use pairs::{ORDERED_PAIRS, PAIRS, number_in};
-use schema::{Entry, STEPS};
+use crate::numbers::Numbers;
+use crate::queue::{Found, Queue};
+use pairs::PAIRS;
+use schema::Entry;
 
-// The number of a pair of states, by the table of them.
-fn number(table: &[u16; ORDERED_PAIRS], s: u8, t: u8) -> usize
-    requires { PairTable table.now × (s < most_states) × (t < most_states) }
-    ensures { (result ≡ pair_number s t) × (result < most_pairs) }
-{
-    number_in(table, s, t) as usize
-}
-
-// The pair joins the queue, unless it is reached already.
-// The test for a full queue is there for the bound. It never holds in a search: there are only so many pairs, and each joins once.
-#[tactic(auto, unfolding(crate::specs::Marks::mark_of))]
-fn mark<'a>(
-    reached: &'a mut [bool; PAIRS],
-    queue: &'a mut [u32; PAIRS],
-    count: usize,
-    table: &[u16; ORDERED_PAIRS],
-    p: u8,
-    q: u8,
-    link: u32,
-) -> usize
-    requires { (p < most_states) × (q < most_states) × (link < most_links) × PairTable table.now }
-    ensures { marks reached.new queue.new result
-        ≡ mark_of (marks reached.old queue.old count) p q link }
-{
-    let n = number(table, p, q);
-    if reached[n] {
-        return count;
-    }
-    if PAIRS <= count {
-        return count;
-    }
-    reached[n] = true;
-    queue[count] = entry_of(p, q, link);
-    count + 1
-}
-
-// The pair that the entries e and f of rows lead to, if they are of one type, from the pair at the place `at` of the queue.
-fn mark_both<'a>(
-    reached: &'a mut [bool; PAIRS],
-    queue: &'a mut [u32; PAIRS],
-    count: usize,
-    table: &[u16; ORDERED_PAIRS],
-    e: u32,
-    f: u32,
-    at: usize,
-) -> usize
-    requires { (at < most_pairs) × PairTable table.now }
-    ensures { marks reached.new queue.new result
-        ≡ mark_both e f at (marks reached.old queue.old count) }
-{
-    let by = Entry(e).by();
-    if !Entry(f).by().same(by) {
-        return count;
-    }
-    let p = Entry(e).to();
-    let q = Entry(f).to();
-    let link = link_of(by.0 as usize, at);
-    mark(reached, queue, count, table, p, q, link)
-}
-
-// The pairs that e leads to with the entries of the row.
-fn mark_with<'a>(
-    reached: &'a mut [bool; PAIRS],
-    queue: &'a mut [u32; PAIRS],
-    count: usize,
-    table: &[u16; ORDERED_PAIRS],
-    entries: &[u32; STEPS],
-    row: Row,
-    e: u32,
-    at: usize,
-) -> usize
-    requires { (row.end ≤ most_steps) × (at < most_pairs) × PairTable table.now }
-    ensures { marks reached.new queue.new result
-        ≡ mark_with entries.now row e at (marks reached.old queue.old count) }
-{
-    let end = row.end;
-    let mut queued = count;
-    let mut i = row.start;
-    while i < end {
-        let f = entries[i];
-        queued = mark_both(reached, queue, queued, table, e, f, at);
-        i += 1;
-    }
-    queued
-}
-
-// The pairs that an entry of the left row leads to with one of the right row.
-fn mark_rows<'a>(
-    reached: &'a mut [bool; PAIRS],
-    queue: &'a mut [u32; PAIRS],
-    count: usize,
-    table: &[u16; ORDERED_PAIRS],
-    entries: &[u32; STEPS],
-    left: Row,
-    right: Row,
-    at: usize,
-) -> usize
-    requires { (left.end ≤ most_steps) × (right.end ≤ most_steps) × (at < most_pairs) × PairTable table.now }
-    ensures { marks reached.new queue.new result
-        ≡ mark_rows entries.now left right at (marks reached.old queue.old count) }
-{
-    let end = left.end;
-    let mut queued = count;
-    let mut i = left.start;
-    while i < end {
-        let e = entries[i];
-        queued = mark_with(reached, queue, queued, table, entries, right, e, at);
-        i += 1;
-    }
-    queued
-}
-
-// Which pairs are reached after a step of the search, and how many stand in the queue.
+// A step from the pair at the place `at` of the queue.
 #[derive(Clone, Copy)]
-struct PairsMarked {
-    pub reached: [bool; PAIRS],
-    pub count: usize,
+pub(crate) struct Step<'a> {
+    pub numbers: Numbers<'a>,
+    pub at: u16,
 }
 
-// One step of the search: the pairs that follow the one at the place `at` of the queue, by the rows of its two states. Which are reached goes
-// in and comes back.
-fn search_step(
-    reached: [bool; PAIRS],
-    queue: &mut [u32; PAIRS],
-    count: usize,
-    table: &[u16; ORDERED_PAIRS],
-    entries: &[u32; STEPS],
-    left: Row,
-    right: Row,
-    at: usize,
-) -> PairsMarked
-    requires { (left.end ≤ most_steps) × (right.end ≤ most_steps) × (at < most_pairs) × PairTable table.now }
-    ensures { marks result.reached queue.new result.count
-        ≡ mark_rows entries.now left right at (marks reached queue.old count) }
-{
-    let mut marked = reached;
-    let queued = mark_rows(&mut marked, queue, count, table, entries, left, right, at);
-    PairsMarked {
-        reached: marked,
-        count: queued,
+impl Step<'_> {
+    // The pair joins the queue, unless it is reached already.
+    #[tactic(auto, unfolding(crate::specs::Marks::mark_of))]
+    fn mark(&self, reached: &mut [bool; PAIRS], queue: &mut Queue, found: Found)
+        requires { (found.first < most_states) × (found.second < most_states) }
+        ensures { marks reached.new queue.new ≡ mark_of (marks reached.old queue.old) found }
+    {
+        let n = self.numbers.number(found.first, found.second);
+        if reached[n] {
+            return;
+        }
+        if queue.is_full() {
+            return;
+        }
+        reached[n] = true;
+        queue.join(found);
     }
-}
 
-// The step, where there is one to make: not where all pairs are reached, nor where a row has no entry.
-pub(crate) fn search_from<'a>(
-    reached: &'a mut [bool; PAIRS],
-    queue: &'a mut [u32; PAIRS],
-    count: usize,
-    table: &[u16; ORDERED_PAIRS],
-    entries: &[u32; STEPS],
-    left: Row,
-    right: Row,
-    at: usize,
-) -> usize
-    requires { (left.end ≤ most_steps) × (right.end ≤ most_steps) × (at < most_pairs) × PairTable table.now }
-    ensures { marks reached.new queue.new result
-        ≡ mark_rows entries.now left right at (marks reached.old queue.old count) }
-{
-    if PAIRS <= count {
-        return count;
+    // The pair that the entries e and f of rows lead to, if they are of one type.
+    fn mark_both(&self, reached: &mut [bool; PAIRS], queue: &mut Queue, e: Entry, f: Entry)
+        ensures { marks reached.new queue.new ≡ mark_both e.0 self.now.at (marks reached.old queue.old) f.0 }
+    {
+        let by = e.by();
+        if f.by() == by {
+            let found = Found {
+                first: e.to(),
+                second: f.to(),
+                by,
+                parent: self.at,
+            };
+            self.mark(reached, queue, found);
+        }
     }
-    if left.end <= left.start {
-        return count;
+
+    // The pairs that e leads to with the entries of the row.
+    fn mark_with(&self, reached: &mut [bool; PAIRS], queue: &mut Queue, row: &[u32], e: u32)
+        ensures { marks reached.new queue.new ≡ mark_with row.now self.now.at (marks reached.old queue.old) e }
+    {
+        for f in row {
+            self.mark_both(reached, queue, Entry(e), Entry(*f));
+        }
     }
-    if right.end <= right.start {
-        return count;
+
+    // The pairs that an entry of the left row leads to with one of the right row.
+    fn mark_rows(&self, reached: &mut [bool; PAIRS], queue: &mut Queue, left: &[u32], right: &[u32])
+        ensures { marks reached.new queue.new ≡ mark_rows left.now right.now self.now.at (marks reached.old queue.old) }
+    {
+        for e in left {
+            self.mark_with(reached, queue, right, *e);
+        }
     }
-    let marked = search_step(*reached, queue, count, table, entries, left, right, at);
-    let grown = marked.reached;
-    *reached = grown;
-    marked.count
+
+    // The step, by the rows of the pair's two states. Which pairs are reached goes in and comes back.
+    fn search_step(
+        &self,
+        reached: [bool; PAIRS],
+        queue: &mut Queue,
+        left: &[u32],
+        right: &[u32],
+    ) -> [bool; PAIRS]
+        ensures { marks result queue.new ≡ mark_rows left.now right.now self.now.at (marks reached queue.old) }
+    {
+        let mut marked = reached;
+        self.mark_rows(&mut marked, queue, left, right);
+        marked
+    }
+
+    // The step, where there is one to make: not where all pairs are reached, nor where a row has no entry.
+    pub(crate) fn search_from(
+        &self,
+        reached: &mut [bool; PAIRS],
+        queue: &mut Queue,
+        left: &[u32],
+        right: &[u32],
+    )
+        ensures { marks reached.new queue.new ≡ mark_rows left.now right.now self.now.at (marks reached.old queue.old) }
+    {
+        if queue.is_full() {
+            return;
+        }
+        if left.is_empty() {
+            return;
+        }
+        if right.is_empty() {
+            return;
+        }
+        *reached = self.search_step(*reached, queue, left, right);
+    }
 }

@@ -3,43 +3,32 @@
 ghost use Rattle.std.specs.Prelude.{◌<◌, ◌≤◌, length};
 ghost use Rattle.sdtd.specs.Limits.{most_types, least_witness};
 ghost use Rattle.sdtd.specs.Schema.{WithinLimits};
+ghost use Rattle.sdtd.specs.Answer.{number_told};
 ghost use Rattle.sdtd.specs.Competition.{CompeteOutside};
-ghost use Rattle.pairs.specs.Table.{PairTable};
 ghost use Rattle.schema.specs.Trimming.{Exact};
 ghost use Rattle.schema.specs.Value.{meaning};
-ghost use Rattle.schema.specs.Rows.{RowsInside, RowsMean};
-ghost use Rattle.competition.specs.Queue.{PairFoundMeans, SearchedAt, CompetingMeans, CompetesMeans};
+ghost use Rattle.schema.specs.Rows.{RowsMean};
+ghost use Rattle.competition.specs.Queue.{PairMeans, SearchedAt, CompetingMeans, CompetesMeans};
+ghost use Rattle.competition.specs.Rows.{row_of};
 ghost use Rattle.competition.specs.Roots.{OpensExactly, RootsCompeteMeans};
 ghost use Rattle.competition.specs.Search.{SearchMeans};
 
-use crate::entries::{first_of, second_of};
-use crate::marks::search_from;
+use crate::marks::Step;
+use crate::numbers::Numbers;
+use crate::queue::Queue;
 use crate::rivals::{Rivals, rivals_at};
 use crate::roots::{opening_types, rival_roots};
-use crate::rows::row_of;
-use crate::witness::{LEAST_WITNESS, NO_PARENT, write_head, write_rivals};
-use pairs::{ORDERED_PAIRS, PAIRS, pair_numbers};
+use crate::rows::Rows;
+use crate::witness::{LEAST_WITNESS, NO_PARENT, WitnessHead, write_head, write_witness};
+use pairs::{PAIRS, pair_numbers};
 use schema::{BEGINS, STEPS, Schema, TYPES, Trimming, opens, trim};
-use sdtd::TypeNo;
+use sdtd::{Refused, TypeNo};
 
-// What the search of a schema answers.
+// A pair with rivals, by its place in the queue.
 #[derive(Clone, Copy)]
-pub enum Searched {
-    // the witness buffer has fewer than 532 bytes
-    ShortBuffer,
-    // the schema is outside the limits
-    OutsideLimits,
-    // no two types compete anywhere
-    Restrained,
-    // two types compete, and the buffer has the witness
-    Competes,
-}
-
-// The place in the queue of a pair with rivals, and the rival types; or that there is none.
-#[derive(Clone, Copy)]
-pub(crate) enum PairFound {
-    At(usize, TypeNo, TypeNo),
-    Nowhere,
+pub(crate) struct Pair {
+    pub at: usize,
+    pub rivals: Rivals,
 }
 
 // Of each type whether it is reached and by which kinds of opening it bears a tree; and how many types there are.
@@ -47,102 +36,95 @@ pub(crate) enum PairFound {
 pub(crate) struct TypeTables {
     pub reached: [bool; TYPES],
     pub ways: [u8; TYPES],
-    pub types: usize,
+    pub types: u8,
 }
 
 // The search of the type a: the first pair found with rivals, with the queue that leads to it.
-fn search_type<'a>(
-    table: &[u16; ORDERED_PAIRS],
-    entries: &'a [u32; STEPS],
-    begins: &'a [u16; BEGINS],
-    a: TypeNo,
-    queue: &mut [u32; PAIRS],
-) -> PairFound
-    requires { (a.0 < most_types) × RowsInside begins.now × PairTable table.now }
-    ensures { PairFoundMeans entries.now begins.now a.0 queue.new result }
+fn search_type(numbers: &Numbers<'_>, rows: &Rows<'_>, a: TypeNo, queue: &mut Queue) -> Option<Pair>
+    requires { a.0 < most_types }
+    ensures { PairMeans (row_of rows.now.entries.now rows.now.begins.now a.0) queue.new.found result }
 {
     let mut reached = [false; PAIRS];
     reached[0] = true;
-    // as a slice, from which the proof has the queue's length
-    let places: &mut [u32] = queue;
-    places[0] = 0;
-    let mut count = 1;
+    queue.restart();
     let mut at = 0;
-    while at < count {
-        let entry = queue[at];
-        let left = row_of(begins, a, first_of(entry));
-        let right = row_of(begins, a, second_of(entry));
-        let rivals = rivals_at(entries, left, right);
-        if let Rivals::Of(j, k) = rivals {
-            return PairFound::At(at, j, k);
+    while at < queue.count {
+        let found = queue.found[at];
+        let left = rows.row(a, found.first);
+        let right = rows.row(a, found.second);
+        if let Some(rivals) = rivals_at(left, right) {
+            return Some(Pair { at, rivals });
         }
-        count = search_from(&mut reached, queue, count, table, entries, left, right, at);
+        let step = Step {
+            numbers: *numbers,
+            at: at as u16,
+        };
+        step.search_from(&mut reached, queue, left, right);
         at += 1;
     }
-    PairFound::Nowhere
+    None
 }
 
 // The search of the type a, if it is reached and bears a tree.
-fn search_at<'a>(
-    table: &[u16; ORDERED_PAIRS],
-    entries: &'a [u32; STEPS],
-    begins: &'a [u16; BEGINS],
-    useful: TypeTables,
+fn search_at(
+    numbers: &Numbers<'_>,
+    rows: &Rows<'_>,
+    useful: &TypeTables,
     a: TypeNo,
-    queue: &mut [u32; PAIRS],
-) -> PairFound
-    requires { (a.0 < most_types) × RowsInside begins.now × PairTable table.now }
-    ensures { SearchedAt entries.now begins.now useful a.0 queue.new result }
+    queue: &mut Queue,
+) -> Option<Pair>
+    requires { a.0 < most_types }
+    ensures { SearchedAt (row_of rows.now.entries.now rows.now.begins.now a.0) useful.now a.0 queue.new.found result }
 {
-    let i = a.0 as usize;
+    let i = usize::from(a.0);
     if !useful.reached[i] {
-        return PairFound::Nowhere;
+        return None;
     }
     if !opens(useful.ways[i]) {
-        return PairFound::Nowhere;
+        return None;
     }
-    search_type(table, entries, begins, a, queue)
+    search_type(numbers, rows, a, queue)
 }
 
-// The smallest type in which two compete: the type, the place in the queue of a pair with rivals, and the rivals.
+// Types that compete: in the type `of`, at a pair.
 #[derive(Clone, Copy)]
-pub(crate) enum Competing {
-    In(TypeNo, usize, TypeNo, TypeNo),
-    NoneIn,
+pub(crate) struct Competing {
+    pub of: TypeNo,
+    pub pair: Pair,
 }
 
-// The search of one type after another.
-fn first_competing<'a>(
-    table: &[u16; ORDERED_PAIRS],
-    entries: &'a [u32; STEPS],
-    begins: &'a [u16; BEGINS],
-    useful: TypeTables,
-    queue: &mut [u32; PAIRS],
-) -> Competing
-    requires { (useful.types ≤ most_types) × RowsInside begins.now × PairTable table.now }
-    ensures { CompetingMeans entries.now begins.now useful queue.new result }
+// The smallest type in which two compete, by the search of one type after another.
+fn first_competing(
+    numbers: &Numbers<'_>,
+    rows: &Rows<'_>,
+    useful: &TypeTables,
+    queue: &mut Queue,
+) -> Option<Competing>
+    requires { useful.now.types ≤ most_types }
+    ensures { CompetingMeans (row_of rows.now.entries.now rows.now.begins.now) useful.now queue.new.found result }
 {
-    let types = useful.types;
-    let mut i = 0;
-    while i < types {
-        let a = TypeNo(i as u8);
-        let pair = search_at(table, entries, begins, useful, a, queue);
-        if let PairFound::At(at, j, k) = pair {
-            return Competing::In(a, at, j, k);
+    for i in 0..useful.types {
+        let of = TypeNo(i);
+        if let Some(pair) = search_at(numbers, rows, useful, of, queue) {
+            return Some(Competing { of, pair });
         }
-        i += 1;
     }
-    Competing::NoneIn
+    None
 }
 
 // Do two roots compete, by the table of how types open a document? If so, the two go to the witness buffer, with no parent and no word.
-fn roots_compete(schema: Schema, opening: &[u8; TYPES], witness: &mut [u8]) -> bool
-    requires { WithinLimits (meaning schema) × OpensExactly (meaning schema) opening.now × (least_witness ≤ length witness.old) }
-    ensures { RootsCompeteMeans (meaning schema) witness.old witness.new result }
+fn roots_compete(schema: &Schema, opening: &[u8; TYPES], witness: &mut [u8]) -> bool
+    requires { WithinLimits (meaning schema.now) × OpensExactly (meaning schema.now) opening.now × (least_witness ≤ length witness.old) }
+    ensures { RootsCompeteMeans (meaning schema.now) witness.old witness.new result }
 {
-    let rivals = rival_roots(opening, &schema.tag);
-    if let Rivals::Of(j, k) = rivals {
-        write_head(witness, NO_PARENT, j, k, 0);
+    if let Some(rivals) = rival_roots(opening, &schema.tag) {
+        let head = WitnessHead {
+            of: NO_PARENT,
+            first: rivals.first,
+            second: rivals.second,
+            word: 0,
+        };
+        write_head(witness, head);
         return true;
     }
     false
@@ -150,69 +132,66 @@ fn roots_compete(schema: Schema, opening: &[u8; TYPES], witness: &mut [u8]) -> b
 
 // The search of a schema in which no two roots compete, by its trimming and its rows: do two types compete in a type? If so, the smallest type
 // in which two compete, the two and a shortest word after which two compete there go to the witness buffer.
-fn types_compete<'a>(
-    schema: Schema,
-    trimming: Trimming,
-    entries: &'a [u32; STEPS],
-    begins: &'a [u16; BEGINS],
-    witness: &mut [u8],
-) -> bool
-    requires { WithinLimits (meaning schema) × Exact (meaning schema) trimming × RowsMean (meaning schema) entries.now begins.now
-        × (¬ CompeteOutside (meaning schema)) × (least_witness ≤ length witness.old) }
-    ensures { CompetesMeans (meaning schema) witness.old witness.new result }
+fn types_compete(schema: &Schema, trimming: &Trimming, rows: &Rows<'_>, witness: &mut [u8]) -> bool
+    requires { WithinLimits (meaning schema.now) × Exact (meaning schema.now) trimming.now
+        × RowsMean (meaning schema.now) rows.now.entries.now rows.now.begins.now
+        × (¬ CompeteOutside (meaning schema.now)) × (least_witness ≤ length witness.old) }
+    ensures { CompetesMeans (meaning schema.now) witness.old witness.new result }
 {
-    let reached = trimming.reached;
-    let ways = trimming.ways;
     let useful = TypeTables {
-        reached,
-        ways,
-        types: schema.types as usize,
+        reached: trimming.reached,
+        ways: trimming.ways,
+        types: schema.types,
     };
-    let mut queue = [0u32; PAIRS];
+    let mut queue = Queue::new();
     let table = pair_numbers();
-    let competing = first_competing(&table, entries, begins, useful, &mut queue);
-    if let Competing::In(a, at, j, k) = competing {
-        write_rivals(witness, a, j, k, &queue, at);
+    let numbers = Numbers { table: &table };
+    if let Some(competing) = first_competing(&numbers, rows, &useful, &mut queue) {
+        let pair = competing.pair;
+        write_witness(witness, competing.of, pair.rivals, &queue, pair.at);
         return true;
     }
     false
 }
 
 // The search of a schema inside the limits by its trimming, its roots' ways and its rows. Roots are looked at before all else.
-pub(crate) fn competes<'a>(
-    schema: Schema,
-    trimming: Trimming,
+pub(crate) fn competes(
+    schema: &Schema,
+    trimming: &Trimming,
     opening: &[u8; TYPES],
-    entries: &'a [u32; STEPS],
-    begins: &'a [u16; BEGINS],
+    rows: &Rows<'_>,
     witness: &mut [u8],
 ) -> bool
-    requires { WithinLimits (meaning schema) × Exact (meaning schema) trimming × OpensExactly (meaning schema) opening.now
-        × RowsMean (meaning schema) entries.now begins.now × (least_witness ≤ length witness.old) }
-    ensures { CompetesMeans (meaning schema) witness.old witness.new result }
+    requires { WithinLimits (meaning schema.now) × Exact (meaning schema.now) trimming.now × OpensExactly (meaning schema.now) opening.now
+        × RowsMean (meaning schema.now) rows.now.entries.now rows.now.begins.now × (least_witness ≤ length witness.old) }
+    ensures { CompetesMeans (meaning schema.now) witness.old witness.new result }
 {
     if roots_compete(schema, opening, witness) {
         return true;
     }
-    types_compete(schema, trimming, entries, begins, witness)
+    types_compete(schema, trimming, rows, witness)
 }
 
-// Is there a competition?
-pub fn competition(schema: Schema, witness: &mut [u8]) -> Searched
-    ensures { SearchMeans (meaning schema) witness.old witness.new result }
+// Is there no competition?
+pub fn competition(schema: &Schema, witness: &mut [u8]) -> Result<(), Refused>
+    ensures { SearchMeans (meaning schema.now) witness.old witness.new (number_told result) }
 {
     if witness.len() < LEAST_WITNESS {
-        return Searched::ShortBuffer;
+        return Err(Refused::ShortWitness);
     }
     let mut entries = [0u32; STEPS];
     let mut begins = [0u16; BEGINS];
     let trimming = trim(schema, &mut entries, &mut begins);
     if !trimming.inside {
-        return Searched::OutsideLimits;
+        return Err(Refused::OutsideLimits);
     }
-    let opening = opening_types(schema, trimming);
-    if competes(schema, trimming, &opening, &entries, &begins, witness) {
-        return Searched::Competes;
+    let opening = opening_types(schema, &trimming);
+    let rows = Rows {
+        entries: &entries,
+        begins: &begins,
+    };
+    if competes(schema, &trimming, &opening, &rows, witness) {
+        return Err(Refused::Competition);
     }
-    Searched::Restrained
+    Ok(())
 }

@@ -1,72 +1,98 @@
 // The verdict on a schema: questions 1, 10, 8, 24 where it is asked, and 9, over one trimming.
-ghost use Rattle.std.specs.Prelude.{◌≤◌};
+ghost use Rattle.std.specs.Prelude.{◌≡◌, ◌≤◌};
 ghost use Rattle.sdtd.specs.Limits.{most_types};
+ghost use Rattle.sdtd.specs.Answer.{verdict_at};
 ghost use Rattle.schema.specs.Value.{meaning};
-ghost use Rattle.competition.specs.Search.{questions_of, JudgedBy, JudgeMeans, ReducedMeans};
+ghost use Rattle.competition.specs.Search.{questions_of, JudgedBy, JudgeMeans, ReducedMeans, why_of, judged_of};
 ghost use Rattle.competition.specs.Unused.{FirstUnmarked};
 
 use crate::roots::{opening_types, some_opens};
+use crate::rows::Rows;
 use crate::search::competes;
 use crate::witness::LEAST_WITNESS;
 use schema::{BEGINS, STEPS, Schema, TYPES, trim, used_in};
-use sdtd::Verdict;
+use sdtd::{Refused, TypeNo};
 
-// Of the first n types the first that is not used, or n.
-fn first_unused(used: &[bool; TYPES], n: usize) -> usize
+// Why a schema is refused; of a type that no valid document uses, the first.
+#[derive(Clone, Copy, Debug, PartialEq, Eq)]
+pub enum Judged {
+    ShortBuffer,
+    Outside,
+    NoRootBears,
+    Unused(TypeNo),
+    Competes,
+}
+
+impl Judged {
+    // The question that is answered no.
+    pub fn why(self) -> Refused
+        ensures { result ≡ why_of self }
+    {
+        match self {
+            Judged::ShortBuffer => Refused::ShortWitness,
+            Judged::Outside => Refused::OutsideLimits,
+            Judged::NoRootBears => Refused::NoRoot,
+            Judged::Unused(_) => Refused::UnusedType,
+            Judged::Competes => Refused::Competition,
+        }
+    }
+}
+
+// Of the first n types the first that is not used.
+fn first_unused(used: &[bool; TYPES], n: usize) -> Option<usize>
     requires { n ≤ most_types }
     ensures { FirstUnmarked used.now n result }
 {
-    let mut a = 0;
-    while a < n {
-        if !used[a] {
-            return a;
-        }
-        a += 1;
-    }
-    n
+    used[..n].iter().position(|used| !used)
 }
 
 // The verdict, where of the first n types it is asked whether they are used.
-fn judge_types(schema: Schema, n: usize, witness: &mut [u8]) -> Verdict
-    requires { n ≤ schema.types }
-    ensures { JudgedBy (questions_of (meaning schema) witness.old n) (meaning schema)
-        witness.old witness.new result }
+fn judge_types(schema: &Schema, n: usize, witness: &mut [u8]) -> Result<(), Judged>
+    requires { n ≤ schema.now.types }
+    ensures { JudgedBy (questions_of (meaning schema.now) witness.old n) (meaning schema.now)
+        witness.old witness.new (judged_of result) }
 {
     if witness.len() < LEAST_WITNESS {
-        return Verdict::RefusedAt(1, 0);
+        return Err(Judged::ShortBuffer);
     }
     let mut entries = [0u32; STEPS];
     let mut begins = [0u16; BEGINS];
     let trimming = trim(schema, &mut entries, &mut begins);
     if !trimming.inside {
-        return Verdict::RefusedAt(10, 0);
+        return Err(Judged::Outside);
     }
-    let opening = opening_types(schema, trimming);
+    let opening = opening_types(schema, &trimming);
     if !some_opens(&opening) {
-        return Verdict::RefusedAt(8, 0);
+        return Err(Judged::NoRootBears);
     }
     let used = used_in(trimming);
-    let unused = first_unused(&used, n);
-    if unused < n {
-        return Verdict::RefusedAt(24, unused);
+    if let Some(unused) = first_unused(&used, n) {
+        return Err(Judged::Unused(TypeNo(unused as u8)));
     }
-    if competes(schema, trimming, &opening, &entries, &begins, witness) {
-        return Verdict::RefusedAt(9, 0);
+    let rows = Rows {
+        entries: &entries,
+        begins: &begins,
+    };
+    if competes(schema, &trimming, &opening, &rows, witness) {
+        return Err(Judged::Competes);
     }
-    Verdict::Fine
+    Ok(())
 }
 
 // The verdict on a schema: does a root type bear a tree, and is there no competition?
-pub fn judge(schema: Schema, witness: &mut [u8]) -> Verdict
-    ensures { JudgeMeans (meaning schema) witness.old witness.new result }
+pub fn judge(schema: &Schema, witness: &mut [u8]) -> Result<(), Refused>
+    ensures { JudgeMeans (meaning schema.now) witness.old witness.new (verdict_at 0 result) }
 {
-    judge_types(schema, 0, witness)
+    match judge_types(schema, 0, witness) {
+        Err(judged) => Err(judged.why()),
+        Ok(()) => Ok(()),
+    }
 }
 
 // The same, and after the roots: does a valid document use each type?
-pub fn judge_reduced(schema: Schema, witness: &mut [u8]) -> Verdict
-    ensures { ReducedMeans (meaning schema) witness.old witness.new result }
+pub fn judge_reduced(schema: &Schema, witness: &mut [u8]) -> Result<(), Judged>
+    ensures { ReducedMeans (meaning schema.now) witness.old witness.new (judged_of result) }
 {
-    let types = schema.types as usize;
+    let types = usize::from(schema.types);
     judge_types(schema, types, witness)
 }

@@ -1,4 +1,4 @@
--- `competition::roots::ways_of_roots` meets its contract. The loop's invariant: the table so far has the ways of the roots below `a`.
+-- `competition::roots::ways_of_roots` meets its contract.
 use Prim.Native.Nat.{◌≤◌, ◌<◌}
 use mathlib.Core.Path.{◌≡◌, sym, ◌∙◌}
 use mathlib.Core.Bool.{false, cond}
@@ -24,7 +24,7 @@ loop-a-preserved c =
       | else-roots-a w ↦ rw w.if-roots-a.false (cc)
     ] in
     let e = is ∙ sym (ways_at roots ways c.loop-a.a (omega arith)) in
-    (omega arith, rw (c.loop-a.invariant.1, e) (fill_next (ways_of_roots roots ways) c.loop-a.a most_types 0 0 l (omega arith)))
+    rw (c.loop-a.invariant, e) (fill_next (ways_of_roots roots ways) c.loop-a.a most_types 0 0 l (omega arith))
 
 pub returns : goal.returns
 returns c =
@@ -32,4 +32,4 @@ returns c =
     let e : c.loop-a.a ≡ most_types = omega arith in
     let b = ways_of_roots a.roots.now a.ways.now in
     let l : length b ≤ most_types = rw (ways_long a.roots.now a.ways.now) (omega arith) in
-    c.loop-a.invariant.1 ∙ rw (e, take_all most_types b l) (append-nil b)
+    c.loop-a.invariant ∙ rw (e, take_all most_types b l) (append-nil b)

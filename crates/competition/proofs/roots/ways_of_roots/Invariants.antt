@@ -1,5 +1,5 @@
 -- `competition::roots::ways_of_roots` meets its contract. The loop's invariant: the table so far has the ways of the roots below `a`.
-use Prim.Native.Nat.{◌-◌, ◌≤◌}
+use Prim.Native.Nat.{◌-◌}
 use mathlib.Core.Path.{◌≡◌}
 use mathlib.Core.List.{◌++◌}
 use lib.ListN.{take, replicate}
@@ -8,8 +8,4 @@ use Rattle.competition.specs.Roots.{ways_of_roots}
 use Rattle.competition.proofs.roots.ways_of_roots.Given as goal
 
 abbrev pub invariant-loop-a : goal.invariant-loop-a
-invariant-loop-a l =
-    (l.a ≤ most_types) × (l.opening ≡ take l.a (ways_of_roots l.roots l.ways) ++ replicate (most_types - l.a) 0)
-
-abbrev pub decreases-loop-a : goal.decreases-loop-a
-decreases-loop-a l = most_types - l.a
+invariant-loop-a l = l.opening ≡ take l.a (ways_of_roots l.roots l.ways) ++ replicate (most_types - l.a) 0

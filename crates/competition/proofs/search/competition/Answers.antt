@@ -2,11 +2,10 @@
 use native.Mathlib.Omega.{arith}
 use Rattle.sdtd.specs.Schema.{WithinLimits}
 use Rattle.schema.specs.Value.{meaning}
-use Rattle.schema.proofs.LimitLaws.{passed}
 use Rattle.competition.proofs.Answers.{competing_searched}
 use Rattle.competition.proofs.search.competition.Goals as goal
 
 pub returns-then-competes : goal.returns-then-competes
 returns-then-competes c =
-    let within : WithinLimits (meaning c.args.schema) = passed c.trim-trimming.result.inside c.if-not-trimming.false c.trim-trimming.ensures.0.inside in
+    let within : WithinLimits (meaning c.args.schema.now) = c.trim-trimming.ensures.means.0.inside.0 (rw c.if-not-trimming.false tt) in
     competing_searched _ _ (omega arith) within (rw c.if-competes.true at c.competes.ensures)

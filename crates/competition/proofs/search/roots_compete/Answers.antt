@@ -3,11 +3,11 @@
 use Rattle.competition.proofs.RootLaws.{rivals_found, no_rivals_found}
 use Rattle.competition.proofs.search.roots_compete.Goals as goal
 
-pub returns-in-Of : goal.returns-in-Of
-returns-in-Of c =
-    rivals_found _ _ c.requires.0 c.requires.1 _ _ (rw c.in-Of.is at c.rival_roots-rivals.ensures)
+pub returns-in-Some : goal.returns-in-Some
+returns-in-Some c =
+    rivals_found _ _ c.requires.0 c.requires.1 _ _ (rw c.in-Some.is at c.rival_roots.ensures)
     c.args.witness.now _ c.write_head.ensures
 
 pub returns : goal.returns
 returns c =
-    no_rivals_found _ _ c.requires.0 c.requires.1 (rw c.in_default.is at c.rival_roots-rivals.ensures) _
+    no_rivals_found _ _ c.requires.0 c.requires.1 (rw c.in_default.is at c.rival_roots.ensures) _

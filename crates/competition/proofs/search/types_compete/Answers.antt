@@ -5,17 +5,16 @@ use Rattle.schema.proofs.LimitLaws.{within_room}
 use Rattle.competition.proofs.SearchMeaning.{none_compete, competing_written}
 use Rattle.competition.proofs.search.types_compete.Goals as goal
 
-pub first_competing-competing-requires : goal.first_competing-competing-requires
-first_competing-competing-requires c =
-    ((within_room _ c.requires.0).types, c.requires.2.inside, c.pair_numbers-table.ensures)
+pub first_competing-requires : goal.first_competing-requires
+first_competing-requires c = (within_room _ c.requires.0).types
 
-pub returns-in-In : goal.returns-in-In
-returns-in-In c =
+pub returns-in-Some : goal.returns-in-Some
+returns-in-Some c =
     let given = c.requires in
-    let f = rw c.in-In.is at c.first_competing-competing.ensures in
-    competing_written _ _ _ _ given.0 given.1 given.2 given.3 _ _ _ _ _ f.1 f.2 _ _ c.write_rivals.ensures
+    let f = rw c.in-Some.is at c.first_competing.ensures in
+    competing_written _ _ _ _ given.0 given.1 given.2 c.args.rows.now.sized given.3 _ _ _ _ _ f.1 f.2 _ _ c.write_witness.ensures
 
 pub returns : goal.returns
 returns c =
     let given = c.requires in
-    (none_compete _ _ _ _ given.0 given.1 given.2 given.3 (rw c.in_default.is at c.first_competing-competing.ensures), refl)
+    (none_compete _ _ _ _ given.0 given.1 given.2 c.args.rows.now.sized given.3 (rw c.in_default.is at c.first_competing.ensures), refl)

@@ -3,4 +3,4 @@ use Rattle.schema.proofs.Values.{types_count}
 use Rattle.competition.proofs.verdict.judge_reduced.Goals as goal
 
 pub returns : goal.returns
-returns c = rw (types_count _) c.judge_types.ensures
+returns c = rw (types_count _) (rw c.from-types.ensures at c.judge_types.ensures)

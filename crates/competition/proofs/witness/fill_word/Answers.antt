@@ -1,12 +1,13 @@
 -- `competition::witness::fill_word` meets its contract. The loop's invariant: `left` is the length of the word to i, and that word before the
 -- part of the buffer from `left` on is the claim. The measure is i.
-use mathlib.Core.Path.{◌≡◌, sym, ◌∙◌}
+use mathlib.Core.Path.{◌≡◌, refl, sym, ◌∙◌}
 use mathlib.Core.List.{List, ◌∷◌, ◌++◌, append_assoc}
 use Prim.Native.Nat.{ℕ, zero, suc, ◌-◌, ◌≤◌, ◌<◌}
 use native.Mathlib.Omega.{arith}
 use lib.ListN.{length, get_or, set, drop, length-set}
 use lib.Seq.{drop-cons, get_or-set_same, drop-set-lt}
-use Rattle.competition.specs.Marks.{by_of, parent_of, Linked, word_to}
+use Rattle.competition.specs.Found.{found_at, Linked, word_to}
+use Rattle.competition.specs.declared.queue.Found.{Found}
 use Rattle.competition.proofs.Words.{word_first, word_step, Back, back}
 use Rattle.competition.proofs.witness.fill_word.Invariants.{Filling}
 use Rattle.competition.proofs.witness.fill_word.Goals as goal
@@ -18,15 +19,15 @@ drop-set out m b h =
     rw (drop-cons (set out m b) m 0 l, get_or-set_same out m b 0 h, drop-set-lt (suc m) out m b (omega arith))
 
 -- a store of i's type moves the type from the word to the buffer
-moved : (queue : List ℕ) (at : ℕ) → Linked queue at → (i : ℕ) → 0 < i → i ≤ at → (out : List ℕ) (left m : ℕ) → left ≡ suc m
+moved : (queue : List Found) (at : ℕ) → Linked queue at → (i : ℕ) → 0 < i → i ≤ at → (out : List ℕ) (left m : ℕ) → left ≡ suc m
     → m < length out
-    → word_to (parent_of (get_or queue i 0)) queue (parent_of (get_or queue i 0)) ++ drop m (set out m (by_of (get_or queue i 0)))
+    → word_to (found_at queue i).parent queue (found_at queue i).parent ++ drop m (set out m (found_at queue i).by.0)
     ≡ word_to i queue i ++ drop left out
-moved queue at l i pos b out left m e h = rw (word_step queue at l i pos b, e, drop-set out m (by_of (get_or queue i 0)) h, append_assoc)
+moved queue at l i pos b out left m e h = rw (word_step queue at l i pos b, e, drop-set out m (found_at queue i).by.0 h, append_assoc)
 
 -- one type less to store
-turn : (queue : List ℕ) (at : ℕ) → Linked queue at → (n : ℕ) (out₀ out : List ℕ) (left i : ℕ) → 0 < i → Filling queue at n out₀ out left i
-    → (i' by : ℕ) (out' : List ℕ) → i' ≡ parent_of (get_or queue i 0) → by ≡ by_of (get_or queue i 0) → out' ≡ set out (left - 1) by
+turn : (queue : List Found) (at : ℕ) → Linked queue at → (n : ℕ) (out₀ out : List ℕ) (left i : ℕ) → 0 < i → Filling queue at n out₀ out left i
+    → (i' by : ℕ) (out' : List ℕ) → i' ≡ (found_at queue i).parent → by ≡ (found_at queue i).by.0 → out' ≡ set out (left - 1) by
     → Filling queue at n out₀ out' (left - 1) i'
 turn queue at l n out₀ out left i pos inv i' by out' parent is set_is =
     let s = back queue at l i pos inv.0 in
@@ -39,7 +40,7 @@ turn queue at l n out₀ out left i pos inv i' by out' parent is set_is =
     )
 
 -- at the first place all of the word is in the buffer
-whole : (queue out : List ℕ) (left i : ℕ) → i ≤ 0 → left ≡ length (word_to i queue i) → word_to i queue i ++ drop left out ≡ out
+whole : (queue : List Found) (out : List ℕ) (left i : ℕ) → i ≤ 0 → left ≡ length (word_to i queue i) → word_to i queue i ++ drop left out ≡ out
 whole queue out left zero z e = rw (e, word_first queue 0)
 whole queue out left (suc i) z e = absurd (omega arith)
 
@@ -58,8 +59,8 @@ loop-i-preserved c =
     let l = c.loop-i in
     let a = c.args in
     turn a.queue.now a.at c.requires.1 a.n a.out.now l.out l.left l.i c.loop-i-test.true l.invariant
-    c.parent_of-i.result c.by_of.result.0 c.put_type.new.out
-    c.parent_of-i.ensures c.by_of.ensures c.put_type.ensures
+    c.from-i.result (found_at c.args.queue.now c.loop-i.i).by.0 c.put_type.new.out
+    c.from-i.ensures refl c.put_type.ensures
 
 pub returns : goal.returns
 returns c =

@@ -4,10 +4,11 @@ use mathlib.Core.Path.{◌≡◌}
 use mathlib.Core.List.{List, ◌++◌}
 use Prim.Native.Nat.{ℕ, ◌≤◌}
 use lib.ListN.{length, drop}
-use Rattle.competition.specs.Marks.{word_to}
+use Rattle.competition.specs.Found.{word_to}
+use Rattle.competition.specs.declared.queue.Found.{Found}
 use Rattle.competition.proofs.witness.fill_word.Given as goal
 
-abbrev pub Filling : List ℕ → ℕ → ℕ → List ℕ → List ℕ → ℕ → ℕ → Type 0
+abbrev pub Filling : List Found → ℕ → ℕ → List ℕ → List ℕ → ℕ → ℕ → Type 0
 Filling queue at n out₀ out left i =
     (i ≤ at)
     × (left ≡ length (word_to i queue i))

@@ -12,7 +12,7 @@ overflow_add-n c =
 pub loop-i-preserved : goal.loop-i-preserved
 loop-i-preserved c =
     let back_from : Back c.args.queue.now c.loop-i.i = back c.args.queue.now c.args.at c.requires.1 c.loop-i.i c.loop-i-test.true c.loop-i.invariant.0 in
-    rw c.parent_of-i.ensures (omega (arith, back_from))
+    rw c.from-i.ensures (omega (arith, back_from))
 
 pub returns : goal.returns
 returns c =

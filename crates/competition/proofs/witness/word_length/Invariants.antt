@@ -3,7 +3,7 @@
 use mathlib.Core.Path.{◌≡◌}
 use Prim.Native.Nat.{◌+◌, ◌≤◌}
 use lib.ListN.{length}
-use Rattle.competition.specs.Marks.{word_to}
+use Rattle.competition.specs.Found.{word_to}
 use Rattle.competition.proofs.witness.word_length.Given as goal
 
 abbrev pub invariant-loop-i : goal.invariant-loop-i
