@@ -26,7 +26,6 @@ use Rattle.schema.proofs.SpreadLaws.{own}
 -- The value's tables are as long as their arrays, and its sets have only states.
 pub record Fits (v : Schema) : Type 0 where
   pub accepting_long : length v.accepting ≡ most_types
-  pub steps_long : length v.steps ≡ most_types
   pub accepting_below : (a : ℕ) → get_or v.accepting a 0 < 2 ^ most_states
 
 -- a step the other way round

@@ -10,6 +10,7 @@ pub mod PuttingLaws
 pub mod RowTurns
 pub mod Rounds
 pub mod SpreadLaws
+pub mod GoingLaws
 pub mod FirstTables
 pub mod ReachLaws
 pub mod RowsLaid

@@ -3,7 +3,7 @@ use mathlib.Core.Path.{◌≡◌, refl, sym, ap, subst, ◌∙◌}
 use mathlib.Core.Logic.{◌↔◌, ⊎_elim}
 use mathlib.Core.Bool.{Bool, true, false, not}
 use mathlib.Core.List.Memᴰ
-use mathlib.Core.List.{List, ◌∷◌, map, Memᴰ}
+use mathlib.Core.List.{List, [], ◌∷◌, map, Memᴰ}
 use Prim.Native.Nat.{ℕ, zero, suc, ◌+◌, ◌-◌, ◌^◌, ◌≤◌, ◌<◌}
 use native.Mathlib.Nat.{add-zero, zero-add, suc-add, add-suc}
 use native.Mathlib.Numerals.{add-one}
@@ -11,12 +11,14 @@ use native.Mathlib.Omega.{arith}
 use borrow.Author.Tests.{not-false}
 use lib.Dec.{T, T_not}
 use lib.ListN.{length, get_or}
+use Rattle.std.specs.List.{All}
+use Rattle.std.proofs.lemmas.List.Elements.{All-head, All-tail}
 use Rattle.sdtd.specs.Limits.{most_tags, most_types, most_states, most_steps}
 use Rattle.sdtd.specs.Schema.{Step, Block, no_block, block_of, StepWithin, BlockWithin, WithinLimits, steps_in}
 use Rattle.sdtd.specs.Schema.{Schema as Meaning}
 use Rattle.sdtd.proofs.Basics.{get_or_member}
 use Rattle.schema.specs.States.{members}
-use Rattle.schema.specs.Value.{up_from, step_at, steps_of, offset, block_at, meaning}
+use Rattle.schema.specs.Value.{up_from, steps_of, offset, block_at, meaning}
 use Rattle.schema.specs.Limits.{RootsWithin, StepsWithin, BlockFits, BlocksFit}
 use Rattle.schema.specs.declared.value.Schema.{Schema}
 use Rattle.schema.proofs.Bits.{mem-members, states_below}
@@ -38,28 +40,13 @@ all_cons P x xs = (
   λ w y m. ⊎_elim (λ e. subst P (sym e) w.0) (λ m. w.1 y m) (Memᴰ.cases_cons m),
 )
 
-module _ (from by to : List ℕ) (states types : ℕ) where
-  -- no steps are left
-  pub steps_none : (i e : ℕ) → e ≤ i → StepsWithin states types (steps_of from by to i (e - i))
-  unfolding steps_of up_from
-  steps_none i e l s m =
-      let z : e - i ≡ 0 = omega arith in
-      absurd (Memᴰ.not-nil (rw z at m))
-
-  first_step : (i k : ℕ)
-      → StepsWithin states types (steps_of from by to i (suc k))
-      ↔ (StepWithin states types (step_at from by to i) × StepsWithin states types (steps_of from by to (suc i) k))
-  unfolding steps_of up_from
-  first_step i k = all_cons (StepWithin states types) (step_at from by to i) (steps_of from by to (suc i) k)
-
-  -- the steps that are left are the next one and the others
-  pub steps_next : (i e : ℕ)
-      → i < e
-      → StepsWithin states types (steps_of from by to i (e - i))
-      ↔ (StepWithin states types (step_at from by to i) × StepsWithin states types (steps_of from by to (i + 1) (e - (i + 1))))
-  steps_next i e l =
-      let n : e - i ≡ suc (e - suc i) = omega arith in
-      rw (add-one, n) (first_step i (e - suc i))
+-- what holds of each element, by its places or by its members
+pub all_members : {A : Type 0} (P : A → Type 0) (xs : List A) → All P xs ↔ ((x : A) → Memᴰ x xs → P x)
+all_members P xs = (of_member xs, λ w k d l. w _ (get_or_member xs k d l))
+  where
+    of_member : (ys : List _) → All P ys → (x : _) → Memᴰ x ys → P x
+    of_member (y ∷ ys) w x m = ⊎_elim (λ e. subst P (sym e) (All-head P y ys w)) (of_member ys (All-tail P y ys w) x) (Memᴰ.cases_cons m)
+    of_member [] w x m = absurd (Memᴰ.not-nil m)
 
 module _ (tag states accepting steps : List ℕ) (part : ℕ → ℕ → List Step) (tags types : ℕ) where
   -- no types are left

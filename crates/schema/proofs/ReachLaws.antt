@@ -14,7 +14,8 @@ use Rattle.sdtd.specs.Schema.{Step}
 use Rattle.sdtd.proofs.Basics.{cond_either, and_parts, and_both}
 use Rattle.sdtd.proofs.Rounds.{count, count_set, count-le}
 use Rattle.schema.specs.States.{member}
-use Rattle.schema.specs.Spread.{reaches, Reaching, first, next, ReachedFrom, Queued, queued, join_type, join_marked, reach_steps}
+use Rattle.schema.specs.Spread.{reaches, Reaching, first, next, ReachedFrom, queued, join_type, join_marked, reach_steps}
+use Rattle.schema.specs.declared.reach.Queued.{Queued}
 use Rattle.schema.proofs.SpreadLaws.{by_bearing}
 use Rattle.schema.proofs.Values.{same_everywhere}
 

@@ -1,16 +1,18 @@
 -- Laws of the table of roots: which entries are roots, what is asked of each, and the table that marks them.
-use mathlib.Core.Path.{◌≡◌, refl, ◌∙◌}
+use mathlib.Core.Path.{◌≡◌, refl, sym, subst, ◌∙◌}
 use mathlib.Core.Logic.{◌↔◌, ◌⊎◌, inl, inr, ⊎_elim}
 use mathlib.Core.Bool.{Bool, true, false}
 use mathlib.Core.List.{List, Memᴰ}
-use Prim.Native.Nat.{ℕ, suc, ◌+◌, ◌<◌}
+use Prim.Native.Nat.{ℕ, suc, ◌+◌, ◌≤◌, ◌<◌}
 use native.Mathlib.Decide.{ℕ_discrete, dec_lt}
 use native.Mathlib.Numerals.{add-one}
 use native.Mathlib.Omega.{arith}
 use borrow.Author.Tests.{lt-ltb, le-ltb}
 use lib.Dec.{T}
-use lib.ListN.{length, get_or, replicate, length-map, length-set, length-replicate}
-use lib.Seq.{get_or-set_same, get_or-set_other}
+use lib.ListN.{length, get_or, take, replicate, length-map, length-set, length-replicate}
+use lib.Seq.{get_or-set_same, get_or-set_other, get_or-take, length-take-le}
+use Rattle.std.specs.List.{All}
+use Rattle.std.proofs.lemmas.List.{get_or_default}
 use Rattle.sdtd.specs.Limits.{most_types}
 use Rattle.schema.specs.Value.{up_from, roots_of}
 use Rattle.schema.specs.Trimming.{MarksExactly}
@@ -38,6 +40,17 @@ pub each_root : (P : ℕ → Type 0) (table : List ℕ) (n : ℕ) → ((i : ℕ)
 each_root P table n each a m =
     let p = (roots_mem table n a).0 m in
     rw p.is (each p.place (omega (arith, p.most)))
+
+-- the same, of the first entries taken
+pub roots_taken : (P : ℕ → Type 0) (table : List ℕ) (n : ℕ) → n ≤ length table
+    → All P (take n table) ↔ ((a : ℕ) → Memᴰ a (roots_of table n) → P a)
+roots_taken P table n most =
+    let long : length (take n table) ≡ n = length-take-le n table most in (
+      λ w. each_root P table n (λ i l. subst P (get_or-take n table i 0 l) (w i 0 (omega (arith, long)))),
+      λ w k d h.
+          let l : k < n = omega (arith, long) in
+          subst P (sym (get_or_default (take n table) k d 0 h ∙ get_or-take n table k 0 l)) (w _ (root_in table n k l)),
+    )
 
 -- one entry more
 root_next : (table : List ℕ) (i a : ℕ) → AtRoot table (suc i) a ↔ (AtRoot table i a ⊎ (a ≡ get_or table i 0))

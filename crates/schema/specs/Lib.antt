@@ -9,4 +9,5 @@ pub mod Rows
 pub mod Trimming
 pub mod Limits
 pub mod Spread
+pub mod Going
 pub mod RowMaking

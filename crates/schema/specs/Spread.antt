@@ -6,6 +6,7 @@ use Rattle.sdtd.specs.Schema.{Step}
 use Rattle.schema.specs.States.{member, insert, no_states, only_start}
 use Rattle.schema.specs.Value.{up_from, offset}
 use Rattle.schema.specs.Ways.{bears_in}
+use Rattle.schema.specs.declared.reach.Queued.{Queued}
 
 -- a step by a tree-bearing type with its state `to` in the set adds its state `from`
 unfoldable pub spread_step : List ℕ → Step → ℕ → ℕ
@@ -57,12 +58,7 @@ pub data Reaching (own : ℕ → List Step) (ways forward live : List ℕ) (mark
 abbrev pub ReachedFrom : (ℕ → List Step) → List ℕ → List ℕ → List ℕ → List Bool → List Bool → Type 0
 ReachedFrom own ways forward live marked table = (a : ℕ) → T (get_or table a false) ↔ Reaching own ways forward live marked a
 
--- which types are reached, and the first `count` entries of the queue
-pub record Queued : Type 0 where
-  pub reached : List Bool
-  pub queue : List ℕ
-  pub count : ℕ
-
+-- which types are reached, and the queue with the count of its entries
 abbrev pub queued : List Bool → List ℕ → ℕ → Queued
 queued reached queue count = record { reached = reached; queue = queue; count = count }
 

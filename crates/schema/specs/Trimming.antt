@@ -1,5 +1,5 @@
 -- What the tables of a trimming say: document 01, "Trimming".
-use Rattle.std.specs.Prelude.{◌≡◌, Bool, false, ◌&&◌, ◌↔◌, ℕ, suc, ◌<◌, T, get_or, replicate}
+use Rattle.std.specs.Prelude.{◌≡◌, Bool, false, ◌&&◌, ◌↔◌, ℕ, suc, ◌<◌, T, Option, MatchOption, get_or, replicate}
 use mathlib.Core.List.{List, Memᴰ, map}
 use Rattle.sdtd.specs.Limits.{most_types, most_steps}
 use Rattle.sdtd.specs.Schema.{Schema, WithinLimits}
@@ -59,11 +59,8 @@ pub record TrimMeans (S : Schema) (t : Trimming) : Type 0 where
   pub outside : ¬ WithinLimits S → t ≡ nothing
 
 -- the live states of a schema inside the limits and in which ways its types bear a tree, and nothing outside them
-pub record LiveMeans (S : Schema) (r : LiveStates) : Type 0 where
-  pub inside : T r.inside ↔ WithinLimits S
-  pub live : WithinLimits S → LiveExactly S r.live
-  pub ways : WithinLimits S → WaysExactly S r.ways
-  pub outside : ¬ WithinLimits S → (r.live ≡ replicate most_types no_states) × (r.ways ≡ replicate most_types 0)
+abbrev pub LiveMeans : Schema → Option LiveStates → Type 0
+LiveMeans S r = MatchOption r (¬ WithinLimits S) (λ t. WithinLimits S × LiveExactly S t.live × WaysExactly S t.ways)
 
 -- the tables lent have the rows of a schema inside the limits, and zeros outside them
 pub record RowsLent (S : Schema) (entries begins : List ℕ) : Type 0 where

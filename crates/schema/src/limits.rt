@@ -1,137 +1,80 @@
 // Document 01's limits of a schema: question 10's part about it.
-ghost use Rattle.std.specs.Prelude.{◌≡◌, ◌↔◌, ℕ, ◌+◌, ◌^◌, ◌≤◌, ◌<◌, T, get_or};
+ghost use Rattle.std.specs.Prelude.{◌≡◌, ◌↔◌, ℕ, ◌+◌, ◌^◌, ◌≤◌, ◌<◌, T, All, get_or};
 ghost use Rattle.sdtd.specs.Limits.{most_types, most_states, most_steps};
 ghost use Rattle.sdtd.specs.Schema.{StepWithin, WithinLimits};
 ghost use Rattle.schema.specs.Value.{steps_of, meaning, SetsFit};
-ghost use Rattle.schema.specs.Limits.{StepsWithin, BlockFits, BlocksFit};
+ghost use Rattle.schema.specs.Steps.{meant, left};
+ghost use Rattle.schema.specs.Limits.{BlockFits, BlocksFit};
 
 use crate::roots::roots_within;
 use crate::span::Span;
 use crate::state_set::StateSet;
+use crate::steps::{Step, Steps};
 use crate::value::{STATES, STEPS, Schema, TAGS, TYPES};
-use sdtd::{Tag, TypeNo};
 
-// How many tags and types the schema has.
-#[derive(Clone, Copy)]
-struct Counts {
-    tags: u8,
-    types: u8,
-}
-
-// What a type's block says beside its steps.
-#[derive(Clone, Copy)]
-struct Entries {
-    tag: Tag,
-    states: u8,
-    accepting: u32,
-}
-
-// A table's entry as a count: a parameter is known to fit its type, and an element behind a reference is not.
-fn count(n: u16) -> usize
-    ensures { result ≡ n }
-{
-    n as usize
-}
-
-fn step_within(from: u8, by: TypeNo, to: u8, states: u8, types: u8) -> bool
-    ensures { T result ↔ StepWithin states types (record { from = from; by = by.0; to = to }) }
-{
-    if states <= from {
-        return false;
+impl Step {
+    // Are its states and its type below the counts?
+    fn within(self, states: u8, types: u8) -> bool
+        ensures { T result ↔ StepWithin states types (meant self) }
+    {
+        if states <= self.from {
+            return false;
+        }
+        if types <= self.by.0 {
+            return false;
+        }
+        self.to < states
     }
-    if types <= by.0 {
-        return false;
-    }
-    to < states
 }
 
 // Are the steps inside the state count and the number of types?
-fn steps_within<'a>(
-    from: &'a [u8; STEPS],
-    by: &'a [u8; STEPS],
-    to: &'a [u8; STEPS],
-    span: Span,
-    states: u8,
-    types: u8,
-) -> bool
-    requires { span.start + span.n ≤ most_steps }
-    ensures { T result
-        ↔ StepsWithin states types (steps_of from.now by.now to.now span.start span.n) }
+fn steps_within(mut steps: Steps<'_>, states: u8, types: u8) -> bool
+    ensures { T result ↔ All (StepWithin states types) (left steps.entry) }
 {
-    let end = span.start + span.n;
-    let mut i = span.start;
-    while i < end {
-        if !step_within(from[i], TypeNo(by[i]), to[i], states, types) {
-            return false;
-        }
-        i += 1;
-    }
-    true
+    steps.all(|step| step.within(states, types))
 }
 
-// Is a type's block inside the limits, its steps included?
-fn block_within<'a>(
-    block: Entries,
-    from: &'a [u8; STEPS],
-    by: &'a [u8; STEPS],
-    to: &'a [u8; STEPS],
-    span: Span,
-    counts: Counts,
-) -> bool
-    requires { span.start + span.n ≤ most_steps }
+// Is the block of the type a inside the limits, its steps included?
+fn block_within(schema: &Schema, a: usize, span: Span) -> bool
+    requires { SetsFit schema.now × (a < most_types) }
     ensures { T result
-        ↔ BlockFits block.tag.0 block.states block.accepting
-        (steps_of from.now by.now to.now span.start span.n) counts.tags counts.types }
+        ↔ BlockFits (get_or schema.now.tag a 0) (get_or schema.now.states a 0) (get_or schema.now.accepting a 0)
+        (steps_of schema.now.from schema.now.by schema.now.to span.start span.n) schema.now.tags schema.now.types }
 {
-    if counts.tags <= block.tag.0 {
+    let states = schema.states[a];
+    let accepting = StateSet(schema.accepting[a]);
+    if schema.tags <= schema.tag[a] {
         return false;
     }
-    if block.states == 0 {
+    if states == 0 {
         return false;
     }
-    if STATES < block.states {
+    if STATES < states {
         return false;
     }
-    if !StateSet(block.accepting).below(block.states) {
+    if !accepting.below(states) {
         return false;
     }
-    steps_within(from, by, to, span, block.states, counts.types)
+    steps_within(schema.steps_in(span), states, schema.types)
 }
 
 // Are the blocks of the types inside the limits, and all their steps no more than the limit?
-fn blocks_within<'a>(
-    tag: &'a [u8; TYPES],
-    states: &'a [u8; TYPES],
-    accepting: &'a [u32; TYPES],
-    steps: &'a [u16; TYPES],
-    from: &'a [u8; STEPS],
-    by: &'a [u8; STEPS],
-    to: &'a [u8; STEPS],
-    counts: Counts,
-) -> bool
-    requires { counts.types ≤ most_types }
+fn blocks_within(schema: &Schema) -> bool
+    requires { SetsFit schema.now × (schema.now.types ≤ most_types) }
     ensures { T result
-        ↔ BlocksFit tag.now states.now accepting.now steps.now
-        (steps_of from.now by.now to.now) counts.tags counts.types 0 0 counts.types }
+        ↔ BlocksFit schema.now.tag schema.now.states schema.now.accepting schema.now.steps
+        (steps_of schema.now.from schema.now.by schema.now.to) schema.now.tags schema.now.types 0 0 schema.now.types }
 {
-    let types = counts.types as usize;
     let mut start = 0;
-    let mut a = 0;
-    while a < types {
-        let n = count(steps[a]);
+    for a in 0..schema.types as usize {
+        let n = schema.steps[a] as usize;
         if STEPS - start < n {
             return false;
         }
-        let block = Entries {
-            tag: Tag(tag[a]),
-            states: states[a],
-            accepting: accepting[a],
-        };
-        if !block_within(block, from, by, to, Span { start, n }, counts) {
+        if !block_within(schema, a, Span { start, n }) {
             return false;
         }
         start += n;
-        a += 1;
     }
     true
 }
@@ -148,30 +91,17 @@ pub fn within(schema: &Schema) -> bool
 {
     let accepting = schema.accepting;
     sets_fit(accepting);
-    let tags = schema.tags;
-    let types = schema.types;
-    let roots = schema.roots;
-    let root = schema.root;
-    if tags == 0 {
+    if schema.tags == 0 {
         return false;
     }
-    if TAGS < tags {
+    if TAGS < schema.tags {
         return false;
     }
-    if TYPES < types as usize {
+    if TYPES < schema.types as usize {
         return false;
     }
-    if !roots_within(root, roots, types) {
+    if !roots_within(schema) {
         return false;
     }
-    blocks_within(
-        &schema.tag,
-        &schema.states,
-        &schema.accepting,
-        &schema.steps,
-        &schema.from,
-        &schema.by,
-        &schema.to,
-        Counts { tags, types },
-    )
+    blocks_within(schema)
 }

@@ -1,11 +1,11 @@
 // The root types of a schema.
-ghost use Rattle.std.specs.Prelude.{◌≡◌, ◌↔◌, T, get_or};
+ghost use Rattle.std.specs.Prelude.{◌≡◌, ◌↔◌, ◌<◌, T, All, get_or};
 ghost use Rattle.schema.specs.Value.{roots_of};
 ghost use Rattle.schema.specs.Limits.{RootsWithin};
 ghost use Rattle.schema.specs.Trimming.{MarksExactly};
 ghost use Rattle.schema.specs.Spread.{mark_type};
 
-use crate::value::{ROOTS, TYPES};
+use crate::value::{ROOTS, Schema, TYPES};
 use sdtd::TypeNo;
 
 // The root at a place of the table; past its end the type 0.
@@ -18,26 +18,25 @@ fn root_at(root: [u8; ROOTS], i: usize) -> TypeNo
     TypeNo(root[i])
 }
 
-// Are there one to eight roots, each below the number of types?
-pub(crate) fn roots_within(root: [u8; ROOTS], roots: u8, types: u8) -> bool
-    ensures { T result ↔ RootsWithin root roots types }
+// Is each root below the number of types?
+fn roots_below(roots: &[u8], types: u8) -> bool
+    ensures { T result ↔ All (λ a. a < types) roots.now }
 {
-    if roots == 0 {
+    roots.iter().all(|a| *a < types)
+}
+
+// Are there one to eight roots, each below the number of types?
+pub(crate) fn roots_within(schema: &Schema) -> bool
+    ensures { T result ↔ RootsWithin schema.now.root schema.now.roots schema.now.types }
+{
+    let n = schema.roots as usize;
+    if n == 0 {
         return false;
     }
-    let n = roots as usize;
     if ROOTS < n {
         return false;
     }
-    let mut i = 0;
-    while i < n {
-        let a = root_at(root, i);
-        if types <= a.0 {
-            return false;
-        }
-        i += 1;
-    }
-    true
+    roots_below(&schema.root[..n], schema.types)
 }
 
 // The type is marked, if the table has an entry for it.
@@ -55,12 +54,9 @@ fn mark_type(marked: &mut [bool; TYPES], a: TypeNo)
 pub fn root_types(root: [u8; ROOTS], roots: u8) -> [bool; TYPES]
     ensures { MarksExactly (roots_of root roots) result }
 {
-    let n = roots as usize;
     let mut marked = [false; TYPES];
-    let mut i = 0;
-    while i < n {
+    for i in 0..roots as usize {
         mark_type(&mut marked, root_at(root, i));
-        i += 1;
     }
     marked
 }

@@ -11,6 +11,7 @@ ghost use Rattle.schema.specs.RowMaking.{counts_by, counted_step, picked, counte
 use crate::entry::{Entry, entry_of};
 use crate::span::Span;
 use crate::state_set::StateSet;
+use crate::tables::LiveStates;
 use crate::value::{STATES, STEPS, Schema, TYPES};
 use crate::ways::bears_in;
 use sdtd::{Tag, TypeNo};
@@ -201,26 +202,22 @@ pub(crate) fn clear_rows<'a>(entries: &'a mut [u32; STEPS], begins: &'a mut [u16
 // The rows of a schema inside the limits, by tables of exactly the ways in which types bear a tree and exactly the live states, into tables of zeros.
 pub(crate) fn make_rows<'a>(
     schema: &Schema,
-    ways: &'a [u8; TYPES],
-    live: &'a [u32; TYPES],
+    found: &LiveStates,
     entries: &'a mut [u32; STEPS],
     begins: &'a mut [u16; BEGINS],
 )
-    requires { SetsFit schema.now × WithinLimits (meaning schema.now) × WaysExactly (meaning schema.now) ways.now × LiveExactly (meaning schema.now) live.now
-        × (row_tables entries.old begins.old ≡ no_rows) }
+    requires { SetsFit schema.now × WithinLimits (meaning schema.now) × WaysExactly (meaning schema.now) found.now.ways
+        × LiveExactly (meaning schema.now) found.now.live × (row_tables entries.old begins.old ≡ no_rows) }
     ensures { RowsMean (meaning schema.now) entries.new begins.new }
 {
     let mut kept = [0u32; STEPS];
-    let steps = schema.steps;
-    let states = schema.states;
     let types = schema.types as usize;
     let mut at = 0;
     let mut start = 0;
     let mut a = 0;
     while a < types {
-        let n = steps[a] as usize;
+        let n = schema.steps[a] as usize;
         let span = Span { start, n };
-        let own = live[a];
         let count = counted(
             &mut kept,
             &schema.from,
@@ -228,10 +225,10 @@ pub(crate) fn make_rows<'a>(
             &schema.to,
             span,
             &schema.tag,
-            ways,
-            own,
+            &found.ways,
+            found.live[a],
         );
-        at = type_rows(entries, begins, a, at, &kept, count, states[a]);
+        at = type_rows(entries, begins, a, at, &kept, count, schema.states[a]);
         start += n;
         a += 1;
     }

@@ -1,71 +1,73 @@
-// Sets of states that grow along steps: each type's settles over its own steps, in one round over the types.
-ghost use Rattle.std.specs.Prelude.{◌≡◌, ◌↔◌, ℕ, ◌+◌, ◌≤◌, ◌<◌, T, length, get_or};
+// Sets of states that grow along steps: each type's settles over its own steps, round after round over the types.
+ghost use Rattle.std.specs.Prelude.{◌≡◌, ◌↔◌, ◌≤◌, ◌<◌, T, fold, length};
 ghost use Rattle.sdtd.specs.Limits.{most_types, most_steps};
-ghost use Rattle.schema.specs.Value.{steps_of, offset};
-ghost use Rattle.schema.specs.Spread.{spread_step, spread_set, settle_set, spread_all, ways_by};
+ghost use Rattle.schema.specs.Value.{offset};
+ghost use Rattle.schema.specs.Steps.{meant, left};
+ghost use Rattle.schema.specs.Spread.{spread_step, settle_set, spread_all, Settled};
+ghost use Rattle.schema.specs.Going.{along, steps_by, tells_by, told_anew};
 
 use crate::span::Span;
 use crate::state_set::StateSet;
-use crate::value::{STEPS, TYPES};
+use crate::steps::{Step, Steps};
+use crate::value::{Schema, TYPES};
 use crate::ways::{bears_in, ways_of};
-use sdtd::TypeNo;
 
-// A step by a tree-bearing type with its state `when` in the set adds its state `add`.
+// Which way sets grow along steps: back from where the steps lead, as live states do, or forth from where they begin.
+#[derive(Clone, Copy)]
+pub(crate) enum Way {
+    Back,
+    Forth,
+}
+
+impl Step {
+    // The step as it is taken on the way.
+    fn along(self, way: Way) -> Step
+        ensures { meant result ≡ along way (meant self) }
+    {
+        match way {
+            Way::Back => self,
+            Way::Forth => Step {
+                from: self.to,
+                by: self.by,
+                to: self.from,
+            },
+        }
+    }
+}
+
+// A step by a tree-bearing type with its state `to` in the set adds its state `from`.
 // Inside the limits the remainder changes nothing: a type is below TYPES.
 #[tactic(auto, unfolding(crate::specs::Spread::spread_step, crate::specs::States::insert))]
-fn spread_step(add: u8, by: TypeNo, when: u8, ways: &[u8; TYPES], set: u32) -> u32
-    ensures { result ≡ spread_step ways.now (record { from = add; by = by.0; to = when }) set }
+fn spread_step(step: Step, ways: &[u8; TYPES], set: u32) -> u32
+    ensures { result ≡ spread_step ways.now (meant step) set }
 {
-    let b = by.0 as usize % TYPES;
+    let b = step.by.0 as usize % TYPES;
     if !bears_in(ways, b) {
         return set;
     }
-    if !StateSet(set).has(when) {
+    if !StateSet(set).has(step.to) {
         return set;
     }
-    let grown = StateSet(set).with(add);
+    let grown = StateSet(set).with(step.from);
     grown.0
 }
 
-// The steps of a type, one after another.
-fn spread_set<'a>(
-    add: &'a [u8; STEPS],
-    by: &'a [u8; STEPS],
-    when: &'a [u8; STEPS],
-    span: Span,
-    ways: &'a [u8; TYPES],
-    set: u32,
-) -> u32
-    requires { span.start + span.n ≤ most_steps }
-    ensures { result
-        ≡ spread_set ways.now (steps_of add.now by.now when.now span.start span.n) set }
+// The steps, one after another.
+fn spread_set(steps: Steps<'_>, way: Way, ways: &[u8; TYPES], set: u32) -> u32
+    ensures { result ≡ fold (λ x s. spread_step ways.now (along way s) x) set (left steps.entry) }
 {
-    let end = span.start + span.n;
-    let mut grown = set;
-    let mut i = span.start;
-    while i < end {
-        grown = spread_step(add[i], TypeNo(by[i]), when[i], ways, grown);
-        i += 1;
-    }
-    grown
+    steps.fold(set, |grown, step| {
+        spread_step(step.along(way), ways, grown)
+    })
 }
 
 // The steps of a type, over and over until they add nothing.
-fn settle_set<'a>(
-    add: &'a [u8; STEPS],
-    by: &'a [u8; STEPS],
-    when: &'a [u8; STEPS],
-    span: Span,
-    ways: &'a [u8; TYPES],
-    set: u32,
-) -> u32
-    requires { span.start + span.n ≤ most_steps }
-    ensures { result
-        ≡ settle_set ways.now (steps_of add.now by.now when.now span.start span.n) set }
+fn settle_set(schema: &Schema, span: Span, way: Way, ways: &[u8; TYPES], set: u32) -> u32
+    ensures { result ≡ settle_set ways.now (steps_by way schema.now span.start span.n) set }
 {
     let mut settled = set;
     loop {
-        let grown = spread_set(add, by, when, span, ways, settled);
+        let grown = spread_set(schema.steps_in(span), way, ways, settled);
         if grown == settled {
             return settled;
         }
@@ -73,75 +75,64 @@ fn settle_set<'a>(
     }
 }
 
-// One round over a table whose own sets, with the nillable types, say which types bear a tree: the set of each type settles over the type's own
-// steps, and then the ways in which the type bears a tree are told anew.
-pub(crate) fn live_all<'a>(
-    from: &'a [u8; STEPS],
-    by: &'a [u8; STEPS],
-    to: &'a [u8; STEPS],
-    steps: &'a [u16; TYPES],
-    types: usize,
-    nillable: &'a [bool; TYPES],
-    ways: &'a mut [u8; TYPES],
-    sets: &'a mut [u32; TYPES],
-)
-    requires { (types ≤ most_types) × (offset steps.now types ≤ most_steps) × (ways.old ≡ ways_by nillable.now types sets.old)
-        × (length sets.old ≡ most_types) }
-    ensures { (sets.new
-        ≡ spread_all steps.now (steps_of from.now by.now to.now) (ways_by nillable.now types) 0 0
-        types sets.old)
-        × (ways.new ≡ ways_by nillable.now types sets.new) }
+// On the way back the set of a type tells anew in which ways the type bears a tree; on the way forth the table stays.
+fn tell_anew(schema: &Schema, way: Way, a: usize, set: u32, ways: &mut [u8; TYPES])
+    requires { a < most_types }
+    ensures { ways.new ≡ told_anew way schema.now a set ways.old }
 {
-    let mut start = 0;
-    let mut a = 0;
-    while a < types {
-        let n = steps[a] as usize;
-        let span = Span { start, n };
-        let set = sets[a];
-        let settled = settle_set(from, by, to, span, ways, set);
-        sets[a] = settled;
-        ways[a] = ways_of(settled, nillable[a]);
-        start += n;
-        a += 1;
+    match way {
+        Way::Back => ways[a] = ways_of(set, schema.nillable[a]),
+        Way::Forth => {}
     }
 }
 
 // One round: the set of each type settles over the type's own steps.
-pub(crate) fn spread_all<'a>(
-    add: &'a [u8; STEPS],
-    by: &'a [u8; STEPS],
-    when: &'a [u8; STEPS],
-    steps: &'a [u16; TYPES],
-    types: usize,
-    ways: &'a [u8; TYPES],
-    sets: &mut [u32; TYPES],
-)
-    requires { (types ≤ most_types) × (offset steps.now types ≤ most_steps) }
-    ensures { sets.new
-        ≡ spread_all steps.now (steps_of add.now by.now when.now) (λ _. ways.now) 0 0
-        types sets.old }
+fn spread_all(schema: &Schema, way: Way, ways: &mut [u8; TYPES], sets: &mut [u32; TYPES])
+    requires { (schema.now.types ≤ most_types) × (offset schema.now.steps schema.now.types ≤ most_steps)
+        × (ways.old ≡ tells_by way schema.now ways.old sets.old) × (length sets.old ≡ most_types) }
+    ensures { (sets.new
+        ≡ spread_all schema.now.steps (steps_by way schema.now) (tells_by way schema.now ways.old) 0 0
+        schema.now.types sets.old)
+        × (ways.new ≡ tells_by way schema.now ways.old sets.new) }
 {
     let mut start = 0;
-    let mut a = 0;
-    while a < types {
-        let n = steps[a] as usize;
-        sets[a] = settle_set(add, by, when, Span { start, n }, ways, sets[a]);
+    for a in 0..schema.types as usize {
+        let n = schema.steps[a] as usize;
+        let span = Span { start, n };
+        let settled = settle_set(schema, span, way, ways, sets[a]);
+        sets[a] = settled;
+        tell_anew(schema, way, a, settled, ways);
         start += n;
-        a += 1;
     }
 }
 
-// Are the first n entries of the tables the same?
-pub(crate) fn same_sets<'a>(x: &'a [u32; TYPES], y: &'a [u32; TYPES], n: usize) -> bool
-    requires { n ≤ most_types }
-    ensures { T result ↔ ((k : ℕ) → k < n → get_or x.now k 0 ≡ get_or y.now k 0) }
+// Are the tables the same?
+fn same_sets(x: &[u32; TYPES], y: &[u32; TYPES]) -> bool
+    ensures { T result ↔ (x.now ≡ y.now) }
 {
-    let mut i = 0;
-    while i < n {
-        if x[i] != y[i] {
-            return false;
+    x == y
+}
+
+// The sets, round after round until one changes nothing; `ways` tells in which ways types bear a tree, by the sets.
+pub(crate) fn settle(
+    schema: &Schema,
+    way: Way,
+    ways: &mut [u8; TYPES],
+    first: [u32; TYPES],
+) -> [u32; TYPES]
+    requires { (schema.now.types ≤ most_types) × (offset schema.now.steps schema.now.types ≤ most_steps)
+        × (ways.old ≡ tells_by way schema.now ways.old first) }
+    ensures { Settled
+        (λ t. spread_all schema.now.steps (steps_by way schema.now) (tells_by way schema.now ways.old) 0 0 schema.now.types t)
+        first result
+        × (ways.new ≡ tells_by way schema.now ways.old result) }
+{
+    let mut sets = first;
+    loop {
+        let before = sets;
+        spread_all(schema, way, ways, &mut sets);
+        if same_sets(&sets, &before) {
+            return sets;
         }
-        i += 1;
     }
-    true
 }

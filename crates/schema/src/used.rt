@@ -12,10 +12,8 @@ pub fn used_in(trimming: Trimming) -> [bool; TYPES]
     ensures { result ≡ used_in trimming }
 {
     let mut used = [false; TYPES];
-    let mut a = 0;
-    while a < TYPES {
+    for a in 0..TYPES {
         used[a] = trimming.reached[a] & opens(trimming.ways[a]);
-        a += 1;
     }
     used
 }
@@ -24,12 +22,8 @@ pub fn used_in(trimming: Trimming) -> [bool; TYPES]
 pub fn used_types(schema: &Schema) -> [bool; TYPES]
     ensures { UsedMeans (meaning schema.now) result }
 {
-    let found = live(schema);
-    let live = found.live;
-    let ways = found.ways;
-    if !found.inside {
-        return [false; TYPES];
+    match live(schema) {
+        None => [false; TYPES],
+        Some(found) => used_in(trim_inside(schema, &found)),
     }
-    let trimming = trim_inside(schema, live, ways);
-    used_in(trimming)
 }

@@ -52,15 +52,13 @@ pub(crate) fn bears_in(ways: &[u8; TYPES], a: usize) -> bool
 }
 
 // The numbers of the types, by their live states; 0 for the others.
-pub(crate) fn ways_by(nillable: [bool; TYPES], types: usize, live: [u32; TYPES]) -> [u8; TYPES]
+pub(crate) fn ways_by(nillable: &[bool; TYPES], types: usize, live: &[u32; TYPES]) -> [u8; TYPES]
     requires { types ≤ most_types }
-    ensures { result ≡ ways_by nillable types live }
+    ensures { result ≡ ways_by nillable.now types live.now }
 {
     let mut ways = [0; TYPES];
-    let mut a = 0;
-    while a < types {
+    for a in 0..types {
         ways[a] = ways_of(live[a], nillable[a]);
-        a += 1;
     }
     ways
 }

@@ -3,14 +3,14 @@ use native.Mathlib.Omega.{arith}
 use Rattle.schema.proofs.LimitLaws.{within_means, passed, failed}
 use Rattle.schema.proofs.limits.within.Goals as goal
 
-pub returns-then-tags-eq0-clause-limits : goal.returns-then-tags-eq0-clause-limits
-returns-then-tags-eq0-clause-limits c = (λ f. absurd f, λ w. let k = (within_means _ c.sets_fit.ensures).0 w in omega arith)
+pub returns-then-schema-eq0-clause-limits : goal.returns-then-schema-eq0-clause-limits
+returns-then-schema-eq0-clause-limits c = (λ f. absurd f, λ w. let k = (within_means _ c.sets_fit.ensures).0 w in omega arith)
 
-pub returns-then-tags-gt-TAGS-clause-limits : goal.returns-then-tags-gt-TAGS-clause-limits
-returns-then-tags-gt-TAGS-clause-limits c = (λ f. absurd f, λ w. let k = (within_means _ c.sets_fit.ensures).0 w in omega arith)
+pub returns-then-schema-gt-TAGS-clause-limits : goal.returns-then-schema-gt-TAGS-clause-limits
+returns-then-schema-gt-TAGS-clause-limits c = (λ f. absurd f, λ w. let k = (within_means _ c.sets_fit.ensures).0 w in omega arith)
 
-pub returns-then-types-gt-TYPES-clause-limits : goal.returns-then-types-gt-TYPES-clause-limits
-returns-then-types-gt-TYPES-clause-limits c = (λ f. absurd f, λ w. let k = (within_means _ c.sets_fit.ensures).0 w in omega arith)
+pub returns-then-schema-gt-TYPES-clause-limits : goal.returns-then-schema-gt-TYPES-clause-limits
+returns-then-schema-gt-TYPES-clause-limits c = (λ f. absurd f, λ w. let k = (within_means _ c.sets_fit.ensures).0 w in omega arith)
 
 pub returns-then-not-roots_within-clause-limits : goal.returns-then-not-roots_within-clause-limits
 returns-then-not-roots_within-clause-limits c = (

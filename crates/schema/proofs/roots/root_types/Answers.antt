@@ -5,13 +5,12 @@ use Rattle.schema.proofs.RootLaws.{marks_none, marks_next, marks_all}
 use Rattle.schema.proofs.roots.root_types.Goals as goal
 
 pub loop-i-init : goal.loop-i-init
-loop-i-init c = (omega arith, marks_none _)
+loop-i-init c = marks_none _
 
 pub loop-i-preserved : goal.loop-i-preserved
-loop-i-preserved c =
-    (omega arith, rw (c.mark_type.ensures, c.root_at.ensures) (marks_next c.loop-i.invariant.1))
+loop-i-preserved c = rw (c.mark_type.ensures, c.root_at.ensures) (marks_next c.loop-i.invariant)
 
 pub returns : goal.returns
 returns c =
     let e : c.loop-i.i ≡ c.args.roots = omega arith in
-    rw (← e) (marks_all c.loop-i.invariant.1)
+    rw (← e) (marks_all c.loop-i.invariant)

@@ -1,22 +1,14 @@
--- `schema::roots::roots_within` meets its contract. The loop's invariant: the roots before the place i are below the number of types.
-use Prim.Native.Nat.{◌<◌}
+-- What holds of the first entries of the table holds of each root.
 use native.Mathlib.Omega.{arith}
-use Rattle.schema.proofs.RootLaws.{root_in, each_root}
+use Prim.Native.Nat.{◌<◌}
+use borrow.Author.Rules.{rules}
+use Rattle.schema.proofs.RootLaws.{roots_taken}
 use Rattle.schema.proofs.roots.roots_within.Goals as goal
-
-pub returns-then-types-a : goal.returns-then-types-a
-returns-then-types-a c = (
-  λ f. absurd f,
-  λ w. omega (arith, c.root_at-a.ensures, w.below _ (root_in c.args.root c.args.roots c.loop-i.i (omega arith))),
-)
 
 pub returns : goal.returns
 returns c =
-    let a = c.args in (
-      λ t. record {
-        least = omega arith;
-        most = omega arith;
-        below = each_root (λ x. x < a.types) a.root a.roots (λ j l. c.loop-i.invariant.1 j (omega arith));
-      },
-      λ w. tt,
+    let v = c.args.schema.now in
+    let is = roots_taken (λ x. x < v.types) v.root v.roots (search rules) in (
+      λ t. record { least = omega arith; most = omega arith; below = is.0 (c.roots_below.ensures.0 t) },
+      λ w. c.roots_below.ensures.1 (is.1 w.below),
     )

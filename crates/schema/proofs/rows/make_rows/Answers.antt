@@ -17,13 +17,13 @@ use Rattle.schema.proofs.rows.make_rows.Goals as goal
 pub loop-a-init : goal.loop-a-init
 loop-a-init c = (omega arith, refl, length-replicate {A = ℕ} most_steps 0, rw c.requires.4 (added_first _), rw (ap (λ t. get_or t.begins 0 0) c.requires.4))
 
-pub bounds-steps-a : goal.bounds-steps-a
-bounds-steps-a c =
+pub bounds-schema-a : goal.bounds-schema-a
+bounds-schema-a c =
     let room : Room c.args.schema.now = within_room _ c.requires.1 in
     search (rules, room.types)
 
-pub bounds-live-a : goal.bounds-live-a
-bounds-live-a c =
+pub bounds-found-a : goal.bounds-found-a
+bounds-found-a c =
     let room : Room c.args.schema.now = within_room _ c.requires.1 in
     search (rules, room.types)
 
@@ -39,8 +39,8 @@ counted-count-requires c =
     let fit : c.loop-a.start + get_or c.args.schema.now.steps c.loop-a.a 0 ≤ most_steps = omega (arith, room.steps, steps_fit c.args.schema.now.steps c.loop-a.a c.args.schema.now.types c.loop-a-test.true) in
     fit
 
-pub bounds-states-a : goal.bounds-states-a
-bounds-states-a c =
+pub bounds-schema-a-in-loop-a : goal.bounds-schema-a-in-loop-a
+bounds-schema-a-in-loop-a c =
     let room : Room c.args.schema.now = within_room _ c.requires.1 in
     search (rules, room.types)
 
@@ -50,9 +50,9 @@ type_rows-at-requires c =
     let fit : c.loop-a.start + get_or c.args.schema.now.steps c.loop-a.a 0 ≤ most_steps = omega (arith, room.steps, steps_fit c.args.schema.now.steps c.loop-a.a c.args.schema.now.types c.loop-a-test.true) in
     let i = c.loop-a.invariant in
     let a = c.args in
-    let is = entries_from a.schema.now a.ways.now a.live.now c.loop-a.a c.loop-a.start i.1 in
-    let count : c.counted-count.result ≡ length (type_entries a.schema.now a.ways.now a.live.now c.loop-a.a) = c.counted-count.ensures.1 ∙ ap length is in
-    let few = type_few a.schema.now a.ways.now a.live.now c.loop-a.a in
+    let is = entries_from a.schema.now a.found.now.ways a.found.now.live c.loop-a.a c.loop-a.start i.1 in
+    let count : c.counted-count.result ≡ length (type_entries a.schema.now a.found.now.ways a.found.now.live c.loop-a.a) = c.counted-count.ensures.1 ∙ ap length is in
+    let few = type_few a.schema.now a.found.now.ways a.found.now.live c.loop-a.a in
     let most = fit in
     let types = room.types in
     let long : length c.counted-count.new.kept ≡ most_steps = rw c.counted-count.ensures.0 (put_long _ _ _ ∙ i.2) in
@@ -73,11 +73,11 @@ loop-a-preserved c =
     let e = c.counted-count.ensures in
     let a = c.args in
     let types = room.types in
-    let is = entries_from a.schema.now a.ways.now a.live.now c.loop-a.a c.loop-a.start i.1 in
-    let count : c.counted-count.result ≡ length (type_entries a.schema.now a.ways.now a.live.now c.loop-a.a) = e.1 ∙ ap length is in
-    let kept : c.counted-count.new.kept ≡ put_all (type_entries a.schema.now a.ways.now a.live.now c.loop-a.a) 0 c.loop-a.kept =
+    let is = entries_from a.schema.now a.found.now.ways a.found.now.live c.loop-a.a c.loop-a.start i.1 in
+    let count : c.counted-count.result ≡ length (type_entries a.schema.now a.found.now.ways a.found.now.live c.loop-a.a) = e.1 ∙ ap length is in
+    let kept : c.counted-count.new.kept ≡ put_all (type_entries a.schema.now a.found.now.ways a.found.now.live c.loop-a.a) 0 c.loop-a.kept =
     e.0 ∙ ap (λ es. put_all es 0 c.loop-a.kept) is in
-    let added = type_added a.schema.now a.ways.now a.live.now c.loop-a.kept c.loop-a.a c.loop-a.start _ i.2 (omega arith) fit i.3 in (
+    let added = type_added a.schema.now a.found.now.ways a.found.now.live c.loop-a.kept c.loop-a.a c.loop-a.start _ i.2 (omega arith) fit i.3 in (
       omega arith,
       offset_more a.schema.now.steps c.loop-a.a _ i.1,
       rw e.0 (put_long _ _ _ ∙ i.2),
@@ -87,7 +87,7 @@ loop-a-preserved c =
 
 pub returns : goal.returns
 returns c =
-    let fits : Fits c.args.schema.now = record { accepting_long = search rules; steps_long = search rules; accepting_below = c.requires.0 } in
+    let fits : Fits c.args.schema.now = record { accepting_long = search rules; accepting_below = c.requires.0 } in
     let a = c.args in
     let all : c.loop-a.a ≡ a.schema.now.types = omega arith in
-    rows_exact fits c.requires.1 a.ways.now a.live.now c.requires.2 c.requires.3 (rw all at c.loop-a.invariant.3.laid)
+    rows_exact fits c.requires.1 a.found.now.ways a.found.now.live c.requires.2 c.requires.3 (rw all at c.loop-a.invariant.3.laid)

@@ -12,7 +12,7 @@ use Rattle.schema.proofs.rows.make_rows.Given as goal
 abbrev pub invariant-loop-a : goal.invariant-loop-a
 invariant-loop-a l =
     (l.a ≤ l.types) × (l.start ≡ offset l.schema.steps l.a) × (length l.kept ≡ most_steps)
-    × RowsAdded (row_at l.schema l.ways l.live) (most_states * l.a) l.start (row_tables l.entries l.begins) × (l.at ≡ get_or l.begins (most_states * l.a) 0)
+    × RowsAdded (row_at l.schema l.found.ways l.found.live) (most_states * l.a) l.start (row_tables l.entries l.begins) × (l.at ≡ get_or l.begins (most_states * l.a) 0)
 
 abbrev pub decreases-loop-a : goal.decreases-loop-a
 decreases-loop-a l = l.types - l.a

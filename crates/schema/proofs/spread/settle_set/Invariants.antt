@@ -3,15 +3,14 @@ use Prim.Native.Nat.{◌^◌, ◌<◌}
 use mathlib.Core.Path.{◌≡◌}
 use Rattle.sdtd.specs.Limits.{most_states}
 use Rattle.schema.specs.Spread.{settle_set}
-use Rattle.schema.specs.Value.{steps_of}
+use Rattle.schema.specs.Going.{steps_by}
 use Rattle.schema.proofs.Bits.{absent}
 use Rattle.schema.proofs.spread.settle_set.Given as goal
 
 abbrev pub invariant-loop-settled : goal.invariant-loop-settled
 invariant-loop-settled l =
     (l.settled < 2 ^ most_states)
-    × (settle_set l.ways (steps_of l.add l.by l.when l.span.start l.span.n) l.settled
-    ≡ settle_set l.ways (steps_of l.add l.by l.when l.span.start l.span.n) l.set)
+    × (settle_set l.ways (steps_by l.way l.schema l.span.start l.span.n) l.settled ≡ settle_set l.ways (steps_by l.way l.schema l.span.start l.span.n) l.set)
 
 abbrev pub decreases-loop-settled : goal.decreases-loop-settled
 decreases-loop-settled l = absent l.settled

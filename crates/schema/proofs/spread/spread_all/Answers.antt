@@ -1,31 +1,37 @@
 -- What is left of the round, over what has grown so far, gives what the whole round gives.
 use Prim.Native.Nat.{◌+◌, ◌≤◌}
+use mathlib.Core.Path.{◌∙◌}
 use native.Mathlib.Omega.{arith}
-use lib.ListN.{get_or}
+use lib.ListN.{get_or, length-set}
 use Rattle.sdtd.specs.Limits.{most_steps}
+use Rattle.schema.proofs.GoingLaws.{told_next}
 use Rattle.schema.proofs.Rounds.{offset_more, steps_fit}
 use Rattle.schema.proofs.SpreadLaws.{round_turn, round_done}
 use Rattle.schema.proofs.spread.spread_all.Goals as goal
 
-pub invariant_of-settle_set : goal.invariant_of-settle_set
-invariant_of-settle_set c =
-    let fit : c.loop-a.start + get_or c.args.steps.now c.loop-a.a 0 ≤ most_steps = omega (arith, steps_fit c.args.steps.now c.loop-a.a c.args.types c.loop-a-test.true) in
-    record { inside = omega (arith, fit) }
-
-pub settle_set-requires : goal.settle_set-requires
-settle_set-requires c =
-    let fit : c.loop-a.start + get_or c.args.steps.now c.loop-a.a 0 ≤ most_steps = omega (arith, steps_fit c.args.steps.now c.loop-a.a c.args.types c.loop-a-test.true) in
-    omega (arith, fit)
+pub invariant_of-span : goal.invariant_of-span
+invariant_of-span c =
+    let v = c.args.schema.now in
+    record { inside = omega (arith, steps_fit v.steps c.loop-a.a v.types (omega arith)) }
 
 pub overflow_add-start : goal.overflow_add-start
 overflow_add-start c =
-    let fit : c.loop-a.start + get_or c.args.steps.now c.loop-a.a 0 ≤ most_steps = omega (arith, steps_fit c.args.steps.now c.loop-a.a c.args.types c.loop-a-test.true) in
-    omega (arith, fit)
+    let v = c.args.schema.now in
+    omega (arith, steps_fit v.steps c.loop-a.a v.types (omega arith))
 
 pub loop-a-preserved : goal.loop-a-preserved
 loop-a-preserved c =
-    let o = offset_more c.args.steps.now c.loop-a.a _ c.loop-a.invariant.1 in
-    (omega arith, o, round_turn _ _ _ _ _ _ _ _ _ c.loop-a-test.true c.settle_set.ensures c.loop-a.invariant.2)
+    let i = c.loop-a.invariant in
+    let v = c.args.schema.now in
+    let settled = rw i.2 at c.settle_set-settled.ensures in
+    let told = told_next c.args.way v c.args.ways.now c.loop-a.sets c.loop-a.a c.settle_set-settled.result c.requires.0 i.3 (omega arith) in (
+      offset_more v.steps c.loop-a.a _ i.0,
+      round_turn _ _ _ _ _ _ _ _ _ (omega arith) settled i.1,
+      rw (c.tell_anew.ensures, i.2) told,
+      length-set c.loop-a.sets _ _ ∙ i.3,
+    )
 
 pub returns : goal.returns
-returns c = round_done _ _ _ _ _ _ _ _ c.loop-a-test.false c.loop-a.invariant.2
+returns c =
+    let i = c.loop-a.invariant in
+    (round_done _ _ _ _ _ _ _ _ (omega arith) i.1, i.2)

@@ -1,26 +1,25 @@
 -- `schema::tables::trim_inside` meets its contract: the tables that the rounds settle at are exactly the definitions.
 use borrow.Author.Rules.{rules}
-use Rattle.schema.proofs.LimitLaws.{Room, within_room}
+use Rattle.schema.proofs.LimitLaws.{within_room}
 use Rattle.schema.proofs.FirstTables.{Fits}
 use Rattle.schema.proofs.TablesExact.{tables_exact}
 use Rattle.schema.proofs.tables.trim_inside.Goals as goal
 
 pub forward_states-forward-requires : goal.forward_states-forward-requires
 forward_states-forward-requires c =
-    let room : Room c.args.schema.now = within_room _ c.requires.1 in
-    let r = room in (r.types, r.steps)
+    let room = within_room c.args.schema.now c.requires.1 in
+    (room.types, room.steps)
 
 pub reached_types-reached-requires : goal.reached_types-reached-requires
 reached_types-reached-requires c =
-    let room : Room c.args.schema.now = within_room _ c.requires.1 in
-    let r = room in
-    (r.types, r.steps)
+    let room = within_room c.args.schema.now c.requires.1 in
+    (room.types, room.steps)
 
 pub returns : goal.returns
 returns c =
-    let fits : Fits c.args.schema.now = record { accepting_long = search rules; steps_long = search rules; accepting_below = c.requires.0 } in (
+    let fits : Fits c.args.schema.now = record { accepting_long = search rules; accepting_below = c.requires.0 } in (
       tt,
-      tables_exact fits c.requires.1 c.args.live c.args.ways c.requires.2 c.requires.3
+      tables_exact fits c.requires.1 c.args.found.now.live c.args.found.now.ways c.requires.2 c.requires.3
           c.forward_states-forward.ensures c.root_types-roots.ensures
           c.reached_types-reached.ensures,
     )

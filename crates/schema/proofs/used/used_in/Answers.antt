@@ -23,11 +23,11 @@ loop-a-preserved c =
     let t = c.args.trimming in
     let l : c.loop-a.a < length (used_in t) = rw (used_long t) (omega arith) in
     let is = sym (used_at t c.loop-a.a (omega arith)) in
-    (omega arith, next_entry _ (used_in t) c.loop-a.a _ l (omega arith) c.loop-a.invariant.1 (rw c.opens.ensures is))
+    next_entry _ (used_in t) c.loop-a.a _ l (omega arith) c.loop-a.invariant (rw c.opens.ensures is)
 
 pub returns : goal.returns
 returns c =
     let t = c.args.trimming in
     let e : c.loop-a.a ≡ most_types = omega arith in
     let l : length (used_in t) ≤ most_types = rw (used_long t) (omega arith) in
-    c.loop-a.invariant.1 ∙ rw (e, take_all most_types (used_in t) l) (append-nil (used_in t))
+    c.loop-a.invariant ∙ rw (e, take_all most_types (used_in t) l) (append-nil (used_in t))

@@ -1,5 +1,5 @@
 -- `schema::used::used_in` meets its contract. The loop's invariant: the table so far is that of the types below `a`.
-use Prim.Native.Nat.{◌-◌, ◌≤◌}
+use Prim.Native.Nat.{◌-◌}
 use mathlib.Core.Path.{◌≡◌}
 use mathlib.Core.Bool.{false}
 use mathlib.Core.List.{◌++◌}
@@ -9,7 +9,4 @@ use Rattle.schema.specs.Trimming.{used_in}
 use Rattle.schema.proofs.used.used_in.Given as goal
 
 abbrev pub invariant-loop-a : goal.invariant-loop-a
-invariant-loop-a l = (l.a ≤ most_types) × (l.used ≡ take l.a (used_in l.trimming) ++ replicate (most_types - l.a) false)
-
-abbrev pub decreases-loop-a : goal.decreases-loop-a
-decreases-loop-a l = most_types - l.a
+invariant-loop-a l = l.used ≡ take l.a (used_in l.trimming) ++ replicate (most_types - l.a) false

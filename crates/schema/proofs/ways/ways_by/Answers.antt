@@ -8,9 +8,9 @@ use Rattle.schema.proofs.ways.ways_by.Goals as goal
 
 pub loop-a-init : goal.loop-a-init
 unfolding ways_by up_from
-loop-a-init c = (omega arith, refl)
+loop-a-init c = refl
 
 pub loop-a-preserved : goal.loop-a-preserved
 loop-a-preserved c =
     let a = c.args in
-    (omega arith, rw (c.loop-a.invariant.1, c.ways_of.ensures) (ways_next a.nillable a.types c.requires a.live c.loop-a.a c.loop-a-test.true))
+    rw (c.loop-a.invariant, c.ways_of.ensures) (ways_next a.nillable.now a.types c.requires a.live.now c.loop-a.a (omega arith))

@@ -1,11 +1,7 @@
 -- The table so far is that of the types below `a`.
-use Prim.Native.Nat.{◌-◌, ◌≤◌}
 use mathlib.Core.Path.{◌≡◌}
 use Rattle.schema.specs.Spread.{ways_by}
 use Rattle.schema.proofs.ways.ways_by.Given as goal
 
 abbrev pub invariant-loop-a : goal.invariant-loop-a
-invariant-loop-a l = (l.a ≤ l.types) × (l.ways ≡ ways_by l.nillable l.a l.live)
-
-abbrev pub decreases-loop-a : goal.decreases-loop-a
-decreases-loop-a l = l.types - l.a
+invariant-loop-a l = l.ways ≡ ways_by l.nillable l.a l.live

@@ -1,4 +1,4 @@
--- `schema::reach::join_marked` meets its contract. The loop's invariant: what the types from a on leave is what all leave.
+-- What the types from a on leave is what all leave.
 use Prim.Native.Nat.{ℕ, suc, ◌+◌, ◌-◌, ◌%◌, ◌≤◌, ◌<◌}
 use mathlib.Core.Path.{◌≡◌}
 use mathlib.Core.Bool.{Bool, false, cond}
@@ -8,9 +8,10 @@ use native.Mathlib.Numerals.{add-one}
 use native.Mathlib.Omega.{arith}
 use lib.ListN.{get_or}
 use Rattle.sdtd.specs.Limits.{most_types}
-use Rattle.schema.specs.Spread.{Queued, join_type, join_marked}
-use Rattle.schema.proofs.reach.join_marked.Goals as goal
-use Rattle.schema.proofs.reach.join_marked.Goals.{then-marked-a, else-marked-a}
+use Rattle.schema.specs.Spread.{join_type, join_marked}
+use Rattle.schema.specs.declared.reach.Queued.{Queued}
+use Rattle.schema.proofs.reach.Queued.join_marked.Goals as goal
+use Rattle.schema.proofs.reach.Queued.join_marked.Goals.{then-marked-a, else-marked-a}
 
 -- a turn takes the first of the types left
 turn : (marked : List Bool) (a : ℕ) (x x' y : Queued) → a < most_types
@@ -28,15 +29,13 @@ unfolding join_marked
 done marked a x y l h = let none : most_types - a ≡ 0 = omega arith in rw none at h
 
 pub loop-a-preserved : goal.loop-a-preserved
-loop-a-preserved c = (
-  omega arith,
-  turn _ _ _ _ _ c.loop-a-test.true
-      (elim c.if-marked-a.branch [
-        | then-marked-a w ↦ rw (w.if-marked-a.true, w.reached-is, w.queue-is, w.count-is) w.join-count.ensures
-        | else-marked-a w ↦ rw (w.if-marked-a.false, w.reached-is, w.queue-is, w.count-is)
-      ])
-      c.loop-a.invariant.1,
-)
+loop-a-preserved c =
+    turn _ _ _ _ _ (omega arith)
+    (elim c.if-marked-a.branch [
+      | then-marked-a w ↦ rw (w.if-marked-a.true, w.self-is) w.join.ensures
+      | else-marked-a w ↦ rw (w.if-marked-a.false, w.self-is)
+    ])
+    c.loop-a.invariant
 
 pub returns : goal.returns
-returns c = done _ _ _ _ c.loop-a-test.false c.loop-a.invariant.1
+returns c = done _ _ _ _ (omega arith) c.loop-a.invariant

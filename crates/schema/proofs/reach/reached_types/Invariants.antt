@@ -1,14 +1,14 @@
 -- The types before the place `at` of the queue are gone over.
 use Prim.Native.Nat.{◌-◌}
 use Rattle.sdtd.specs.Limits.{most_types}
-use Rattle.schema.specs.Spread.{steps_in, queued}
+use Rattle.schema.specs.Spread.{steps_in}
 use Rattle.schema.specs.Value.{steps_of}
 use Rattle.schema.proofs.ReachLaws.{Visited}
-use Rattle.schema.proofs.tables.reached_types.Given as goal
+use Rattle.schema.proofs.reach.reached_types.Given as goal
 
 abbrev pub invariant-loop-at : goal.invariant-loop-at
 invariant-loop-at l =
-    Visited (steps_in l.schema.steps (steps_of l.schema.from l.schema.by l.schema.to) l.schema.types) l.tables.ways l.tables.forward l.tables.live l.roots l.at (queued l.reached l.queue l.count)
+    Visited (steps_in l.schema.steps (steps_of l.schema.from l.schema.by l.schema.to) l.schema.types) l.found.ways l.forward l.found.live l.roots l.at l.types
 
 abbrev pub decreases-loop-at : goal.decreases-loop-at
 decreases-loop-at l = most_types - l.at
