@@ -105,19 +105,13 @@ row_for v ways live a p = cond (ltb p (get_or v.states a 0)) (picked p (type_ent
 abbrev pub row_at : Schema → List ℕ → List ℕ → ℕ → List ℕ
 row_at v ways live i = row_for v ways live (i / most_states) (i % most_states)
 
--- the row that is made of the entries kept
-pub row_made : (v : Schema) (ways live kept : List ℕ) (a q : ℕ) → q < most_states
-    → take (length (type_entries v ways live a)) kept ≡ type_entries v ways live a
-    → row_by kept (length (type_entries v ways live a)) (get_or v.states a 0) q ≡ row_at v ways live (most_states * a + q)
-unfolding picked
-row_made v ways live kept a q l e =
+-- the row that is made of them
+pub row_made : (v : Schema) (ways live : List ℕ) (a q : ℕ) → q < most_states
+    → row_by (type_entries v ways live a) (get_or v.states a 0) q ≡ row_at v ways live (most_states * a + q)
+row_made v ways live a q l =
     let quotient : (most_states * a + q) / most_states ≡ a = omega arith in
     let rest : (most_states * a + q) % most_states ≡ q = omega arith in
-    rw (quotient, rest) (go (ltb q (get_or v.states a 0)))
-  where
-    go : (b : Bool) → picked q (take (cond b (length (type_entries v ways live a)) 0) kept) ≡ cond b (picked q (type_entries v ways live a)) []
-    go true = ap (picked q) e
-    go false = refl
+    rw (quotient, rest) refl
 
 -- the block of a type is inside the limits
 block_within : (v : Schema) → WithinLimits (meaning v) → (a : ℕ) → a < v.types → BlockWithin (meaning v) (block_of (meaning v) a)
@@ -229,20 +223,19 @@ type_few v ways live a =
       steps_count v.from v.by v.to (offset v.steps a) (get_or v.steps a 0),
     )
 
--- one type more: its steps that count are kept, and its rows are made of them
-pub type_added : (v : Schema) (ways live kept : List ℕ) (a start : ℕ) (t : RowTables) → length kept ≡ most_steps → a < most_types
+-- one type more: its rows are made of the entries of its steps that count
+pub type_added : (v : Schema) (ways live : List ℕ) (a start : ℕ) (t : RowTables) → a < most_types
     → start + get_or v.steps a 0 ≤ most_steps → RowsAdded (row_at v ways live) (most_states * a) start t
     → RowsAdded (row_at v ways live) (most_states * (a + 1)) (start + get_or v.steps a 0)
-    (add_rows (put_all (type_entries v ways live a) 0 kept) (length (type_entries v ways live a)) (get_or v.states a 0) (most_states * a) 0 most_states t)
-type_added v ways live kept a start t long type fit added =
+    (add_rows (type_entries v ways live a) (get_or v.states a 0) (most_states * a) 0 most_states t)
+type_added v ways live a start t type fit added =
     let es : List ℕ = type_entries v ways live a in
     let few : length es ≤ get_or v.steps a 0 = type_few v ways live a in
-    let taken : take (length es) (put_all es 0 kept) ≡ es = put_take es kept (omega arith) in
-    let from : from_on 0 (take (length es) (put_all es 0 kept)) ≤ length es = rw taken (from_most 0 es) in
+    let from : from_on 0 es ≤ length es = from_most 0 es in
     let here : most_states * a + 0 ≡ most_states * a = omega arith in
     let next : most_states * a + most_states ≡ most_states * (a + 1) = omega arith in
-    let room : get_or t.begins (most_states * a + 0) 0 + from_on 0 (take (length es) (put_all es 0 kept)) ≤ most_steps = rw here (omega (arith, added.reach)) in
-    let more = laid_rows (row_at v ways live) (put_all es 0 kept) (length es) (get_or v.states a 0) (most_states * a) (omega arith) most_states 0 t refl
-    (rw here added.laid) (λ q l. row_made v ways live (put_all es 0 kept) a q l taken) room in
+    let room : get_or t.begins (most_states * a + 0) 0 + from_on 0 es ≤ most_steps = rw here (omega (arith, added.reach)) in
+    let more = laid_rows (row_at v ways live) es (get_or v.states a 0) (most_states * a) (omega arith) most_states 0 t refl
+    (rw here added.laid) (λ q l. row_made v ways live a q l) room in
     let reach = rw here at more.reach in
     record { laid = rw (here, next) at more.laid; reach = rw (← next) (omega (arith, reach, added.reach)) }

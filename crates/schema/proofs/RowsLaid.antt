@@ -6,7 +6,7 @@ use Prim.Native.Nat.{ℕ, zero, suc, ◌+◌, ◌-◌, ◌≤◌, ◌<◌}
 use native.Mathlib.Nat.{le_trans}
 use native.Mathlib.Decide.{dec_lt, ℕ_discrete}
 use native.Mathlib.Omega.{arith}
-use lib.ListN.{length, get_or, take, length-set, length-replicate}
+use lib.ListN.{length, get_or, length-set, length-replicate}
 use lib.Seq.{get_or-set_same, get_or-set_other}
 use Rattle.sdtd.specs.Limits.{most_states, most_steps}
 use Rattle.sdtd.proofs.Basics.{get_or_member}
@@ -108,28 +108,28 @@ module _ (row : ℕ → List ℕ) where
   pub added_first : RowsAdded 0 0 no_rows
   added_first = record { laid = laid_first; reach = rw (same_everywhere {A = ℕ} 0 (suc most_rows) 0) (omega arith) }
 
-  module _ (kept : List ℕ) (m states first : ℕ) (fits : first + most_states ≤ most_rows) where
+  module _ (es : List ℕ) (states first : ℕ) (fits : first + most_states ≤ most_rows) where
     pub laid_rows : (k p : ℕ) (t : RowTables) → p + k ≡ most_states → Laid row (first + p) t
-        → ((q : ℕ) → q < most_states → row_by kept m states q ≡ row (first + q))
-        → get_or t.begins (first + p) 0 + from_on p (take m kept) ≤ most_steps
-        → RowsAdded (first + most_states) (get_or t.begins (first + p) 0 + from_on p (take m kept)) (add_rows kept m states (first + p) p k t)
+        → ((q : ℕ) → q < most_states → row_by es states q ≡ row (first + q))
+        → get_or t.begins (first + p) 0 + from_on p es ≤ most_steps
+        → RowsAdded (first + most_states) (get_or t.begins (first + p) 0 + from_on p es) (add_rows es states (first + p) p k t)
     unfolding add_rows
     laid_rows zero p t e laid is room =
         let same : first + p ≡ first + most_states = omega arith in
         record { laid = rw (← same) laid; reach = rw (← same) (omega arith) }
     laid_rows (suc k) p t e laid is room =
         let s : suc (first + p) ≡ first + suc p = omega arith in
-        let es : List ℕ = row_by kept m states p in
-        let some = row_most kept m states p in
-        let split = from_split p (take m kept) in
-        let fit : get_or t.begins (first + p) 0 + length es ≤ most_steps = omega arith in
-        let l = laid_row laid es (is p (omega arith)) (omega arith) fit in
-        let end = new_end laid es (is p (omega arith)) (omega arith) fit in
-        let more = laid_rows k (suc p) (add_row es (first + p) t) (omega arith) (rw s at l) is (rw (← s) (omega arith)) in
-        let most : get_or (add_row es (first + p) t).begins (first + suc p) 0 + from_on (suc p) (take m kept)
-        ≤ get_or t.begins (first + p) 0 + from_on p (take m kept) = rw (← s) (omega arith) in
-        subst (λ (i : ℕ). RowsAdded (first + most_states) (get_or t.begins (first + p) 0 + from_on p (take m kept))
-        (add_rows kept m states i (suc p) k (add_row es (first + p) t))) (sym s)
+        let new : List ℕ = row_by es states p in
+        let some = row_most es states p in
+        let split = from_split p es in
+        let fit : get_or t.begins (first + p) 0 + length new ≤ most_steps = omega arith in
+        let l = laid_row laid new (is p (omega arith)) (omega arith) fit in
+        let end = new_end laid new (is p (omega arith)) (omega arith) fit in
+        let more = laid_rows k (suc p) (add_row new (first + p) t) (omega arith) (rw s at l) is (rw (← s) (omega arith)) in
+        let most : get_or (add_row new (first + p) t).begins (first + suc p) 0 + from_on (suc p) es
+        ≤ get_or t.begins (first + p) 0 + from_on p es = rw (← s) (omega arith) in
+        subst (λ (i : ℕ). RowsAdded (first + most_states) (get_or t.begins (first + p) 0 + from_on p es)
+        (add_rows es states i (suc p) k (add_row new (first + p) t))) (sym s)
         (record { laid = more.laid; reach = le_trans more.reach most })
 
 -- the place of a member

@@ -1,5 +1,5 @@
 -- What the private makers of rows compute.
-use Rattle.std.specs.Prelude.{Bool, cond, ◌&&◌, List, [], ◌∷◌, ℕ, zero, suc, ◌+◌, ◌%◌, eqb, ltb, length, get_or, set, take, replicate}
+use Rattle.std.specs.Prelude.{Bool, cond, ◌&&◌, List, [], ◌∷◌, ℕ, zero, suc, ◌+◌, ◌%◌, eqb, ltb, length, get_or, set, replicate}
 use Rattle.sdtd.specs.Limits.{most_types, most_steps}
 use Rattle.sdtd.specs.Schema.{Step}
 use Rattle.schema.specs.Putting.{put_all}
@@ -46,16 +46,11 @@ unfoldable pub add_row : List ℕ → ℕ → RowTables → RowTables
 add_row es i t =
     row_tables (put_all es (get_or t.begins i 0) t.entries) (set t.begins (suc i) (get_or t.begins i 0 + length es))
 
--- the row of the state p among the first n entries kept of a type; a type has no entry from a state of `states` or more
-abbrev pub row_by : List ℕ → ℕ → ℕ → ℕ → List ℕ
-row_by kept n states p = picked p (take (cond (ltb p states) n 0) kept)
+-- the row of the state p among the entries of a type; a type has no entry from a state of `states` or more
+abbrev pub row_by : List ℕ → ℕ → ℕ → List ℕ
+row_by es states p = cond (ltb p states) (picked p es) []
 
 -- the rows of k states from the state p on, the first of them the row i
-unfoldable pub add_rows : List ℕ → ℕ → ℕ → ℕ → ℕ → ℕ → RowTables → RowTables
-add_rows kept n states i p zero t = t
-add_rows kept n states i p (suc k) t = add_rows kept n states (suc i) (suc p) k (add_row (row_by kept n states p) i t)
-
--- the k rows from the row i on end at the place `at`
-unfoldable pub ends_at : ℕ → ℕ → ℕ → List ℕ → List ℕ
-ends_at at i zero begins = begins
-ends_at at i (suc k) begins = ends_at at (suc i) k (set begins (suc i) at)
+unfoldable pub add_rows : List ℕ → ℕ → ℕ → ℕ → ℕ → RowTables → RowTables
+add_rows es states i p zero t = t
+add_rows es states i p (suc k) t = add_rows es states (suc i) (suc p) k (add_row (row_by es states p) i t)

@@ -1,20 +1,22 @@
 // The steps that count, in rows: for each type, state by state, the entries of its steps from that state.
-ghost use Rattle.std.specs.Prelude.{◌≡◌, ◌∷◌, [], ◌+◌, ◌-◌, ◌*◌, ◌≤◌, ◌<◌, length, get_or, take};
+ghost use Rattle.std.specs.Prelude.{◌≡◌, ◌∷◌, [], ◌+◌, ◌*◌, ◌≤◌, ◌<◌, length, get_or};
 ghost use Rattle.sdtd.specs.Limits.{most_types, most_states, most_steps};
 ghost use Rattle.sdtd.specs.Schema.{WithinLimits};
 ghost use Rattle.schema.specs.Value.{steps_of, meaning, SetsFit};
+ghost use Rattle.schema.specs.Steps.{meant};
 ghost use Rattle.schema.specs.Trimming.{LiveExactly, WaysExactly};
 ghost use Rattle.schema.specs.Rows.{most_rows, RowsMean};
 ghost use Rattle.schema.specs.Putting.{put_all};
-ghost use Rattle.schema.specs.RowMaking.{counts_by, counted_step, picked, counted as counted_by, row_tables, no_rows, add_row, add_rows, ends_at};
+ghost use Rattle.schema.specs.RowMaking.{counts_by, entry_by, picked, counted as counted_by, row_by, row_tables, no_rows, add_row, add_rows};
 
 use crate::entry::{Entry, entry_of};
 use crate::span::Span;
 use crate::state_set::StateSet;
+use crate::steps::Step;
 use crate::tables::LiveStates;
 use crate::value::{STATES, STEPS, Schema, TYPES};
 use crate::ways::bears_in;
-use sdtd::{Tag, TypeNo};
+use sdtd::Tag;
 
 // A row for each state of each type.
 pub const ROWS: usize = TYPES * STATES as usize;
@@ -22,68 +24,51 @@ pub const ROWS: usize = TYPES * STATES as usize;
 // Where each row begins; it ends where the next begins. Past the rows of the last type all is 0, and no entry stands there.
 pub const BEGINS: usize = ROWS + 1;
 
-// Does a step by the type j to the state q count, where `own` are the live states of the type that has it?
+// Does the step count, where `own` are the live states of the type that has it?
 // Inside the limits the remainder changes nothing: a type is below TYPES.
 #[tactic(auto, unfolding(crate::specs::RowMaking::counts_by))]
-fn counts(ways: &[u8; TYPES], own: u32, from: u8, j: TypeNo, q: u8) -> bool
-    ensures { result ≡ counts_by ways.now own (record { from = from; by = j.0; to = q }) }
+fn counts(ways: &[u8; TYPES], own: u32, step: Step) -> bool
+    ensures { result ≡ counts_by ways.now own (meant step) }
 {
-    if !bears_in(ways, j.0 as usize % TYPES) {
+    if !bears_in(ways, step.by.0 as usize % TYPES) {
         return false;
     }
-    StateSet(own).has(q)
+    StateSet(own).has(step.to)
 }
 
-// The step's entry at the place n, if it counts; and the place past it.
-#[tactic(auto, unfolding(crate::specs::Putting::put_all, crate::specs::RowMaking::counts_by))]
-fn keep_step<'a>(
-    kept: &'a mut [u32; STEPS],
-    n: usize,
-    tag: &'a [u8; TYPES],
-    ways: &'a [u8; TYPES],
-    own: u32,
-    from: u8,
-    by: TypeNo,
-    to: u8,
-) -> usize
-    requires { n < most_steps }
-    ensures { (kept.new
-        ≡ put_all (counted_step tag.now ways.now own (record { from = from; by = by.0; to = to })) n kept.old)
-        × (result ≡ n + length (counted_step tag.now ways.now own (record { from = from; by = by.0; to = to }))) }
+// The step's entry.
+fn entry_for(schema: &Schema, ways: &[u8; TYPES], step: Step) -> Entry
+    ensures { result.0 ≡ entry_by schema.now.tag ways.now (meant step) }
 {
-    if !counts(ways, own, from, by, to) {
-        return n;
-    }
-    let b = by.0 as usize % TYPES;
-    let entry = entry_of(from, to, by, Tag(tag[b]), ways[b]);
-    kept[n] = entry.0;
-    n + 1
+    let b = step.by.0 as usize % TYPES;
+    entry_of(step.from, step.to, step.by, Tag(schema.tag[b]), ways[b])
 }
 
-// The entries of the steps of the span that count, from the first place on; and how many there are.
-fn counted<'a>(
-    kept: &'a mut [u32; STEPS],
-    from: &'a [u8; STEPS],
-    by: &'a [u8; STEPS],
-    to: &'a [u8; STEPS],
+// The entries of the steps of the type a that count, from the first place on; and how many there are.
+fn counted(
+    schema: &Schema,
+    found: &LiveStates,
+    a: usize,
     span: Span,
-    tag: &'a [u8; TYPES],
-    ways: &'a [u8; TYPES],
-    own: u32,
+    kept: &mut [u32; STEPS],
 ) -> usize
-    requires { span.start + span.n ≤ most_steps }
+    requires { a < most_types }
     ensures { (kept.new
-        ≡ put_all (counted_by tag.now ways.now own
-        (steps_of from.now by.now to.now span.start span.n)) 0 kept.old)
-        × (result ≡ length (counted_by tag.now ways.now own
-        (steps_of from.now by.now to.now span.start span.n))) }
+        ≡ put_all (counted_by schema.now.tag found.now.ways (get_or found.now.live a 0)
+        (steps_of schema.now.from schema.now.by schema.now.to span.start span.n)) 0 kept.old)
+        × (result
+        ≡ length (counted_by schema.now.tag found.now.ways (get_or found.now.live a 0)
+        (steps_of schema.now.from schema.now.by schema.now.to span.start span.n))) }
 {
-    let end = span.start + span.n;
+    let ways = &found.ways;
+    let own = found.live[a];
     let mut n = 0;
-    let mut i = span.start;
-    while i < end {
-        n = keep_step(kept, n, tag, ways, own, from[i], TypeNo(by[i]), to[i]);
-        i += 1;
+    for step in schema.steps_in(span) {
+        if counts(ways, own, step) {
+            let entry = entry_for(schema, ways, step);
+            kept[n] = entry.0;
+            n += 1;
+        }
     }
     n
 }
@@ -102,134 +87,88 @@ fn pick_one(entries: &mut [u32; STEPS], at: usize, e: u32, p: u8) -> usize
     at + 1
 }
 
-// Of the first n entries kept, those that lead from the state p, from the place `at` on; and the place past them.
+// The entries kept that lead from the state p, from the place `at` on; and the place past them.
 #[tactic(auto, unfolding(crate::specs::RowMaking::picked, crate::specs::Putting::put_all))]
-fn pick<'a>(
-    entries: &'a mut [u32; STEPS],
-    at: usize,
-    kept: &'a [u32; STEPS],
-    n: usize,
-    p: u8,
-) -> usize
-    requires { (n ≤ most_steps) × (n ≤ length kept.now) × (at + length (picked p (take n kept.now)) ≤ most_steps) }
-    ensures { (entries.new ≡ put_all (picked p (take n kept.now)) at entries.old)
-        × (result ≡ at + length (picked p (take n kept.now))) }
+fn pick(entries: &mut [u32; STEPS], at: usize, kept: &[u32], p: u8) -> usize
+    requires { at + length (picked p kept.now) ≤ most_steps }
+    ensures { (entries.new ≡ put_all (picked p kept.now) at entries.old)
+        × (result ≡ at + length (picked p kept.now)) }
 {
     let mut past = at;
-    let mut i = 0;
-    while i < n {
-        past = pick_one(entries, past, kept[i], p);
-        i += 1;
+    for e in kept {
+        past = pick_one(entries, past, *e, p);
     }
     past
 }
 
-// The row of the state p, the row i, from the first n entries kept, put where the rows before it end, at the place `at`; and the place past it.
+// The row i, of the state p, from the entries kept, put where the rows before it end.
 #[tactic(auto, unfolding(crate::specs::RowMaking::add_row, crate::specs::RowMaking::picked, crate::specs::Putting::put_all))]
-fn add_row<'a>(
-    entries: &'a mut [u32; STEPS],
-    begins: &'a mut [u16; BEGINS],
-    i: usize,
-    at: usize,
-    kept: &'a [u32; STEPS],
-    n: usize,
-    p: u8,
-) -> usize
-    requires { (i < most_rows) × (n ≤ most_steps) × (n ≤ length kept.now)
-        × (at ≡ get_or begins.old i 0) × (at + length (picked p (take n kept.now)) ≤ most_steps) }
-    ensures { (row_tables entries.new begins.new
-        ≡ add_row (picked p (take n kept.now)) i (row_tables entries.old begins.old))
-        × (result ≡ at + length (picked p (take n kept.now))) }
+fn add_row(entries: &mut [u32; STEPS], begins: &mut [u16; BEGINS], i: usize, kept: &[u32], p: u8)
+    requires { (i < most_rows) × (get_or begins.old i 0 + length (picked p kept.now) ≤ most_steps) }
+    ensures { row_tables entries.new begins.new
+        ≡ add_row (picked p kept.now) i (row_tables entries.old begins.old) }
 {
-    let past = pick(entries, at, kept, n, p);
+    let at = begins[i] as usize;
+    let past = pick(entries, at, kept, p);
     begins[i + 1] = past as u16;
-    past
 }
 
-// The rows from the row i up to the row `end` have no entry: each ends at the place `at`.
-fn empty_rows(begins: &mut [u16; BEGINS], i: usize, end: usize, at: usize)
-    requires { (end ≤ most_rows) × (at ≤ most_steps) }
-    ensures { begins.new ≡ ends_at at i (end - i) begins.old }
+// Those of the entries kept among which the row of the state p is: a type has none from a state of `states` or more.
+fn kept_from<'a>(kept: &'a [u32], states: u8, p: u8) -> &'a [u32]
+    ensures { picked p result.now ≡ row_by kept.now states p }
 {
-    let mut n = i;
-    while n < end {
-        begins[n + 1] = at as u16;
-        n += 1;
+    if p < states {
+        return kept;
     }
+    &kept[..0]
 }
 
-// The rows of the type a, from the first n entries kept, the first at the place `at`; and the place past them. A type has no entry from a state
-// of `states` or more.
-fn type_rows<'a>(
-    entries: &'a mut [u32; STEPS],
-    begins: &'a mut [u16; BEGINS],
+// The rows of the type a, from the entries kept.
+fn type_rows(
+    entries: &mut [u32; STEPS],
+    begins: &mut [u16; BEGINS],
     a: usize,
-    at: usize,
-    kept: &'a [u32; STEPS],
-    n: usize,
+    kept: &[u32],
     states: u8,
-) -> usize
-    requires { (a < most_types) × (n ≤ length kept.now) × (most_rows < length begins.old)
-        × (at ≡ get_or begins.old (most_states * a) 0) × (at + n ≤ most_steps) × (states ≤ most_states) }
-    ensures { (row_tables entries.new begins.new
-        ≡ add_rows kept.now n states (most_states * a) 0 most_states (row_tables entries.old begins.old))
-        × (result ≡ get_or begins.new (most_states * a + most_states) 0) }
+)
+    requires { (a < most_types) × (most_rows < length begins.old)
+        × (get_or begins.old (most_states * a) 0 + length kept.now ≤ most_steps) }
+    ensures { row_tables entries.new begins.new
+        ≡ add_rows kept.now states (most_states * a) 0 most_states (row_tables entries.old begins.old) }
 {
     let first = STATES as usize * a;
-    let mut past = at;
-    let mut p: u8 = 0;
-    while p < states {
-        past = add_row(entries, begins, first + p as usize, past, kept, n, p);
-        p += 1;
+    for p in 0..STATES {
+        let own = kept_from(kept, states, p);
+        add_row(entries, begins, first + p as usize, own, p);
     }
-    empty_rows(
-        begins,
-        first + states as usize,
-        first + STATES as usize,
-        past,
-    );
-    past
 }
 
 // Tables of zeros: no row has an entry.
-pub(crate) fn clear_rows<'a>(entries: &'a mut [u32; STEPS], begins: &'a mut [u16; BEGINS])
+pub(crate) fn clear_rows(entries: &mut [u32; STEPS], begins: &mut [u16; BEGINS])
     ensures { row_tables entries.new begins.new ≡ no_rows }
 {
     *entries = [0; STEPS];
     *begins = [0; BEGINS];
 }
 
-// The rows of a schema inside the limits, by tables of exactly the ways in which types bear a tree and exactly the live states, into tables of zeros.
-pub(crate) fn make_rows<'a>(
+// The rows of a schema inside the limits, by exactly its live states and the ways in which its types bear a tree, into tables of zeros.
+pub(crate) fn make_rows(
     schema: &Schema,
     found: &LiveStates,
-    entries: &'a mut [u32; STEPS],
-    begins: &'a mut [u16; BEGINS],
+    entries: &mut [u32; STEPS],
+    begins: &mut [u16; BEGINS],
 )
     requires { SetsFit schema.now × WithinLimits (meaning schema.now) × WaysExactly (meaning schema.now) found.now.ways
         × LiveExactly (meaning schema.now) found.now.live × (row_tables entries.old begins.old ≡ no_rows) }
     ensures { RowsMean (meaning schema.now) entries.new begins.new }
 {
     let mut kept = [0u32; STEPS];
-    let types = schema.types as usize;
-    let mut at = 0;
     let mut start = 0;
-    let mut a = 0;
-    while a < types {
+    for a in 0..schema.types as usize {
         let n = schema.steps[a] as usize;
         let span = Span { start, n };
-        let count = counted(
-            &mut kept,
-            &schema.from,
-            &schema.by,
-            &schema.to,
-            span,
-            &schema.tag,
-            &found.ways,
-            found.live[a],
-        );
-        at = type_rows(entries, begins, a, at, &kept, count, schema.states[a]);
+        let count = counted(schema, found, a, span, &mut kept);
+        type_rows(entries, begins, a, &kept[..count], schema.states[a]);
         start += n;
-        a += 1;
     }
 }

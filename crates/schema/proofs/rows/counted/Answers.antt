@@ -1,41 +1,56 @@
 -- What is left of the steps, put after the entries kept so far, makes the whole.
-use mathlib.Core.Path.{◌≡◌}
-use mathlib.Core.List.{List}
-use Prim.Native.Nat.{ℕ, ◌+◌, ◌-◌, ◌≤◌, ◌<◌}
-use native.Mathlib.Nat.{add-sub_cancel_left}
+use mathlib.Core.Path.{◌≡◌, refl, sym, ap, ◌∙◌}
+use mathlib.Core.Bool.{Bool, true, false, cond}
+use mathlib.Core.List.{List, [], ◌∷◌}
+use Prim.Native.Nat.{ℕ, ◌+◌}
 use native.Mathlib.Omega.{arith}
-use lib.ListN.{length}
-use Rattle.schema.specs.Value.{up_from, step_at, steps_of}
+use lib.ListN.{length, set}
+use Rattle.sdtd.specs.Schema.{Step}
+use Rattle.schema.specs.Steps.{left}
 use Rattle.schema.specs.Putting.{put_all}
-use Rattle.schema.specs.RowMaking.{counted_step, counted}
-use Rattle.schema.proofs.Rounds.{steps_left}
-use Rattle.schema.proofs.PuttingLaws.{Putting, put_part, put_none, counted-cons, counted_one}
+use Rattle.schema.specs.RowMaking.{counts_by, entry_by, counted}
+use Rattle.schema.proofs.Values.{steps_count}
+use Rattle.schema.proofs.PuttingLaws.{Putting, put_part, put_none, counted-cons}
 use Rattle.schema.proofs.rows.counted.Goals as goal
 
-module _ (tag bears : List ℕ) (own : ℕ) (from by to : List ℕ) (n : ℕ) (kept whole : List ℕ) (last i end : ℕ) where
-  -- a turn keeps the next of the steps left, if it counts; no more are kept than steps were taken
-  turn : i < end → Putting (counted tag bears own (steps_of from by to i (end - i))) n kept whole last
-      → Putting (counted tag bears own (steps_of from by to (i + 1) (end - (i + 1))))
-      (n + length (counted_step tag bears own (step_at from by to i))) (put_all (counted_step tag bears own (step_at from by to i)) n kept) whole last
-      × (n ≤ i → n + length (counted_step tag bears own (step_at from by to i)) ≤ i + 1)
-  turn l h = (
-    put_part (counted_step tag bears own (step_at from by to i)) (counted tag bears own (steps_of from by to (i + 1) (end - (i + 1))))
-        (rw (steps_left from by to i end l, counted-cons tag bears own (step_at from by to i) (steps_of from by to (i + 1) (end - (i + 1)))) at h),
-    λ k. omega (arith, counted_one tag bears own (step_at from by to i)),
-  )
+module _ (tag ways : List ℕ) (own : ℕ) (ss rest : List Step) (s : Step) (n : ℕ) (kept whole : List ℕ) (last : ℕ) (e : ss ≡ s ∷ rest)
+    (h : Putting (counted tag ways own ss) n kept whole last) where
+  -- a turn keeps the next of the steps left, if it counts
+  turn : (b : Bool) → counts_by ways own s ≡ b
+      → Putting (counted tag ways own rest) (n + length (cond b (entry_by tag ways s ∷ []) [])) (put_all (cond b (entry_by tag ways s ∷ []) []) n kept) whole last
+  turn b is = rw (← is) (put_part _ (counted tag ways own rest) (rw (e, counted-cons) at h))
 
-  -- at the end none is left
-  done : end ≤ i → Putting (counted tag bears own (steps_of from by to i (end - i))) n kept whole last → (kept ≡ whole) × (n ≡ last)
-  unfolding counted steps_of up_from
-  done l h = let e : end - i ≡ 0 = omega arith in put_none (rw e at h)
+  kept_one : counts_by ways own s ≡ true → Putting (counted tag ways own rest) (n + 1) (set kept n (entry_by tag ways s)) whole last
+  unfolding put_all
+  kept_one is = turn true is
 
-pub loop-i-preserved : goal.loop-i-preserved
-loop-i-preserved c =
-    let i = c.loop-i.invariant in
-    let e = c.keep_step-n.ensures in
-    let t = turn _ _ _ _ _ _ _ _ _ _ _ _ c.loop-i-test.true i.3 in
-    (omega arith, i.1, rw e.1 (t.1 i.2), rw (e.0, e.1) t.0)
+  kept_none : counts_by ways own s ≡ false → Putting (counted tag ways own rest) n kept whole last
+  unfolding put_all
+  kept_none is = let same : n + 0 ≡ n = omega arith in rw same at (turn false is)
+
+pub loop-step-init : goal.loop-step-init
+loop-step-init c =
+    let v = c.args.schema.now in
+    let is = ap left c.into_iter-step-iterator.ensures.into_iter_gives ∙ c.steps_in-step-items.ensures in
+    (omega (arith, ap length is, steps_count v.from v.by v.to c.args.span.start c.args.span.n), rw is (record { same = refl; ends = omega arith }))
+
+pub bounds-kept-n : goal.bounds-kept-n
+bounds-kept-n c = omega (arith, c.loop-step.invariant.0, ap length c.in-Some.ensures.steps)
+
+pub loop-step-preserved-then-counts : goal.loop-step-preserved-then-counts
+loop-step-preserved-then-counts c =
+    let i = c.loop-step.invariant in (
+      omega (arith, i.0, ap length c.in-Some.ensures.steps),
+      rw c.entry_for-entry.ensures (kept_one _ _ _ _ _ _ _ _ _ _ c.in-Some.ensures.steps i.1 (sym c.counts.ensures ∙ c.if-counts.true)),
+    )
+
+pub loop-step-preserved : goal.loop-step-preserved
+loop-step-preserved c =
+    let i = c.loop-step.invariant in (
+      omega (arith, i.0, ap length c.in-Some.ensures.steps),
+      kept_none _ _ _ _ _ _ _ _ _ _ c.in-Some.ensures.steps i.1 (sym c.counts.ensures ∙ c.if-counts.false),
+    )
 
 pub returns : goal.returns
-returns c =
-    rw add-sub_cancel_left at (done _ _ _ _ _ _ _ _ _ _ _ _ c.loop-i-test.false c.loop-i.invariant.3)
+unfolding counted
+returns c = put_none (rw c.in-None.ensures.steps.0 at c.loop-step.invariant.1)

@@ -1,7 +1,7 @@
 -- The rows of the types below `a` are laid, and reach no further than their steps.
 use mathlib.Core.Path.{◌≡◌}
-use Prim.Native.Nat.{◌*◌, ◌-◌, ◌≤◌}
-use lib.ListN.{length, get_or}
+use Prim.Native.Nat.{◌*◌}
+use lib.ListN.{length}
 use Rattle.sdtd.specs.Limits.{most_states, most_steps}
 use Rattle.schema.specs.Value.{offset}
 use Rattle.schema.specs.RowMaking.{row_tables}
@@ -11,8 +11,5 @@ use Rattle.schema.proofs.rows.make_rows.Given as goal
 
 abbrev pub invariant-loop-a : goal.invariant-loop-a
 invariant-loop-a l =
-    (l.a ≤ l.types) × (l.start ≡ offset l.schema.steps l.a) × (length l.kept ≡ most_steps)
-    × RowsAdded (row_at l.schema l.found.ways l.found.live) (most_states * l.a) l.start (row_tables l.entries l.begins) × (l.at ≡ get_or l.begins (most_states * l.a) 0)
-
-abbrev pub decreases-loop-a : goal.decreases-loop-a
-decreases-loop-a l = l.types - l.a
+    (l.start ≡ offset l.schema.steps l.a) × (length l.kept ≡ most_steps)
+    × RowsAdded (row_at l.schema l.found.ways l.found.live) (most_states * l.a) l.start (row_tables l.entries l.begins)
