@@ -5,13 +5,15 @@ use mathlib.Core.List.{List, [], ◌∷◌}
 use Prim.Native.Nat.{ℕ, ◌≤◌}
 use native.Mathlib.Omega.{arith}
 use lib.ListN.{length}
+use Rattle.std.specs.Prelude.{Result, Ok}
 use Rattle.sdtd.specs.Limits.{least_witness}
 use Rattle.sdtd.specs.Document.{SomeValid}
 use Rattle.sdtd.specs.Schema.{Schema as Meaning}
 use Rattle.sdtd.specs.Reduced.{EveryTypeUsed}
 use Rattle.sdtd.specs.Competition.{Competition}
 use Rattle.sdtd.specs.Competition.{Accepted as IsAccepted}
-use Rattle.sdtd.specs.Answer.{ask, Ordered, Verdict, fine, refused_at}
+use Rattle.sdtd.specs.Answer.{ask, Ordered, Verdict, fine, refused_at, verdict_of}
+use Rattle.sdtd.specs.declared.Refusal.{Refusal}
 use Rattle.sdtd.proofs.Answers.{ordered_unique}
 use Rattle.sdtd.proofs.Ambiguity.{competition_is_ambiguity}
 use Rattle.sdtd.proofs.Trimming.{root_bears}
@@ -19,8 +21,8 @@ use Rattle.sdtd.proofs.Verdicts.{refused_not_fine}
 use Rattle.commands.specs.File.{Stated, Commands, stopped, states, commands, schema_by, unknown, StatesSchema, OldWithOneRoot, most_bytes}
 use Rattle.schema.specs.Value.{meaning}
 use Rattle.schema.specs.declared.value.Schema.{Schema}
-use Rattle.schema_file.specs.Answer.{after_done, AnswerBy, AnswerIs, BufferBy, SchemaBy, FileMeans, Demand3File}
-use Rattle.schema_file.specs.declared.file.SchemaFile.{SchemaFile}
+use Rattle.schema_file.specs.Answer.{after_done, AnswerBy, AnswerIs, BufferBy, OfStated, FileMeans, Demand3File}
+use Rattle.commands.specs.Value.{StatedValue}
 use Rattle.commands.proofs.StatedLimits.{stated_within}
 use Rattle.commands.proofs.Lengths.{longest}
 use Rattle.competition.proofs.Answers.{witness_competes}
@@ -71,11 +73,11 @@ demanded_of file was is {g} {a} e known l some used (inr o) buffer =
     demanded (last_question g known some used (after_cases g a (subst (λ (x : Commands). AnswerBy x a) e o.1)))
     (λ n. witness_competes (witness n).witness)
 
--- What the call promises meets demand 3. That there is a competition where the file is refused for one is read off the witness.
-pub file_ambiguous : {file was is : List ℕ} {r : SchemaFile} {S : Meaning} → FileMeans file was is r → StatesSchema file S
-    → least_witness ≤ length was → SomeValid S → EveryTypeUsed S → Demand3File S r.answer
+-- What the call promises of competition is what is demanded. That there is a competition where the file is refused for one is read off the witness.
+pub file_ambiguous : {file was is : List ℕ} {r : Result Schema Refusal} {S : Meaning} → FileMeans file was is r → StatesSchema file S
+    → least_witness ≤ length was → SomeValid S → EveryTypeUsed S → Demand3File S (verdict_of r)
 file_ambiguous {file} {was} {is} {r} m x l some used =
-    subst (λ (R : Meaning). Demand3File R r.answer) x.schema
+    subst (λ (R : Meaning). Demand3File R (verdict_of r)) x.schema
     (demanded_of file was is x.passes x.known l (subst SomeValid (sym x.schema) some) (subst EveryTypeUsed (sym x.schema) used)
     m.answer m.buffer)
 
@@ -87,14 +89,14 @@ pub record AcceptedFile (file : List ℕ) (v : Schema) : Type 0 where
   pub used : EveryTypeUsed (meaning v)
   pub short : OldWithOneRoot file → length file ≤ most_bytes
 
-module _ (file : List ℕ) {g : Stated} {v : Schema} {a : Verdict} (e : commands file ≡ states g) (s : SchemaBy (states g) v a) (q : a ≡ fine) where
-  accepted_after : AfterDone g a → AcceptedFile file v
-  accepted_after (unknown_type n o) = refused_not_fine o q
-  accepted_after (treeless k n o) = refused_not_fine o q
-  accepted_after (unused k b f) = refused_not_fine f.answer q
-  accepted_after (competing k b u c o) = refused_not_fine o q
+module _ (file : List ℕ) {g : Stated} {v : Schema} (e : commands file ≡ states g) (s : StatedValue g v) where
+  accepted_after : AfterDone g fine → AcceptedFile file v
+  accepted_after (unknown_type n o) = refused_not_fine o refl
+  accepted_after (treeless k n o) = refused_not_fine o refl
+  accepted_after (unused k b f) = refused_not_fine f.answer refl
+  accepted_after (competing k b u c o) = refused_not_fine o refl
   accepted_after (accepted k b u n o) =
-      let same = sym (s.0 q).schema in
+      let same = sym s.schema in
       record {
         states = record { stated = g; passes = e; known = k; schema = same };
         schema = subst IsAccepted same (record { within = stated_within file g e k; bears = b; no_competition = n });
@@ -102,16 +104,16 @@ module _ (file : List ℕ) {g : Stated} {v : Schema} {a : Verdict} (e : commands
         short = λ old. longest file old g e;
       }
 
-accepted_by : (file : List ℕ) (k : Commands) {v : Schema} {a : Verdict} → commands file ≡ k → AnswerBy k a → SchemaBy k v a → a ≡ fine
+accepted_by : (file : List ℕ) (k : Commands) {v : Schema} → commands file ≡ k → AnswerBy k fine → OfStated k (λ g. StatedValue g v)
     → AcceptedFile file v
-accepted_by file (stopped n p) e r s q = refused_not_fine r q
-accepted_by file (states g) {a = a} e r s q = accepted_after file e s q (after_cases g a r)
+accepted_by file (stopped n p) e r s = refused_not_fine r refl
+accepted_by file (states g) e r s = accepted_after file e s (after_cases g fine r)
 
--- The schema beside an accepting answer is inside question 10's limits and accepted, and a valid document uses each of its types; a file with
+-- The schema of an accepted file is inside question 10's limits and accepted, and a valid document uses each of its types; a file with
 -- one ROOT and only old commands is no longer than 8,389 bytes.
-pub accepted_file : {file was is : List ℕ} {r : SchemaFile} → FileMeans file was is r → r.answer ≡ fine → AcceptedFile file r.schema
-accepted_file {file} {was} {is} {r} m q = from m.answer
+pub accepted_file : {file was is : List ℕ} {v : Schema} → FileMeans file was is (Ok v) → AcceptedFile file v
+accepted_file {file} {was} {is} {v} m = from m.answer
   where
-    from : AnswerIs file was r.answer → AcceptedFile file r.schema
-    from (inl o) = refused_not_fine o.1 q
-    from (inr o) = accepted_by file (commands file) refl o.1 m.schema q
+    from : AnswerIs file was fine → AcceptedFile file v
+    from (inl o) = refused_not_fine o.1 refl
+    from (inr o) = accepted_by file (commands file) refl o.1 m.schema

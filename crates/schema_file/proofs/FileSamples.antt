@@ -23,7 +23,7 @@ use Rattle.command.specs.Command.{added_command, command_of}
 use Rattle.sdtd.specs.Lists.{of_each}
 use Rattle.expression.specs.Content.{after_part, content_from, content_at}
 use Rattle.expression.specs.Answer.{set_of}
-use Rattle.commands.specs.File.{Stated, nothing_stated, Commands, stopped, states, after, by_content, commands_from, commands, schema_by, StatesSchema}
+use Rattle.commands.specs.File.{Stated, nothing_stated, Commands, stopped, states, after, by_content, by_command, commands_from, commands, schema_by, StatesSchema}
 use Rattle.commands.specs.TypePlaces.{places_from, place_of_type}
 use Rattle.schema_file.specs.Answer.{AnswerIs, AnswerBy, BufferBy}
 use Rattle.schema_file.specs.Samples.{FileSample, AllHold, starred_files, short_files, FilesState, file_r, file_choice, file_no_d, file_two_ways}
@@ -42,7 +42,7 @@ stated_in (stopped n p) = nothing_stated
 stated_in (states g) = g
 
 pub files_state : FilesState
-unfolding commands commands_from command_of after insert schema_by members_below
+unfolding commands commands_from by_command command_of after insert schema_by members_below
 files_state =
     record {
       first = record { stated = stated_in (commands file_r.bytes); passes = refl; known = refl; schema = refl };
@@ -56,7 +56,7 @@ files_state =
     }
 
 pub racks_state : RacksState
-unfolding commands commands_from by_content command_of added_command content_at content_from after_part after insert set_of of_each schema_by members_below
+unfolding commands commands_from by_command by_content command_of added_command content_at content_from after_part after insert set_of of_each schema_by members_below
 racks_state =
     record {
       by_states = record { stated = stated_in (commands file_racks.bytes); passes = refl; known = refl; schema = refl };
@@ -160,11 +160,11 @@ all_stop [] k = tt
 all_stop (s ∷ ss) k = (stops s.bytes s.answer k.0.0 k.0.1, all_stop ss k.1)
 
 pub short_files_hold : AllHold short_files
-unfolding commands commands_from command_of after
+unfolding commands commands_from by_command command_of after
 short_files_hold = all_stop short_files ((refl, refl) & (refl, refl) & tt)
 
 pub nil_files_hold : AllHold nil_files
-unfolding commands commands_from by_content command_of added_command content_at content_from of_each after
+unfolding commands commands_from by_command by_content command_of added_command content_at content_from of_each after
 nil_files_hold =
     (λ was l. accepted_file racks_state.by_states was l accepted_racks every_used_racks)
     & (λ was l. accepted_file racks_state.by_expression was l accepted_racks every_used_racks)

@@ -4,12 +4,14 @@ use mathlib.Core.Logic.{inr}
 use mathlib.Core.List.{List}
 use Prim.Native.Nat.{ℕ, ◌≤◌}
 use lib.ListN.{length}
+use Rattle.std.specs.Prelude.{Result}
 use Rattle.sdtd.specs.Limits.{least_witness}
 use Rattle.commands.specs.File.{Commands}
 use Rattle.commands.proofs.LongestFile.{longest_file, longest_stated}
 use Rattle.schema_file.specs.Answer.{AnswerIs, AnswerBy, FileMeans}
-use Rattle.sdtd.specs.Answer.{fine}
-use Rattle.schema_file.specs.declared.file.SchemaFile.{SchemaFile}
+use Rattle.sdtd.specs.Answer.{fine, verdict_of}
+use Rattle.sdtd.specs.declared.Refusal.{Refusal}
+use Rattle.schema.specs.declared.value.Schema.{Schema}
 use Rattle.schema_file.proofs.AfterDone.{accepted, after_answer}
 use Rattle.schema_file.proofs.FileAnswers.{file_unique}
 
@@ -21,5 +23,5 @@ longest_accepted was l =
     inr (l, subst (λ (k : Commands). AnswerBy k fine) (sym s.commands_pass) (after_answer s.longest_states fine after_done))
 
 -- so the call accepts it
-pub longest_read : {was is : List ℕ} {r : SchemaFile} → FileMeans longest_file was is r → least_witness ≤ length was → r.answer ≡ fine
+pub longest_read : {was is : List ℕ} {r : Result Schema Refusal} → FileMeans longest_file was is r → least_witness ≤ length was → verdict_of r ≡ fine
 longest_read {was} m l = file_unique longest_file was m.answer (longest_accepted was l)

@@ -7,10 +7,11 @@ use native.Mathlib.Decide.{dec_lt}
 use native.Mathlib.Omega.{arith}
 use lib.ListN.{length, get_or}
 use lib.Seq.{ext_get_or}
+use Rattle.std.specs.Prelude.{Result, Ok, Err, IfOk}
 use Rattle.sdtd.specs.Limits.{most_types, most_roots, most_steps, most_states}
 use Rattle.sdtd.specs.Schema.{Step, Block, block_of}
 use Rattle.sdtd.specs.Schema.{Schema as Meaning}
-use Rattle.sdtd.proofs.Verdicts.{refused_not_fine}
+use Rattle.sdtd.proofs.Verdicts.{refused_not_fine, same_refusals}
 use Rattle.schema.specs.States.{members}
 use Rattle.schema.specs.Value.{step_at, steps_of, offset, block_at, roots_of, meaning}
 use Rattle.schema.specs.declared.value.Schema.{Schema}
@@ -20,8 +21,8 @@ use Rattle.schema.proofs.RootLaws.{roots_count}
 use Rattle.commands.specs.File.{Commands, stopped, states, commands}
 use Rattle.commands.specs.Value.{HoldsFrom, EmptyFrom, UnusedEmpty, StatedValue}
 use Rattle.schema_file.specs.Answer.{OfStated, FileMeans}
-use Rattle.sdtd.specs.Answer.{Verdict, fine, refused_at}
-use Rattle.schema_file.specs.declared.file.SchemaFile.{SchemaFile}
+use Rattle.sdtd.specs.Answer.{verdict_of}
+use Rattle.sdtd.specs.declared.Refusal.{Refusal}
 use Rattle.schema_file.proofs.FileAnswers.{file_unique}
 
 -- what a value's type in the source says of it: the lengths of its tables, and that a set of states has 32 bits
@@ -150,20 +151,21 @@ module _ {v w : Schema} (same : meaning v ≡ meaning w) (k : Shaped v) (l : Sha
         to = of_steps (λ x. x.to) v.to w.to k.to l.to e.to f.to (λ a. refl) (λ a. refl) i;
       }
 
--- the same of the values that two results hold
+-- the same of the values that two accepting answers give
 by_stated : {v w : Schema} (c : Commands) → Shaped v → Shaped w → OfStated c (λ g. StatedValue g v) → OfStated c (λ g. StatedValue g w) → v ≡ w
 by_stated (stopped n p) k l x y = absurd x
 by_stated (states g) k l x y = same_value (x.schema ∙ sym y.schema) k l x.unused y.unused
 
 -- two results that meet the promise, of a file with a buffer, are the same
-pub one_result : {file was is is' : List ℕ} {r s : SchemaFile} → FileMeans file was is r → FileMeans file was is' s
-    → Shaped r.schema → Shaped s.schema → r ≡ s
-one_result {file} {was} {is} {is'} {r} {s} m n k l i = record { answer = same i; schema = schema r.answer refl i }
+pub one_result : {file was is is' : List ℕ} {r s : Result Schema Refusal} → FileMeans file was is r → FileMeans file was is' s
+    → IfOk r Shaped → IfOk s Shaped → r ≡ s
+one_result {file} {was} {r = r} {s} m n k l = by_result r s (file_unique file was m.answer n.answer) m.schema n.schema k l
   where
-    same : r.answer ≡ s.answer
-    same = file_unique file was m.answer n.answer
+    Value : Result Schema Refusal → Type 0
+    Value r = IfOk r (λ v. OfStated (commands file) (λ g. StatedValue g v))
 
-    schema : (a : Verdict) → r.answer ≡ a → r.schema ≡ s.schema
-    schema fine q = by_stated (commands file) k l (m.schema.0 q) (n.schema.0 (sym same ∙ q))
-    schema (refused_at b p) q =
-        m.schema.1 (λ z. refused_not_fine q z) ∙ sym (n.schema.1 (λ z. refused_not_fine (sym same ∙ q) z))
+    by_result : (r s : Result Schema Refusal) → verdict_of r ≡ verdict_of s → Value r → Value s → IfOk r Shaped → IfOk s Shaped → r ≡ s
+    by_result (Ok v) (Ok w) same m n k l = ap Ok (by_stated (commands file) k l m n)
+    by_result (Ok v) (Err e) same m n k l = refused_not_fine refl (sym same)
+    by_result (Err e) (Ok w) same m n k l = refused_not_fine refl same
+    by_result (Err e) (Err f) same m n k l = same_refusals refl (sym same)

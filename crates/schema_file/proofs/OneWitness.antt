@@ -5,15 +5,17 @@ use mathlib.Core.Logic.{inl, inr}
 use mathlib.Core.List.{List, []}
 use Prim.Native.Nat.{ℕ}
 use native.Mathlib.Omega.{arith}
+use Rattle.std.specs.Prelude.{Result}
 use Rattle.sdtd.specs.Schema.{Schema}
 use Rattle.sdtd.proofs.Verdicts.{verdict_number, verdict_place, refused_not_fine}
 use Rattle.competition.specs.Search.{Written}
 use Rattle.competition.proofs.OneWitness.{SameTypeAndLength, same_written}
 use Rattle.commands.specs.File.{Stated, Commands, stopped, states, commands, schema_by, unknown, StatesSchema}
 use Rattle.commands.proofs.Passing.{stopped_before}
+use Rattle.schema.specs.declared.value.Schema.{Schema as Value}
 use Rattle.schema_file.specs.Answer.{AnswerBy, AnswerIs, OfStated, FileMeans}
-use Rattle.sdtd.specs.Answer.{refused_at}
-use Rattle.schema_file.specs.declared.file.SchemaFile.{SchemaFile}
+use Rattle.sdtd.specs.Answer.{refused_at, verdict_of}
+use Rattle.sdtd.specs.declared.Refusal.{Refusal}
 use Rattle.schema_file.proofs.AfterDone.{AfterDone, unknown_type, treeless, unused, competing, accepted, after_cases}
 
 -- a file that is answered 9: the place is 0, and it passes questions 2 to 7 and 21 to 23
@@ -41,10 +43,10 @@ nine file was (inr o) = nine_by file (commands file) refl o.1
 -- A call answered 9 to the file and left the witness buffer so.
 pub record AnsweredNine (file is : List ℕ) : Type 0 where
   pub was : List ℕ
-  pub read : SchemaFile
+  pub read : Result Value Refusal
   pub means : FileMeans file was is read
   pub place : ℕ
-  pub answer : read.answer ≡ refused_at 9 place
+  pub answer : verdict_of read ≡ refused_at 9 place
 
 -- what it left: a witness of the schema that the file states
 pub record NineWritten (file was is : List ℕ) : Type 0 where
@@ -57,7 +59,7 @@ module _ {file is : List ℕ} (x : AnsweredNine file is) where
   nine_of = nine file x.was (subst (AnswerIs file x.was) x.answer x.means.answer)
 
   -- the place is 0
-  pub nine_zero : x.read.answer ≡ refused_at 9 0
+  pub nine_zero : verdict_of x.read ≡ refused_at 9 0
   nine_zero = x.answer ∙ ap (λ (p : ℕ). refused_at 9 p) nine_of.first_place
 
   pub nine_written : NineWritten file x.was is

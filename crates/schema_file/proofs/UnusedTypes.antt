@@ -1,19 +1,21 @@
--- Document 02, Req 06, of the schema file's answer: 24 exactly where a type is unused, at the first such TYPE, and after 8.
+-- Of the schema file's answer: 24 exactly where a type is unused, at the first such TYPE, and after 8.
 use mathlib.Core.Path.{◌≡◌, refl, sym, ap, subst}
 use mathlib.Core.Logic.{◌↔◌, inl, inr, ⊎_elim}
 use mathlib.Core.List.{List}
 use Prim.Native.Nat.{ℕ, ◌≤◌}
 use native.Mathlib.Omega.{arith}
 use lib.ListN.{length}
+use Rattle.std.specs.Prelude.{Result}
 use Rattle.sdtd.specs.Limits.{least_witness}
 use Rattle.sdtd.proofs.Verdicts.{same_number, same_place, refused_not_fine}
 use Rattle.commands.specs.File.{Stated, Commands, stopped, states, commands}
 use Rattle.commands.proofs.Passing.{stopped_number}
 use Rattle.schema_file.specs.Answer.{AnswerBy, AnswerIs, FileMeans, FirstUnusedAt}
-use Rattle.schema_file.specs.declared.file.SchemaFile.{SchemaFile}
+use Rattle.sdtd.specs.declared.Refusal.{Refusal}
+use Rattle.schema.specs.declared.value.Schema.{Schema}
 use Rattle.schema_file.proofs.AfterDone.{UnusedAt, AfterDone, unknown_type, treeless, unused, competing, accepted, after_cases, after_answer}
 use Rattle.schema_file.proofs.FileAnswers.{file_unique}
-use Rattle.sdtd.specs.Answer.{refused_at}
+use Rattle.sdtd.specs.Answer.{refused_at, verdict_of}
 
 module _ (file : List ℕ) {p : ℕ} where
   after_24 : (g : Stated) → commands file ≡ states g → AfterDone g (refused_at 24 p) → FirstUnusedAt file p
@@ -62,8 +64,8 @@ module _ (file : List ℕ) {p : ℕ} where
       inr (l, subst (λ (k : Commands). AnswerBy k (refused_at 24 p)) (sym x.passes) a)
 
 -- The call answers 24 at p exactly if p is the place of the first such TYPE.
-pub file_unused : {file was is : List ℕ} {r : SchemaFile} → FileMeans file was is r → least_witness ≤ length was → (p : ℕ)
-    → (r.answer ≡ refused_at 24 p) ↔ FirstUnusedAt file p
+pub file_unused : {file was is : List ℕ} {r : Result Schema Refusal} → FileMeans file was is r → least_witness ≤ length was → (p : ℕ)
+    → (verdict_of r ≡ refused_at 24 p) ↔ FirstUnusedAt file p
 file_unused {file} {was} m l p = (
   λ e. refused_24 file was (subst (AnswerIs file was) e m.answer),
   λ x. file_unique file was m.answer (unused_24 file was l x),

@@ -1,16 +1,16 @@
--- The answer to a schema file: questions 1 to 9 and 21 to 24 in order, the witness buffer, and the schema beside the answer.
-use Rattle.std.specs.Prelude.{◌≡◌, ◌↔◌, ◌⊎◌, List, [], ◌∷◌, ◌++◌, ℕ, ◌<◌, length}
+-- The answer to a schema file: questions 1 to 9 and 21 to 24 in order, the witness buffer, and the schema that is accepted.
+use Rattle.std.specs.Prelude.{◌≡◌, ◌↔◌, ◌⊎◌, List, [], ◌∷◌, ◌++◌, ℕ, ◌<◌, length, Result, IfOk}
 use Rattle.sdtd.specs.Schema.{Schema as Meaning}
 use Rattle.sdtd.specs.Document.{Ambiguous}
 use Rattle.sdtd.specs.Trim.{SomeRootBears, Used}
 use Rattle.sdtd.specs.Reduced.{used_asked}
-use Rattle.sdtd.specs.Answer.{Question, Ordered, fine, refused_at, Verdict}
+use Rattle.sdtd.specs.Answer.{Question, Ordered, fine, refused_at, Verdict, verdict_of}
+use Rattle.sdtd.specs.declared.Refusal.{Refusal}
 use Rattle.competition.specs.Questions.{buffer_asked, root_asked, competition_asked}
 use Rattle.competition.specs.Search.{Written}
 use Rattle.schema.specs.declared.value.Schema.{Schema}
 use Rattle.commands.specs.File.{Stated, Commands, stopped, states, commands, schema_by, type_place, unknown, known_asked}
-use Rattle.commands.specs.Value.{no_schema, StatedValue}
-use Rattle.schema_file.specs.declared.file.SchemaFile.{SchemaFile}
+use Rattle.commands.specs.Value.{StatedValue}
 
 -- "After DONE": "Does each STEP name a type that was given? No: 7, at the first that does not." "[Q]uestion 7 covers each 32." "The root
 -- question (8) holds if any root bears a tree": "No: 8, place 0." "A file with a type that no valid document uses is refused from now on"; "Just
@@ -42,15 +42,11 @@ BufferBy k was is a =
     (a ≡ refused_at 9 0 → OfStated k (λ g. Written (schema_by g) was is))
     × (¬ (a ≡ refused_at 9 0) → is ≡ was)
 
--- "The accepted schema is the one that the file states." Beside a refusal stands the value of no schema.
-abbrev pub SchemaBy : Commands → Schema → Verdict → Type 0
-SchemaBy k v a = (a ≡ fine → OfStated k (λ g. StatedValue g v)) × (¬ (a ≡ fine) → v ≡ no_schema)
-
--- What the schema file's call answers.
-pub record FileMeans (file was is : List ℕ) (r : SchemaFile) : Type 0 where
-  pub answer : AnswerIs file was r.answer
-  pub buffer : BufferBy (commands file) was is r.answer
-  pub schema : SchemaBy (commands file) r.schema r.answer
+-- What the schema file's call answers. "The accepted schema is the one that the file states."
+pub record FileMeans (file was is : List ℕ) (r : Result Schema Refusal) : Type 0 where
+  pub answer : AnswerIs file was (verdict_of r)
+  pub buffer : BufferBy (commands file) was is (verdict_of r)
+  pub schema : IfOk r (λ v. OfStated (commands file) (λ g. StatedValue g v))
 
 -- The file passes questions 2 to 8 and 21 to 23, and p is the place of the first TYPE of a type "that no valid document uses".
 pub record FirstUnusedAt (file : List ℕ) (p : ℕ) : Type 0 where
@@ -64,7 +60,7 @@ pub record FirstUnusedAt (file : List ℕ) (p : ℕ) : Type 0 where
   pub before : (b : ℕ) → b < type → Used (schema_by stated) b
   pub place : p ≡ type_place stated type
 
--- Demand 3 of a file that passes questions 1 to 7 and 21 to 23, states S, has a valid document and no type that no valid document uses ("the
+-- What is demanded of a file that passes questions 1 to 7 and 21 to 23, states S, has a valid document and no type that no valid document uses ("the
 -- third demand supposes a file without one"): "It is refused for competition exactly when two valid documents [..] agree in every event through
 -- some opening tag and differ in that element's type. Otherwise it is accepted".
 pub record Demand3File (S : Meaning) (a : Verdict) : Type 0 where

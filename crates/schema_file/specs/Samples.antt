@@ -1,4 +1,4 @@
--- Document 01, "Samples from the boot wall": the starred samples that are schema files, from their bytes, and one statement over the group.
+-- "Samples from the boot wall": the starred samples that are schema files, from their bytes, and one statement over the group.
 -- Beside them files with NIL.
 use Rattle.std.specs.Prelude.{List, [], ◌∷◌, ◌++◌, ℕ, ◌≤◌, length, drop}
 use Rattle.sdtd.specs.Limits.{least_witness}
@@ -40,7 +40,7 @@ leaf g rest = 0x11 ∷ g ∷ 1 ∷ 0x12 ∷ 0 ∷ rest
 abbrev done : List ℕ
 done = 0x14 ∷ 0 ∷ 0x1f ∷ []
 
--- "R above", with the bytes that document 01 has
+-- "R above", with its bytes
 abbrev pub file_r : FileSample
 file_r =
     gets
@@ -49,7 +49,7 @@ file_r =
     )
     fine
 
--- 000's schema, whose last block is d's
+-- the schema of the published definition's example, whose last block is d's
 abbrev choice_with : List ℕ → List ℕ
 choice_with d =
     0x10 ∷ 4

@@ -3,4 +3,4 @@
 
 mod file;
 
-pub use file::{SchemaFile, read};
+pub use file::read;

@@ -1,27 +1,27 @@
 -- `schema_file::file::read` meets its contract: each answer is that of the first question answered no.
-use native.Mathlib.Omega.{arith}
-use Rattle.schema_file.proofs.Answered.{as_refusal, commands_refused, Passed, commands_passed, value_within}
-use Rattle.schema_file.proofs.Answered.{judged_type, judged_means}
+use mathlib.Core.Path.{◌≡◌}
+use Rattle.std.specs.Prelude.{Ok, MatchResult}
+use Rattle.std.proofs.Common.{rules}
+use Rattle.std.proofs.lemmas.Result.{err_from_is_err_and}
+use Rattle.schema_file.specs.Place.{placed}
+use Rattle.schema_file.proofs.Answered.{Passed, commands_refused, commands_passed, judged_refused, judged_accepted}
 use Rattle.schema_file.proofs.file.read.Goals as goal
 
-pub returns-in-RefusedAt : goal.returns-in-RefusedAt
-returns-in-RefusedAt c =
-    as_refusal c.refused-in-RefusedAt.ensures
-    (commands_refused _ _ (omega arith) _ c.in-RefusedAt.is c.read_commands-all.ensures)
+pub returns-in_err-schema : goal.returns-in_err-schema
+returns-in_err-schema c =
+    let p = err_from_is_err_and c.from_residual.result c.from_residual.ensures.1 in
+    rw (p.1, p.2) (commands_refused _ _ c.if-witness-lt-LEAST_WITNESS.false c.in_err-schema.field-0.0 c.in_err-schema.ensures)
 
-pub place_in-requires : goal.place_in-requires
-place_in-requires c =
-    let stated : Passed c.args.file.now c.read_commands-all.result.schema = commands_passed _ _ c.in_default.is c.read_commands-all.ensures in
-    judged_type (rw c.in-RefusedAt-judged.is at c.judge_reduced-judged.ensures) c.if-witness-lt-LEAST_WITNESS.false (value_within stated)
+pub returns-in_err-map_err : goal.returns-in_err-map_err
+returns-in_err-map_err c =
+    let passed : Passed c.args.file.now c.in_ok-schema.schema = commands_passed _ _ c.in_ok-schema.ensures in
+    let p = err_from_is_err_and c.from_residual-in_err-map_err.result c.from_residual-in_err-map_err.ensures.1 in
+    let e = c.in_err-map_err.field-0.0 in
+    let told : MatchResult c.judge_reduced.result (λ x. ⊥) (λ judged. e ≡ placed c.args.file.now judged) = search rules in
+    rw (p.1, p.2) (judged_refused passed _ c.if-witness-lt-LEAST_WITNESS.false c.judge_reduced.result c.judge_reduced.ensures e told)
 
-pub returns-in-RefusedAt-judged : goal.returns-in-RefusedAt-judged
-returns-in-RefusedAt-judged c =
-    let stated : Passed c.args.file.now c.read_commands-all.result.schema = commands_passed _ _ c.in_default.is c.read_commands-all.ensures in
-    let k = rw c.in-RefusedAt-judged.is at c.judge_reduced-judged.ensures in
-    as_refusal c.refused-in-RefusedAt-judged.ensures (rw c.place_in.ensures (judged_means stated _ c.if-witness-lt-LEAST_WITNESS.false k))
-
-pub returns-in-Fine : goal.returns-in-Fine
-returns-in-Fine c =
-    let stated : Passed c.args.file.now c.read_commands-all.result.schema = commands_passed _ _ c.in_default.is c.read_commands-all.ensures in
-    let k = rw c.in-Fine.is at c.judge_reduced-judged.ensures in
-    judged_means stated _ c.if-witness-lt-LEAST_WITNESS.false k
+pub returns : goal.returns
+returns c =
+    let passed : Passed c.args.file.now c.in_ok-schema.schema = commands_passed _ _ c.in_ok-schema.ensures in
+    let told : c.judge_reduced.result ≡ Ok tt = search rules in
+    judged_accepted passed _ c.if-witness-lt-LEAST_WITNESS.false c.judge_reduced.result c.judge_reduced.ensures told
