@@ -5,9 +5,10 @@ use mathlib.Core.List.Memᴰ
 use mathlib.Core.List.{List, [], ◌∷◌, ◌++◌, map, Memᴰ}
 use Prim.Native.Nat.{ℕ, zero, suc, ◌+◌, ◌-◌, ◌≤◌, ◌<◌, zero-le}
 use native.Mathlib.Nat.{le_of_suc-le-suc}
-use native.Mathlib.Decide.{ℕ_discrete}
+use native.Mathlib.Decide.{ℕ_discrete, dec_lt}
 use native.Mathlib.Omega.{arith}
 use lib.ListN.{length, get_or, replicate, length-map, get_or-eq_default}
+use Rattle.sdtd.specs.Limits.{most_steps}
 use Rattle.sdtd.specs.Schema.{Step, Block, no_block, block_of, tag_of}
 use Rattle.schema.specs.Value.{up_from, step_at, steps_of, offset, block_at, meaning}
 use Rattle.schema.specs.declared.value.Schema.{Schema}
@@ -129,3 +130,12 @@ steps_first from by to s (suc n) l =
     let e : s + 1 ≡ suc s = omega arith in
     let k : suc n - 1 ≡ n = omega arith in
     rw (e, k) refl
+
+-- steps from a place past the tables' end are none, wherever they begin
+pub steps_cut : (from by to : List ℕ) (s m start n : ℕ) → m ≡ n → (most_steps < start → n ≡ 0) → (start ≤ most_steps → s ≡ start)
+    → steps_of from by to s m ≡ steps_of from by to start n
+steps_cut from by to s m start n e none same =
+    elim (dec_lt most_steps start) [
+      | yes l ↦ steps_none from by to s m (e ∙ none l) ∙ sym (steps_none from by to start n (none l))
+      | no l ↦ rw (e, same (omega arith))
+    ]

@@ -1,4 +1,4 @@
--- Schemas as values. `Spread`, `RowMaking` and `Limits` say what the private loops compute; no public promise cites them.
+-- Schemas as values. `Spread`, `Going`, `RowMaking` and `Limits` say what the private loops compute; no public promise cites them.
 pub mod States
 pub mod StatesLeft
 pub mod Value

@@ -1,5 +1,6 @@
 -- Rows: the steps of a schema that count, a row of numbers for each state of each type.
 use Rattle.std.specs.Prelude.{◌≡◌, ◌↔◌, ℕ, suc, ◌+◌, ◌*◌, ◌/◌, ◌%◌, ◌≤◌, ◌<◌, length, get_or}
+use Rattle.std.specs.List.{slice_range}
 use mathlib.Core.List.{List, Memᴰ}
 use Rattle.sdtd.specs.Limits.{most_tags, most_types, most_states, most_steps}
 use Rattle.sdtd.specs.Schema.{Step, Schema, block_of, tag_of}
@@ -76,3 +77,7 @@ pub record RowsMean (S : Schema) (entries begins : List ℕ) : Type 0 where
   pub exact : (a p e : ℕ) → p < most_states → InRow entries begins (row_place a p) e ↔ EntryFor S a p e
   pub rest : (k : ℕ) → ((i : ℕ) → get_or begins i 0 ≤ k → ¬ (k < get_or begins (suc i) 0)) → get_or entries k 0 ≡ 0
   pub past : (i : ℕ) → most_states * length S.blocks < i → get_or begins i 0 ≡ 0
+
+-- the row of the state p of the type a
+abbrev pub row_of : List ℕ → List ℕ → ℕ → ℕ → List ℕ
+row_of entries begins a p = slice_range entries (get_or begins (row_place a p) 0) (get_or begins (suc (row_place a p)) 0)

@@ -46,6 +46,7 @@ roots_of table n = map (λ i. get_or table i 0) (up_from 0 n)
 unfoldable pub meaning : Schema → Meaning
 meaning v = record { tags = v.tags; blocks = map (block_at v) (up_from 0 v.types); roots = roots_of v.root v.roots }
 
--- each type's accepting states are a set of states
+-- Each type's accepting states are a set of states. It is so of every value; it is promised since elements behind a reference are not known to fit
+-- their type.
 abbrev pub SetsFit : Schema → Type 0
 SetsFit v = (a : ℕ) → get_or v.accepting a 0 < 2 ^ most_states

@@ -19,7 +19,7 @@ mod ways;
 pub use entry::{Entry, TYPE_PLACE, TYPE_ROOM};
 pub use limits::within;
 pub use roots::root_types;
-pub use row::{Row, Rows};
+pub use row::Rows;
 pub use rows::{BEGINS, ROWS};
 pub use span::Span;
 pub use state_set::{StateSet, States};

@@ -1,12 +1,12 @@
 // A schema's steps, one after another.
-ghost use Rattle.std.specs.Prelude.{◌≡◌, ◌+◌, ◌≤◌, ◌<◌, get_or};
+ghost use Rattle.std.specs.Prelude.{◌≡◌, ◌-◌, ◌^◌, ◌<◌, min, get_or};
 ghost use Rattle.std.specs.Iterator.{YieldsFirstBy, item_count};
-ghost use Rattle.sdtd.specs.Limits.{most_types, most_steps};
+ghost use Rattle.sdtd.specs.Limits.{most_steps};
 ghost use Rattle.schema.specs.Value.{offset, step_at, steps_of};
 ghost use Rattle.schema.specs.Steps.{meant, left};
 
 use crate::span::Span;
-use crate::value::Schema;
+use crate::value::{STEPS, Schema, TYPES};
 use sdtd::TypeNo;
 
 // A step of a content automaton.
@@ -26,7 +26,7 @@ pub struct Steps<'a> {
 
 impl Schema {
     // The step at the place i.
-    pub fn step(&self, i: usize) -> Step
+    fn step(&self, i: usize) -> Step
         requires { i < most_steps }
         ensures { meant result ≡ step_at self.now.from self.now.by self.now.to i }
     {
@@ -37,28 +37,39 @@ impl Schema {
         }
     }
 
-    // Where the steps of a type stand.
-    pub fn span(&self, a: TypeNo) -> Span
-        requires { (a.0 < most_types) × (offset self.now.steps a.0 + get_or self.now.steps a.0 0 ≤ most_steps) }
-        ensures start { result.start ≡ offset self.now.steps a.0 }
-        ensures n { result.n ≡ get_or self.now.steps a.0 0 }
+    // How many steps the type a has; past the table's end none.
+    fn count(&self, a: usize) -> usize
+        ensures is { result ≡ get_or self.now.steps a 0 }
+        ensures small { result < 2 ^ 16 }
     {
-        let a = usize::from(a.0);
-        let mut start = 0;
-        for b in 0..a {
-            start += usize::from(self.steps[b]);
+        if TYPES <= a {
+            return 0;
         }
-        Span {
-            start,
-            n: usize::from(self.steps[a]),
-        }
+        usize::from(self.steps[a])
     }
 
-    // The n steps from the place `start` on.
-    pub fn steps_from(&self, start: usize, n: usize) -> Steps<'_>
-        requires { start + n ≤ most_steps }
-        ensures { left result ≡ steps_of self.now.from self.now.by self.now.to start n }
+    // Where the steps of a type stand, cut to the tables.
+    pub fn span(&self, a: TypeNo) -> Span
+        ensures start { result.start ≡ min (offset self.now.steps a.0) most_steps }
+        ensures n { result.n ≡ min (get_or self.now.steps a.0 0) (most_steps - result.start) }
     {
+        let a = usize::from(a.0);
+        let mut before = 0;
+        for b in 0..a {
+            before += self.count(b);
+        }
+        let start = before.min(STEPS);
+        let n = self.count(a).min(STEPS - start);
+        Span { start, n }
+    }
+
+    // The n steps from the place `start` on, or as many of them as there are.
+    pub fn steps_from(&self, start: usize, n: usize) -> Steps<'_>
+        ensures { left result
+            ≡ steps_of self.now.from self.now.by self.now.to start (min n (most_steps - start)) }
+    {
+        let start = start.min(STEPS);
+        let n = n.min(STEPS - start);
         self.steps_in(Span { start, n })
     }
 
