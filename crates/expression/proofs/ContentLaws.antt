@@ -25,12 +25,12 @@ use Rattle.expression.proofs.TestSets.{set_below, member_set}
 use Rattle.expression.specs.Automaton.{uses}
 use Rattle.expression.specs.Content.{Name, broken, whole, content_at, no_level, choice_of}
 use Rattle.expression.specs.Expression.{Expression, empty_word, single, sequence, choice, repeat}
-use Rattle.expression.specs.Parsing.{ending, so_far, scan, put_back, Tables, tables, ReadAs, ChoiceWhole, ChoiceSays}
+use Rattle.expression.specs.Parsing.{ending, so_far, scan, put_back, tables, ReadAs, ChoiceWhole, ChoiceRefused}
 use Rattle.expression.specs.Tests.{nullable, last, follow, leads, accepts}
 use Rattle.expression.specs.declared.content.Automaton.{Automaton}
-use Rattle.expression.specs.declared.sets.Parsed.{Parsed}
+use Rattle.expression.specs.declared.parsed.Parsed.{Parsed}
+use Rattle.expression.specs.declared.tables.Tables.{Tables}
 use Rattle.expression.proofs.CommandTests.{is_end, ending_is}
-use Rattle.expression.proofs.ParseLaws.{refused_one, well_one}
 use Rattle.expression.proofs.ScanLaws.{scan_fails, scan_ends}
 use Rattle.expression.proofs.SetLaws.{member_zero}
 
@@ -43,37 +43,31 @@ pub record WholeAt (file : List ℕ) (i : ℕ) (t t' : Tables) (x : Parsed) : Ty
   pub content : Expression
   pub names : List Name
   pub read : ReadAs 1 content names t t' x
-  pub rows : length t'.next ≡ most_states
   pub same : content_at file i ≡ whole content (reverse names) x.at
 
-module _ (file : List ℕ) (i : ℕ) (t t' : Tables) (x : Parsed) (s : ChoiceSays file i 0 0 t t' x) where
-  pub content_refused : ¬ (x.number ≡ 0) → content_at file i ≡ broken x.number x.at
-  content_refused n = content_scan file i ∙ refused_one x s.says n [] [] refl refl
+pub content_refused : (file : List ℕ) (i n p : ℕ) → ChoiceRefused file i 0 0 n p → content_at file i ≡ broken n p
+content_refused file i n p r = content_scan file i ∙ r [] [] refl refl
 
-  module _ (z : x.number ≡ 0) where
-    w : ChoiceWhole file i 0 0 t t' x
-    w = well_one x s.says z
+module _ (file : List ℕ) (i : ℕ) (t t' : Tables) (x : Parsed) (w : ChoiceWhole file i 0 0 t t' x) where
+  pub content_unended : ¬ (ending false (command_at file x.at) ≡ 0)
+      → content_at file i ≡ broken (ending false (command_at file x.at)) x.at
+  content_unended n =
+      let k = w.taken in
+      content_scan file i ∙ k.scans [] [] refl refl
+      ∙ scan_fails file x.at (so_far [] k.level (k.names ++ []) k.again) (ending false (command_at file x.at))
+      (ending_is [] k.level (k.names ++ []) k.again (command_at file x.at) k.opens_not w.divides_not k.no_repeat) n
 
-    pub content_unended : ¬ (ending false (command_at file x.at) ≡ 0)
-        → content_at file i ≡ broken (ending false (command_at file x.at)) x.at
-    content_unended n =
-        let k = w.taken in
-        content_scan file i ∙ k.scans [] [] refl refl
-        ∙ scan_fails file x.at (so_far [] k.level (k.names ++ []) k.again) (ending false (command_at file x.at))
-        (ending_is [] k.level (k.names ++ []) k.again (command_at file x.at) k.opens_not w.divides_not k.no_repeat) n
-
-    pub content_whole : ending false (command_at file x.at) ≡ 0 → WholeAt file i t t' x
-    content_whole e =
-        let k = w.taken in
-        record {
-          content = choice_of k.level;
-          names = k.names;
-          read = k.read;
-          rows = s.rows;
-          same = content_scan file i ∙ k.scans [] [] refl refl
-              ∙ scan_ends file x.at (so_far [] k.level (k.names ++ []) k.again) (is_end (command_at file x.at) e) refl
-              ∙ ap (λ (ns : List Name). whole (choice_of k.level) (reverse ns) x.at) (append-nil k.names);
-        }
+  pub content_whole : ending false (command_at file x.at) ≡ 0 → WholeAt file i t t' x
+  content_whole e =
+      let k = w.taken in
+      record {
+        content = choice_of k.level;
+        names = k.names;
+        read = k.read;
+        same = content_scan file i ∙ k.scans [] [] refl refl
+            ∙ scan_ends file x.at (so_far [] k.level (k.names ++ []) k.again) (is_end (command_at file x.at) e) refl
+            ∙ ap (λ (ns : List Name). whole (choice_of k.level) (reverse ns) x.at) (append-nil k.names);
+      }
 
 -- a set by its members
 pub same_set : (x : ℕ) (t : ℕ → Bool) → x < 2 ^ most_states → ((q : ℕ) → member q x ≡ t q) → x ≡ set_of t most_states

@@ -1,35 +1,33 @@
 -- What the parsers say of their parts, put together.
-use mathlib.Core.Path.{◌≡◌, refl, sym, ap, subst, ◌∙◌}
-use mathlib.Core.Logic.{◌⊎◌, inl, inr, ⊎_elim}
-use mathlib.Core.Bool.{Bool, true, false, true≢false, cond, ◌&&◌}
+use mathlib.Core.Path.{◌≡◌, refl, sym, ap, ◌∙◌}
+use mathlib.Core.Bool.{Bool, true, false, true≢false}
 use mathlib.Core.List.{List, [], ◌∷◌, ◌++◌, append_assoc}
 use Prim.Native.Nat.{ℕ, suc, ◌+◌, ◌≤◌, ◌<◌}
-use native.Mathlib.Nat.{le_refl, le_trans}
-use native.Mathlib.Decide.{ℕ_discrete}
+use native.Mathlib.Nat.{le_refl}
 use native.Mathlib.Omega.{arith}
-use borrow.Author.Tests.{lt-ltb, le-ltb, ltb-true, eq-eqb, ne_eqb}
+use borrow.Author.Tests.{lt-ltb, le-ltb, ltb-true}
 use lib.Bits.{or_zero_l}
-use lib.Dec.{T, eqb, ltb, eqb→eq}
+use lib.Dec.{ltb}
 use lib.ListN.{length, set, length-append}
-use Rattle.std.specs.Prelude.{Some}
-use Rattle.sdtd.specs.Limits.{most_types, most_states}
-use Rattle.sdtd.proofs.Basics.{cond_both}
+use Rattle.std.specs.Prelude.{None, Some, Result, Ok, Err, OnOk}
+use Rattle.sdtd.proofs.Verdicts.{number_some}
+use Rattle.sdtd.specs.declared.Refusal.{Refusal}
+use Rattle.sdtd.specs.Limits.{most_types}
 use Rattle.sdtd.specs.declared.TypeNo.{TypeNo}
-use Rattle.schema.specs.States.{insert, no_states}
 use Rattle.command.specs.Command.{command_at}
 use Rattle.command.specs.declared.Command.TheVariants.{Expression as AnExpression}
 use Rattle.command.specs.declared.Part.TheVariants.{OpenBracket, CloseBracket, Use, Or, Repeat}
 use Rattle.expression.specs.Content.{Level, no_level, sequence_of, choice_of, Name, with_factor, failed_inside, after_part}
 use Rattle.expression.specs.Expression.{Expression, single, repeat}
 use Rattle.expression.specs.Limits.{most_uses, most_brackets}
-use Rattle.expression.specs.Parsing.{opening, dividing, repeating, ending, level_of, so_far, scan, Tables, tables, parsed, refused_at, then_by, or_by}
-use Rattle.expression.specs.Parsing.{closed_by, again_by, either_by, bracket_by, one_use, UseSays, RepeatSays, repeats_it, stays_so, Linked}
-use Rattle.expression.specs.Parsing.{Outcome, goes_well, is_refused, Item, FactorTaken, FactorRefused, NoneTaken, FactorSays}
-use Rattle.expression.specs.Parsing.{SequenceTaken, SequenceWhole, SequenceRefused, SequenceSays}
-use Rattle.expression.specs.Parsing.{NextSequence, begins_choice, behind_33, ChoiceTaken, ChoiceWhole, ChoiceRefused, ChoiceSays}
-use Rattle.expression.specs.declared.parts.Opening.TheVariants.{NoFactor}
-use Rattle.expression.specs.declared.sets.Parsed.{Parsed}
-use Rattle.expression.proofs.CommandTests.{part_inside, is_or_lem, is_repeat_lem, is_close, ending_is}
+use Rattle.expression.specs.Parsing.{repeating, ending, level_of, so_far, scan, tables, parsed, then_by, or_by, use_parsed}
+use Rattle.expression.specs.Parsing.{closed_by, again_by, one_use, UseSays, BracketSays, RepeatSays, repeats_it, stays_so, Linked}
+use Rattle.expression.specs.Parsing.{Outcome, Item, FactorTaken, FactorRefused, FactorRead}
+use Rattle.expression.specs.Parsing.{SequenceTaken, SequenceWhole, SequenceRefused}
+use Rattle.expression.specs.Parsing.{NextSequence, begins_choice, behind_33, ChoiceTaken, ChoiceWhole, ChoiceRefused}
+use Rattle.expression.specs.declared.parsed.Parsed.{Parsed}
+use Rattle.expression.specs.declared.tables.Tables.{Tables}
+use Rattle.expression.proofs.CommandTests.{part_inside, is_repeat_lem, is_close, ending_is}
 use Rattle.expression.proofs.ReadLaws.{own_name, read_none, read_one, read_then, read_or, read_closed, read_again}
 use Rattle.expression.proofs.ScanLaws.{scan_fails, scan_part}
 
@@ -39,92 +37,56 @@ pub record ItemTaken (file : List ℕ) (i depth u : ℕ) (t t' : Tables) (x : Pa
   pub names : List Name
   pub taken : Item file i depth u item names true t t' x
 
--- what is read of the sequences of a choice so far
-pub record ChoiceSoFar (file : List ℕ) (i depth u : ℕ) (t t' : Tables) (x : Parsed) : Type 0 where
-  pub onward : i ≤ x.at
-  pub rows : length t'.next ≡ most_states
-  pub says : Outcome x (ChoiceTaken file i depth u t t' x) (ChoiceRefused file i depth u x)
-
 never : {A : Type 0} → false ≡ true → A
 never e = absurd (true≢false (sym e))
 
--- what an outcome says by its number
-pub refused_one : {A B : Type 0} (x : Parsed) → Outcome x A B → ¬ (x.number ≡ 0) → B
-refused_one x (goes_well z a) n = absurd (n z)
-refused_one x (is_refused n b) m = b
-
-pub well_one : {A B : Type 0} (x : Parsed) → Outcome x A B → x.number ≡ 0 → A
-well_one x (goes_well z a) m = a
-well_one x (is_refused n b) m = absurd (n m)
-
--- a factor is taken exactly where the place moves on
-pub taken_one : (file : List ℕ) (i depth u : ℕ) (t t' : Tables) (x : Parsed) → FactorSays file i depth u t t' x → x.number ≡ 0
-    → ¬ (x.at ≡ i) → FactorTaken file i depth u t t' x
-taken_one file i depth u t t' x s z n = ⊎_elim (λ k. absurd (n k.stays)) (λ k. k) (well_one x s.says z)
-
-pub none_one : (file : List ℕ) (i depth u : ℕ) (t t' : Tables) (x : Parsed) → FactorSays file i depth u t t' x → x.number ≡ 0
-    → x.at ≡ i → NoneTaken file i t t' x
-none_one file i depth u t t' x s z e = ⊎_elim (λ k. k) (λ k. absurd (omega (arith, k.taken.moves))) (well_one x s.says z)
-
 -- One use. Its questions: the type's range, and the number of uses.
-module _ (file : List ℕ) (i depth u : ℕ) (j : TypeNo) (t : Tables) (types places : List ℕ) (c : command_at file i ≡ Some (AnExpression (Use j))) where
+module _ (file : List ℕ) (i depth u : ℕ) (j : TypeNo) (t : Tables) (c : command_at file i ≡ Some (AnExpression (Use j))) where
   use_refused : (n : ℕ) → ¬ (n ≡ 0)
       → ((around : List Level) (l : Level) (before : List Name) (b : Bool) → length before ≡ u
       → failed_inside (so_far around l before b) (Some (AnExpression (Use j))) ≡ n)
-      → FactorRefused file i depth u (refused_at n i)
+      → FactorRefused file i depth u n i
   use_refused n d h around l before b la lb =
       scan_fails file i (so_far around l before b) n (ap (failed_inside (so_far around l before b)) c ∙ h around l before b lb) d
 
-  use_item : ltb j.0 most_types ≡ true → ltb u most_uses ≡ true → types ≡ set t.types (u + 1) j.0
-      → places ≡ set t.places (u + 1) i
-      → ItemTaken file i depth u t (tables t.next types places)
-      (parsed (i + 2) (u + 1) false (insert (u + 1) no_states) (insert (u + 1) no_states))
+  use_item : ltb j.0 most_types ≡ true → ltb u most_uses ≡ true
+      → ItemTaken file i depth u t (tables t.next (set t.types (u + 1) j.0) (set t.places (u + 1) i)) (use_parsed i u)
   unfolding after_part
-  use_item p q a b =
+  use_item p q =
       record {
         item = single j.0;
         names = own_name j.0 i ∷ [];
         taken = record {
-          read = read_one u j.0 i t types places (omega (arith, ltb-true u most_uses q)) a b;
+          read = read_one u j.0 i t (omega (arith, ltb-true u most_uses q));
           begins = omega (arith, part_inside file i (Use j) c);
           moves = omega arith;
           scans = λ around l before f la lb. scan_part file i (so_far around l before f) (Use j) c (rw (p, lb, q)) refl;
         };
       }
 
-  abbrev UseOutcome : Parsed → Type 0
-  UseOutcome x = Outcome x (ItemTaken file i depth u t (tables t.next types places) x) (FactorRefused file i depth u x)
+  abbrev UseOutcome : Tables → Result Parsed Refusal → Type 0
+  UseOutcome t' r = Outcome (ItemTaken file i depth u t t') (FactorRefused file i depth u) r
 
-  use_cases : (x : Parsed) (p q : Bool) → ltb j.0 most_types ≡ p → ltb u most_uses ≡ q
-      → UseSays i j.0 u t.types types t.places places x → UseOutcome x
-  use_cases x true true e f s =
-      let r : x ≡ parsed (i + 2) (u + 1) false (insert (u + 1) no_states) (insert (u + 1) no_states) = s.result ∙ rw (e, f) in
-      let z : x.number ≡ 0 = ap (λ (y : Parsed). y.number) r in
-      subst UseOutcome (sym r) (goes_well refl (use_item e f (s.types_set z) (s.places_set z)))
-  use_cases x true false e f s =
-      let r : x ≡ refused_at 22 i = s.result ∙ rw (e, f) in
-      subst UseOutcome (sym r) (is_refused (λ z. omega arith) (use_refused 22 (λ z. omega arith) (λ around l before b lb. rw (e, lb, f))))
-  use_cases x false q e f s =
-      let r : x ≡ refused_at 4 i = s.result ∙ rw e in
-      subst UseOutcome (sym r) (is_refused (λ z. omega arith) (use_refused 4 (λ z. omega arith) (λ around l before b lb. rw e)))
+  use_cases : (t' : Tables) (p q : Bool) → ltb j.0 most_types ≡ p → ltb u most_uses ≡ q
+      → OnOk (one_use i j.0 u) (t' ≡ tables t.next (set t.types (u + 1) j.0) (set t.places (u + 1) i)) → UseOutcome t' (one_use i j.0 u)
+  use_cases t' true true e f s =
+      let r : one_use i j.0 u ≡ Ok (use_parsed i u) = rw (e, f) in
+      let put : t' ≡ tables t.next (set t.types (u + 1) j.0) (set t.places (u + 1) i) = rw r at s in
+      rw (r, put) (use_item e f)
+  use_cases t' true false e f s = rw (e, f) (use_refused 22 (λ z. omega arith) (λ around l before b lb. rw (e, lb, f)))
+  use_cases t' false q e f s = rw e (use_refused 4 (λ z. omega arith) (λ around l before b lb. rw e))
 
-  pub use_says : (x : Parsed) → UseSays i j.0 u t.types types t.places places x → UseOutcome x
-  use_says x s = use_cases x (ltb j.0 most_types) (ltb u most_uses) refl refl s
-
-pub use_onward : (i j u : ℕ) (x : Parsed) → x ≡ one_use i j u → i ≤ x.at
-use_onward i j u x e =
-    rw e
-    (cond_both (λ (y : Parsed). i ≤ y.at) (ltb j most_types) _ _
-    (cond_both (λ (y : Parsed). i ≤ y.at) (ltb u most_uses) _ _ (omega arith) (omega arith)) (omega arith))
+  pub use_says : (t' : Tables) (r : Result Parsed Refusal) → UseSays i j.0 u t t' r → UseOutcome t' r
+  use_says t' r s = rw s.0 (use_cases t' (ltb j.0 most_types) (ltb u most_uses) refl refl (rw s.0 at s.1))
 
 -- A choice in a bracket: the 30, the choice, and the command behind it.
 module _ (file : List ℕ) (i depth u : ℕ) (c : command_at file i ≡ Some (AnExpression OpenBracket)) where
-  pub bracket_refused : most_brackets ≤ depth → FactorRefused file i depth u (refused_at 23 i)
+  pub bracket_refused : most_brackets ≤ depth → FactorRefused file i depth u 23 i
   bracket_refused d around l before b la lb =
       scan_fails file i (so_far around l before b) 23
       (ap (failed_inside (so_far around l before b)) c ∙ rw (la, le-ltb depth most_brackets d)) (λ z. omega arith)
 
-  module _ (d : depth < most_brackets) (t t' : Tables) (x : Parsed) where
+  module _ (d : depth < most_brackets) where
     bracket_opens : (around : List Level) (l : Level) (before : List Name) (b : Bool) → length around ≡ depth
         → scan file i (so_far around l before b) ≡ scan file (i + 1) (so_far (l ∷ around) no_level before false)
     unfolding after_part
@@ -134,80 +96,52 @@ module _ (file : List ℕ) (i depth u : ℕ) (c : command_at file i ≡ Some (An
     deeper : (around : List Level) (l : Level) → length around ≡ depth → length (l ∷ around) ≡ depth + 1
     deeper around l la = omega arith
 
-    bracket_item : i + 1 ≤ x.at → ending true (command_at file x.at) ≡ 0 → ChoiceWhole file (i + 1) (depth + 1) u t t' x
-        → ItemTaken file i depth u t t' (closed_by x)
-    unfolding after_part
-    bracket_item o e w =
-        let k = w.taken in
-        record {
-          item = choice_of k.level;
-          names = k.names;
-          taken = record {
-            read = read_closed (suc u) (choice_of k.level) k.names t t' x k.read;
-            begins = omega (arith, part_inside file i OpenBracket c);
-            moves = omega arith;
-            scans = λ around l before b la lb. bracket_opens around l before b la ∙ k.scans (l ∷ around) before (deeper around l la) lb
-                ∙ scan_part file x.at (so_far (l ∷ around) k.level (k.names ++ before) k.again) CloseBracket
-                (is_close (command_at file x.at) e) (rw (lt-ltb 0 (suc (length around)) (omega arith))) refl;
-          };
-        }
+    -- a refusal inside
+    pub inside_refused : (n p : ℕ) → ChoiceRefused file (i + 1) (depth + 1) u n p → FactorRefused file i depth u n p
+    inside_refused n p r around l before b la lb = bracket_opens around l before b la ∙ r (l ∷ around) before (deeper around l la) lb
 
-    not_closed : ¬ (ending true (command_at file x.at) ≡ 0) → ChoiceWhole file (i + 1) (depth + 1) u t t' x
-        → FactorRefused file i depth u (refused_at (ending true (command_at file x.at)) x.at)
-    not_closed n w around l before b la lb =
-        let k = w.taken in
-        bracket_opens around l before b la ∙ k.scans (l ∷ around) before (deeper around l la) lb
-        ∙ scan_fails file x.at (so_far (l ∷ around) k.level (k.names ++ before) k.again) (ending true (command_at file x.at))
-        (ending_is (l ∷ around) k.level (k.names ++ before) k.again (command_at file x.at) k.opens_not w.divides_not k.no_repeat) n
+    module _ (t t' : Tables) (x : Parsed) (w : ChoiceWhole file (i + 1) (depth + 1) u t t' x) where
+      k : ChoiceTaken file (i + 1) (depth + 1) u t t' x
+      k = w.taken
 
-    abbrev BracketOutcome : Parsed → Type 0
-    BracketOutcome y = Outcome y (ItemTaken file i depth u t t' y) (FactorRefused file i depth u y)
+      bracket_item : ending true (command_at file x.at) ≡ 0 → ItemTaken file i depth u t t' (closed_by x)
+      unfolding after_part
+      bracket_item e =
+          record {
+            item = choice_of k.level;
+            names = k.names;
+            taken = record {
+              read = read_closed (suc u) (choice_of k.level) k.names t t' x k.read;
+              begins = omega (arith, part_inside file i OpenBracket c);
+              moves = omega (arith, k.onward);
+              scans = λ around l before b la lb. bracket_opens around l before b la ∙ k.scans (l ∷ around) before (deeper around l la) lb
+                  ∙ scan_part file x.at (so_far (l ∷ around) k.level (k.names ++ before) k.again) CloseBracket
+                  (is_close (command_at file x.at) e) (rw (lt-ltb 0 (suc (length around)) (omega arith))) refl;
+            };
+          }
 
-    bracket_judged : x.number ≡ 0 → i + 1 ≤ x.at → ChoiceWhole file (i + 1) (depth + 1) u t t' x → Dec (ending true (command_at file x.at) ≡ 0)
-        → BracketOutcome (bracket_by (command_at file x.at) x)
-    bracket_judged z o w (yes e) =
-        let r : bracket_by (command_at file x.at) x ≡ closed_by x = rw (eq-eqb x.number 0 z, eq-eqb (ending true (command_at file x.at)) 0 e) in
-        subst BracketOutcome (sym r) (goes_well refl (bracket_item o e w))
-    bracket_judged z o w (no n) =
-        let r : bracket_by (command_at file x.at) x ≡ refused_at (ending true (command_at file x.at)) x.at
-        = rw (eq-eqb x.number 0 z, ne_eqb (ending true (command_at file x.at)) 0 n) in
-        subst BracketOutcome (sym r) (is_refused n (not_closed n w))
+      not_closed : ¬ (ending true (command_at file x.at) ≡ 0) → FactorRefused file i depth u (ending true (command_at file x.at)) x.at
+      not_closed n around l before b la lb =
+          bracket_opens around l before b la ∙ k.scans (l ∷ around) before (deeper around l la) lb
+          ∙ scan_fails file x.at (so_far (l ∷ around) k.level (k.names ++ before) k.again) (ending true (command_at file x.at))
+          (ending_is (l ∷ around) k.level (k.names ++ before) k.again (command_at file x.at) k.opens_not w.divides_not k.no_repeat) n
 
-    bracket_cases : i + 1 ≤ x.at → Outcome x (ChoiceWhole file (i + 1) (depth + 1) u t t' x) (ChoiceRefused file (i + 1) (depth + 1) u x)
-        → BracketOutcome (bracket_by (command_at file x.at) x)
-    bracket_cases o (goes_well z w) = bracket_judged z o w (ℕ_discrete (ending true (command_at file x.at)) 0)
-    bracket_cases o (is_refused n r) =
-        let e : bracket_by (command_at file x.at) x ≡ x = rw (ne_eqb x.number 0 n) in
-        subst BracketOutcome (sym e)
-        (is_refused n (λ around l before b la lb. bracket_opens around l before b la ∙ r (l ∷ around) before (deeper around l la) lb))
-
-    pub bracket_says : ChoiceSays file (i + 1) (depth + 1) u t t' x → (y : Parsed) → y ≡ bracket_by (command_at file x.at) x → BracketOutcome y
-    bracket_says s y e = subst BracketOutcome (sym e) (bracket_cases s.onward s.says)
-
-pub bracket_onward : (file : List ℕ) (x y : Parsed) → y ≡ bracket_by (command_at file x.at) x → x.at ≤ y.at
-bracket_onward file x y e =
-    rw e
-    (cond_both (λ (z : Parsed). x.at ≤ z.at) (eqb x.number 0) _ _
-    (cond_both (λ (z : Parsed). x.at ≤ z.at) (eqb (ending true (command_at file x.at)) 0) _ _ (omega arith) (omega arith)) (omega arith))
+      pub bracket_says : (r : Result Parsed Refusal) → BracketSays (command_at file x.at) x r
+          → Outcome (ItemTaken file i depth u t t') (FactorRefused file i depth u) r
+      bracket_says (Ok y) s = rw s.1 (bracket_item s.0)
+      bracket_says (Err e) s = rw (s.0, s.1) (not_closed (λ z. omega (arith, number_some e.why, s.0)))
 
 -- A factor, and its 34.
-module _ (file : List ℕ) (i depth u : ℕ) (t t' : Tables) (x : Parsed) (next : List ℕ) where
-  abbrev t'' : Tables
-  t'' = tables next t'.types t'.places
-
-  abbrev RepeatOutcome : Parsed → Type 0
-  RepeatOutcome y = Outcome y (NoneTaken file i t t'' y ⊎ FactorTaken file i depth u t t'' y) (FactorRefused file i depth u y)
-
-  repeat_item : ItemTaken file i depth u t t' x → repeating (command_at file x.at) ≡ true → Linked x.last x.first t'.next next
-      → FactorTaken file i depth u t t'' (again_by x)
+module _ (file : List ℕ) (i depth u : ℕ) (t t' t'' : Tables) (x : Parsed) (k : ItemTaken file i depth u t t' x) where
+  repeat_item : repeating (command_at file x.at) ≡ true → Linked x.last x.first t' t'' → FactorTaken file i depth u t t'' (again_by x)
   unfolding after_part
-  repeat_item k e l =
+  repeat_item e l =
       record {
         item = repeat k.item;
         names = k.names;
         again = false;
         taken = record {
-          read = read_again (suc u) k.item k.names t t' x k.taken.read next l;
+          read = read_again (suc u) k.item k.names t t' x k.taken.read t'' l;
           begins = k.taken.begins;
           moves = omega (arith, k.taken.moves);
           scans = λ around m before b la lb. k.taken.scans around m before b la lb
@@ -217,26 +151,10 @@ module _ (file : List ℕ) (i depth u : ℕ) (t t' : Tables) (x : Parsed) (next 
         no_repeat = λ a. never a;
       }
 
-  plain_item : ItemTaken file i depth u t t' x → repeating (command_at file x.at) ≡ false → next ≡ t'.next → FactorTaken file i depth u t t'' x
-  plain_item k e s =
-      subst (λ (n : List ℕ). FactorTaken file i depth u t (tables n t'.types t'.places) x) (sym s)
-      (record { item = k.item; names = k.names; again = true; taken = k.taken; no_repeat = λ a. e })
-
-  pub repeat_says : Outcome x (ItemTaken file i depth u t t' x) (FactorRefused file i depth u x) → (y : Parsed)
-      → RepeatSays file x t'.next next y → RepeatOutcome y
-  repeat_says (goes_well z k) y (repeats_it z' e r l) = subst RepeatOutcome (sym r) (goes_well refl (inr (repeat_item k e l)))
-  repeat_says (goes_well z k) y (stays_so e r s) = subst RepeatOutcome (sym r) (goes_well z (inr (plain_item k (e z) s)))
-  repeat_says (is_refused n k) y (repeats_it z' e r l) = absurd (n z')
-  repeat_says (is_refused n k) y (stays_so e r s) = subst RepeatOutcome (sym r) (is_refused n k)
-
-pub repeat_onward : (file : List ℕ) (x y : Parsed) (next next' : List ℕ) → RepeatSays file x next next' y → x.at ≤ y.at
-repeat_onward file x y next next' (repeats_it z e r l) = rw r (omega arith)
-repeat_onward file x y next next' (stays_so e r s) = rw r (omega arith)
-
-pub repeat_rows : (file : List ℕ) (x y : Parsed) (next next' : List ℕ) → length next ≡ most_states → RepeatSays file x next next' y
-    → length next' ≡ most_states
-repeat_rows file x y next next' h (repeats_it z e r l) = l.rows
-repeat_rows file x y next next' h (stays_so e r s) = rw s h
+  pub repeat_says : (y : Parsed) → RepeatSays file x t' t'' y → FactorTaken file i depth u t t'' y
+  repeat_says y (repeats_it e r l) = rw r (repeat_item e l)
+  repeat_says y (stays_so e r s) =
+      rw (r, s) (record { item = k.item; names = k.names; again = true; taken = k.taken; no_repeat = λ a. e })
 
 -- A sequence, factor by factor.
 module _ (file : List ℕ) (i depth u : ℕ) (t : Tables) where
@@ -246,6 +164,7 @@ module _ (file : List ℕ) (i depth u : ℕ) (t : Tables) where
         items = [];
         names = [];
         again = false;
+        onward = le_refl i;
         read = read_none u i t;
         no_repeat = λ a. never a;
         scans = λ around ss before la lb. refl;
@@ -255,14 +174,15 @@ module _ (file : List ℕ) (i depth u : ℕ) (t : Tables) where
     counted : (before : List Name) → length before ≡ u → length (k.names ++ before) ≡ x.uses
     counted before lb = omega (arith, length-append k.names before, k.read.named, k.read.count)
 
-    pub sequence_turn : (t₂ : Tables) (y : Parsed) (next : List ℕ) → FactorTaken file x.at depth x.uses t₁ t₂ y
-        → Linked x.last y.first t₂.next next → SequenceTaken file i depth u t (tables next t₂.types t₂.places) (then_by x y)
-    sequence_turn t₂ y next f l =
+    pub sequence_turn : (t₂ t₃ : Tables) (y : Parsed) → FactorTaken file x.at depth x.uses t₁ t₂ y
+        → Linked x.last y.first t₂ t₃ → SequenceTaken file i depth u t t₃ (then_by x y)
+    sequence_turn t₂ t₃ y f l =
         record {
           items = f.item ∷ k.items;
           names = f.names ++ k.names;
           again = f.again;
-          read = read_then (suc u) (sequence_of k.items) f.item k.names f.names t t₁ t₂ x y k.read f.taken.read next l;
+          onward = omega (arith, k.onward, f.taken.moves);
+          read = read_then (suc u) (sequence_of k.items) f.item k.names f.names t t₁ t₂ x y k.read f.taken.read t₃ l;
           no_repeat = f.no_repeat;
           scans = λ around ss before la lb. k.scans around ss before la lb
               ∙ f.taken.scans around (level_of ss k.items) (k.names ++ before) k.again la (counted before lb)
@@ -270,57 +190,40 @@ module _ (file : List ℕ) (i depth u : ℕ) (t : Tables) where
               (sym (append_assoc f.names k.names before));
         }
 
-    pub sequence_refused : (y : Parsed) → FactorRefused file x.at depth x.uses y → SequenceRefused file i depth u y
-    sequence_refused y r around ss before la lb =
+    pub sequence_refused : (n p : ℕ) → FactorRefused file x.at depth x.uses n p → SequenceRefused file i depth u n p
+    sequence_refused n p r around ss before la lb =
         k.scans around ss before la lb ∙ r around (level_of ss k.items) (k.names ++ before) k.again la (counted before lb)
 
-    pub sequence_whole : (t₂ : Tables) (y : Parsed) → NoneTaken file x.at t₁ t₂ y → SequenceWhole file i depth u t t₂ x
-    sequence_whole t₂ y n =
-        record { taken = subst (λ (m : Tables). SequenceTaken file i depth u t m x) (sym n.same) k; opens_not = n.opens_not }
+    pub sequence_whole : (t₂ : Tables) → FactorRead file x.at depth x.uses t₁ t₂ None → SequenceWhole file i depth u t t₂ x
+    sequence_whole t₂ n = rw n.1 (record { taken = k; opens_not = n.0 })
 
-pub either_at : (x y z : Parsed) → z ≡ either_by x y → z.at ≡ y.at
-either_at x y z e = ap (λ (w : Parsed). w.at) e ∙ go (eqb y.number 0)
-  where
-    go : (b : Bool) → (cond b (or_by x y) y).at ≡ y.at
-    go true = refl
-    go false = refl
-
-either_none : (i u : ℕ) (y : Parsed) → either_by (parsed i u false 0 0) y ≡ y
-either_none i u y = go (ℕ_discrete y.number 0)
-  where
-    go : Dec (y.number ≡ 0) → either_by (parsed i u false 0 0) y ≡ y
-    go (yes z) = rw (eq-eqb y.number 0 z) (λ k. record {
-      number = sym z k;
+either_none : (i u : ℕ) (y : Parsed) → or_by (parsed i u false 0 0) y ≡ y
+either_none i u y k =
+    record {
       at = y.at;
-      uses = y.uses;
-      nullable = y.nullable;
       first = or_zero_l y.first k;
       last = or_zero_l y.last k;
-    })
-    go (no n) = rw (ne_eqb y.number 0 n)
+      uses = y.uses;
+      nullable = y.nullable;
+    }
 
 -- A choice, sequence by sequence.
 module _ (file : List ℕ) (i depth u : ℕ) (t : Tables) where
-  first_sequence : (t₁ : Tables) (x : Parsed) → Outcome x (SequenceWhole file i depth u t t₁ x) (SequenceRefused file i depth u x)
-      → Outcome x (ChoiceTaken file i depth u t t₁ x) (ChoiceRefused file i depth u x)
-  first_sequence t₁ x (goes_well z s) =
+  first_sequence : (t₁ : Tables) (x : Parsed) → SequenceWhole file i depth u t t₁ x → ChoiceTaken file i depth u t t₁ x
+  first_sequence t₁ x s =
       let k = s.taken in
-      goes_well z
-      (record {
+      record {
         level = level_of [] k.items;
         names = k.names;
         again = k.again;
+        onward = k.onward;
         read = k.read;
         no_repeat = k.no_repeat;
         opens_not = s.opens_not;
         scans = λ around before la lb. k.scans around [] before la lb;
-      })
-  first_sequence t₁ x (is_refused n r) = is_refused n (λ around before la lb. r around [] before la lb)
+      }
 
-  pub choice_start : (t₁ : Tables) (x : Parsed) → SequenceSays file i depth u t t₁ x → ChoiceSoFar file i depth u t t₁ x
-  choice_start t₁ x s = record { onward = s.onward; rows = s.rows; says = first_sequence t₁ x s.says }
-
-  module _ (t₁ t₂ : Tables) (x y : Parsed) (k : ChoiceTaken file i depth u t t₁ x) (c : command_at file x.at ≡ Some (AnExpression Or)) where
+  module _ (t₁ : Tables) (x : Parsed) (k : ChoiceTaken file i depth u t t₁ x) (c : command_at file x.at ≡ Some (AnExpression Or)) where
     abbrev divided : List Expression
     divided = sequence_of k.level.factors ∷ k.level.sequences
 
@@ -333,13 +236,15 @@ module _ (file : List ℕ) (i depth u : ℕ) (t : Tables) where
     counted_too : (before : List Name) → length before ≡ u → length (k.names ++ before) ≡ x.uses
     counted_too before lb = omega (arith, length-append k.names before, k.read.named, k.read.count)
 
-    next_sequence : SequenceWhole file (x.at + 1) depth x.uses t₁ t₂ y → ChoiceTaken file i depth u t t₂ (or_by x y)
-    next_sequence s =
+    next_sequence : (t₂ : Tables) (y : Parsed) → SequenceWhole file (x.at + 1) depth x.uses t₁ t₂ y
+        → ChoiceTaken file i depth u t t₂ (or_by x y)
+    next_sequence t₂ y s =
         let m = s.taken in
         record {
           level = level_of divided m.items;
           names = m.names ++ k.names;
           again = m.again;
+          onward = omega (arith, k.onward, m.onward);
           read = read_or (suc u) (choice_of k.level) (sequence_of m.items) k.names m.names t t₁ t₂ x y k.read m.read;
           no_repeat = m.no_repeat;
           opens_not = s.opens_not;
@@ -349,83 +254,23 @@ module _ (file : List ℕ) (i depth u : ℕ) (t : Tables) where
               (sym (append_assoc m.names k.names before));
         }
 
-    abbrev EitherOutcome : Parsed → Type 0
-    EitherOutcome z = Outcome z (ChoiceTaken file i depth u t t₂ z) (ChoiceRefused file i depth u z)
+    next_refused : (n p : ℕ) → SequenceRefused file (x.at + 1) depth x.uses n p → ChoiceRefused file i depth u n p
+    next_refused n p r around before la lb =
+        divides_there around before la lb ∙ r around divided (k.names ++ before) la (counted_too before lb)
 
-    next_either : Outcome y (SequenceWhole file (x.at + 1) depth x.uses t₁ t₂ y) (SequenceRefused file (x.at + 1) depth x.uses y)
-        → EitherOutcome (either_by x y)
-    next_either (goes_well z s) =
-        let r : either_by x y ≡ or_by x y = rw (eq-eqb y.number 0 z) in
-        subst EitherOutcome (sym r) (goes_well refl (next_sequence s))
-    next_either (is_refused n r) =
-        let e : either_by x y ≡ y = rw (ne_eqb y.number 0 n) in
-        subst EitherOutcome (sym e)
-        (is_refused n (λ around before la lb. divides_there around before la lb ∙ r around divided (k.names ++ before) la (counted_too before lb)))
+  -- one sequence more, from where it begins
+  module _ (t₁ : Tables) (x : Parsed) (from : ℕ) where
+    pub choice_turn : NextSequence file i depth u t t₁ x from → (t₂ : Tables) (y : Parsed) → SequenceWhole file from depth x.uses t₁ t₂ y
+        → ChoiceTaken file i depth u t t₂ (or_by x y)
+    choice_turn (begins_choice p q r) t₂ y s =
+        let counted : x.uses ≡ u = ap (λ (w : Parsed). w.uses) p in
+        rw (p, either_none i u y) (first_sequence t₂ y (rw (r, counted, q) at s))
+    choice_turn (behind_33 k c r) t₂ y s = next_sequence t₁ x k c t₂ y (rw r at s)
 
-  -- one sequence more
-  pub choice_turn : (t₁ t₂ : Tables) (x y z : Parsed) (from : ℕ) → i ≤ from → NextSequence file i depth u t t₁ x from
-      → SequenceSays file from depth x.uses t₁ t₂ y → z ≡ either_by x y → ChoiceSoFar file i depth u t t₂ z
-  choice_turn t₁ t₂ x y z from l (begins_choice p q r) s e =
-      let same : z ≡ y = e ∙ ap (λ (w : Parsed). either_by w y) p ∙ either_none i u y in
-      let counted : x.uses ≡ u = ap (λ (w : Parsed). w.uses) p in
-      subst (ChoiceSoFar file i depth u t t₂) (sym same) (choice_start t₂ y (rw (r, counted, q) at s))
-  choice_turn t₁ t₂ x y z from l (behind_33 k c r) s e =
-      record {
-        onward = omega (arith, either_at x y z e, s.onward);
-        rows = s.rows;
-        says = subst (λ (w : Parsed). Outcome w (ChoiceTaken file i depth u t t₂ w) (ChoiceRefused file i depth u w)) (sym e)
-            (next_either t₁ t₂ x y k c (rw r at s.says));
-      }
-
-  no_more : (t₁ : Tables) (x : Parsed) → (eqb x.number 0 && dividing (command_at file x.at)) ≡ false
-      → Outcome x (ChoiceTaken file i depth u t t₁ x) (ChoiceRefused file i depth u x)
-      → Outcome x (ChoiceWhole file i depth u t t₁ x) (ChoiceRefused file i depth u x)
-  no_more t₁ x e (goes_well z k) = goes_well z (record { taken = k; divides_not = rw (eq-eqb x.number 0 z) at e })
-  no_more t₁ x e (is_refused n r) = is_refused n r
-
-  pub choice_end : (t₁ : Tables) (x : Parsed) → (eqb x.number 0 && dividing (command_at file x.at)) ≡ false
-      → ChoiceSoFar file i depth u t t₁ x → ChoiceSays file i depth u t t₁ x
-  choice_end t₁ x e k = record { onward = k.onward; rows = k.rows; says = no_more t₁ x e k.says }
-
--- another sequence follows: nothing is refused, and the command is 33
-pub follows_on : (file : List ℕ) (i n : ℕ) (b : Bool) → b ≡ (eqb n 0 && dividing (command_at file i)) → b ≡ true
-    → (n ≡ 0) × (command_at file i ≡ Some (AnExpression Or))
-follows_on file i n b e h = go (eqb n 0) refl (sym e ∙ h)
-  where
-    go : (a : Bool) → eqb n 0 ≡ a → (a && dividing (command_at file i)) ≡ true → (n ≡ 0) × (command_at file i ≡ Some (AnExpression Or))
-    go true p q = (eqb→eq n 0 (subst T (sym p) tt), is_or_lem (command_at file i) q)
-    go false p q = never q
-
--- What `factor` says, by what begins there.
-module _ (file : List ℕ) (i depth u : ℕ) (t : Tables) where
-  pub factor_none : (x : Parsed) → opening (command_at file i) ≡ NoFactor → length t.next ≡ most_states → x ≡ parsed i u true 0 0
-      → FactorSays file i depth u t t x
-  factor_none x o r e =
-      subst (FactorSays file i depth u t t) (sym e)
-      (record { onward = le_refl i; rows = r; says = goes_well refl (inl (record { stays = refl; opens_not = o; same = refl })) })
-
-  pub factor_too_deep : (x : Parsed) → command_at file i ≡ Some (AnExpression OpenBracket) → most_brackets ≤ depth → length t.next ≡ most_states
-      → x ≡ refused_at 23 i → FactorSays file i depth u t t x
-  factor_too_deep x c d r e =
-      subst (FactorSays file i depth u t t) (sym e)
-      (record { onward = le_refl i; rows = r; says = is_refused (λ z. omega arith) (bracket_refused file i depth u c d) })
-
-  pub factor_use : (j : TypeNo) (types places : List ℕ) (x : Parsed) (next : List ℕ) (y : Parsed) → command_at file i ≡ Some (AnExpression (Use j))
-      → length t.next ≡ most_states → UseSays i j.0 u t.types types t.places places x → RepeatSays file x t.next next y
-      → FactorSays file i depth u t (tables next types places) y
-  factor_use j types places x next y c r s k =
-      record {
-        onward = le_trans (use_onward i j.0 u x s.result) (repeat_onward file x y t.next next k);
-        rows = repeat_rows file x y t.next next r k;
-        says = repeat_says file i depth u t (tables t.next types places) x next (use_says file i depth u j t types places c x s) y k;
-      }
-
-  pub factor_bracket : (t' : Tables) (x y : Parsed) (next : List ℕ) (z : Parsed) → command_at file i ≡ Some (AnExpression OpenBracket)
-      → depth < most_brackets → ChoiceSays file (i + 1) (depth + 1) u t t' x → y ≡ bracket_by (command_at file x.at) x
-      → RepeatSays file y t'.next next z → FactorSays file i depth u t (tables next t'.types t'.places) z
-  factor_bracket t' x y next z c d s e k =
-      record {
-        onward = omega (arith, s.onward, bracket_onward file x y e, repeat_onward file y z t'.next next k);
-        rows = repeat_rows file y z t'.next next s.rows k;
-        says = repeat_says file i depth u t t' y next (bracket_says file i depth u c d t t' x s y e) z k;
-      }
+    pub choice_refused : NextSequence file i depth u t t₁ x from → (n p : ℕ) → SequenceRefused file from depth x.uses n p
+        → ChoiceRefused file i depth u n p
+    choice_refused (begins_choice a b r) n p s =
+        let counted : x.uses ≡ u = ap (λ (w : Parsed). w.uses) a in
+        let first : SequenceRefused file i depth u n p = rw (r, counted) at s in
+        λ around before la lb. first around [] before la lb
+    choice_refused (behind_33 k c r) n p s = next_refused t₁ x k c n p (rw r at s)

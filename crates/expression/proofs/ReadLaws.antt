@@ -11,8 +11,9 @@ use Rattle.expression.specs.Automaton.{uses}
 use Rattle.expression.specs.Content.{Name}
 use Rattle.expression.specs.Expression.{Expression, empty_word, single, sequence, choice, repeat}
 use Rattle.expression.specs.Tests.{first, last, follow}
-use Rattle.expression.specs.Parsing.{put_back, Tables, tables, parsed, then_by, or_by, closed_by, again_by, Linked, ReadAs}
-use Rattle.expression.specs.declared.sets.Parsed.{Parsed}
+use Rattle.expression.specs.Parsing.{put_back, tables, parsed, use_parsed, then_by, or_by, closed_by, again_by, Linked, ReadAs}
+use Rattle.expression.specs.declared.parsed.Parsed.{Parsed}
+use Rattle.expression.specs.declared.tables.Tables.{Tables}
 use Rattle.expression.proofs.SetLaws.{member_zero, member_or, member-beyond, member_own}
 
 -- what is put into a table in two parts
@@ -55,12 +56,10 @@ read_none u at t =
 abbrev pub own_name : ℕ → ℕ → Name
 own_name j i = record { type = j; place = i }
 
-pub read_one : (u j i : ℕ) (t : Tables) (types places : List ℕ) → suc u < most_states → types ≡ set t.types (u + 1) j
-    → places ≡ set t.places (u + 1) i
-    → ReadAs (suc u) (single j) (own_name j i ∷ []) t (tables t.next types places)
-    (parsed (i + 2) (u + 1) false (insert (u + 1) no_states) (insert (u + 1) no_states))
+pub read_one : (u j i : ℕ) (t : Tables) → suc u < most_states
+    → ReadAs (suc u) (single j) (own_name j i ∷ []) t (tables t.next (set t.types (u + 1) j) (set t.places (u + 1) i)) (use_parsed i u)
 unfolding put_back
-read_one u j i t types places l a b =
+read_one u j i t l =
     let e : u + 1 ≡ suc u = omega arith in
     let z : u + 1 ≡ suc u + 0 = omega arith in
     let own : (q : ℕ) → member q (insert (u + 1) no_states) ≡ first (suc u) (single j) q = λ q. rw e (member_own (suc u) q l) in
@@ -72,8 +71,8 @@ read_one u j i t types places l a b =
       lasts = own;
       below = λ h. h;
       follows = λ p q. sym (or-false _);
-      types_put = a ∙ ap (λ (k : ℕ). set t.types k j) z;
-      places_put = b ∙ ap (λ (k : ℕ). set t.places k i) z;
+      types_put = ap (λ (k : ℕ). set t.types k j) z;
+      places_put = ap (λ (k : ℕ). set t.places k i) z;
     }
 
 module _ (n : ℕ) (e f : Expression) (names more : List Name) (t t₁ t₂ : Tables) (x y : Parsed) (r : ReadAs n e names t t₁ x)
@@ -93,9 +92,8 @@ module _ (n : ℕ) (e f : Expression) (names more : List Name) (t t₁ t₂ : Ta
       s.follows p q ∙ ap₂ (λ (a b : Bool). a || b) (r.follows p q) (ap (λ (k : ℕ). follow k f p q) r.count)
 
   -- one factor more, linked with what comes before
-  pub read_then : (next : List ℕ) → Linked x.last y.first t₂.next next
-      → ReadAs n (sequence e f) (more ++ names) t (tables next t₂.types t₂.places) (then_by x y)
-  read_then next k =
+  pub read_then : (t₃ : Tables) → Linked x.last y.first t₂ t₃ → ReadAs n (sequence e f) (more ++ names) t t₃ (then_by x y)
+  read_then t₃ k =
       record {
         count = omega (arith, r.count, s.count);
         named = omega (arith, length-append more names, r.named, s.named);
@@ -108,8 +106,8 @@ module _ (n : ℕ) (e f : Expression) (names more : List Name) (t t₁ t₂ : Ta
         follows = λ p q. k.each p q
             ∙ ap₂ (λ (a b : Bool). a || b) (follows_both p q) (ap₂ (λ (a b : Bool). a && b) (r.lasts p) (firsts_behind q))
             ∙ or_most (member q (get_or t.next p 0)) (follow n e p q) (follow (n + uses e) f p q) (last n e p && first (n + uses e) f q);
-        types_put = put_more (λ c. c.type) n (suc x.uses) names more _ _ _ behind r.types_put s.types_put;
-        places_put = put_more (λ c. c.place) n (suc x.uses) names more _ _ _ behind r.places_put s.places_put;
+        types_put = k.types ∙ put_more (λ c. c.type) n (suc x.uses) names more _ _ _ behind r.types_put s.types_put;
+        places_put = k.places ∙ put_more (λ c. c.place) n (suc x.uses) names more _ _ _ behind r.places_put s.places_put;
       }
 
   -- one of two
@@ -144,9 +142,8 @@ module _ (n : ℕ) (e : Expression) (names : List Name) (t t₁ : Tables) (x : P
       }
 
   -- a repeat, linked with itself
-  pub read_again : (next : List ℕ) → Linked x.last x.first t₁.next next
-      → ReadAs n (repeat e) names t (tables next t₁.types t₁.places) (again_by x)
-  read_again next k =
+  pub read_again : (t₂ : Tables) → Linked x.last x.first t₁ t₂ → ReadAs n (repeat e) names t t₂ (again_by x)
+  read_again t₂ k =
       record {
         count = r.count;
         named = r.named;
@@ -157,6 +154,6 @@ module _ (n : ℕ) (e : Expression) (names : List Name) (t t₁ : Tables) (x : P
         follows = λ p q. k.each p q
             ∙ ap₂ (λ (a b : Bool). a || b) (r.follows p q) (ap₂ (λ (a b : Bool). a && b) (r.lasts p) (r.firsts q))
             ∙ or_more (member q (get_or t.next p 0)) (follow n e p q) (last n e p && first n e q);
-        types_put = r.types_put;
-        places_put = r.places_put;
+        types_put = k.types ∙ r.types_put;
+        places_put = k.places ∙ r.places_put;
       }

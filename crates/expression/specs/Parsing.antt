@@ -1,7 +1,10 @@
 -- What the private steps of the parsers compute. No public promise cites it.
-use Rattle.std.specs.Prelude.{◌≡◌, ◌⊎◌, Bool, true, false, cond, Option, Some, None, ◌&&◌, ◌||◌, List, [], ◌∷◌, ◌++◌, map, ℕ, suc, ◌+◌, ◌^◌, ◌≤◌, ◌<◌, eqb, ltb, length, get_or, set}
+use Rattle.std.specs.Prelude.{◌≡◌, Bool, true, false, cond, Option, Some, None, Result, Ok, Err, OnOk, ◌&&◌, ◌||◌, List, [], ◌∷◌, ◌++◌, map, ℕ, suc, ◌+◌, ◌^◌, ◌≤◌, ◌<◌, ltb, length, replicate, get_or, set}
 use Rattle.std.specs.Int.Bits.{bit_or}
 use Rattle.sdtd.specs.Limits.{most_types, most_states}
+use Rattle.sdtd.specs.Answer.{question_number}
+use Rattle.sdtd.specs.declared.Refusal.{Refusal}
+use Rattle.sdtd.specs.declared.Refused.TheVariants.{OutOfRange, TooManyUses}
 use Rattle.schema.specs.States.{member, insert, no_states}
 use Rattle.command.specs.Cases.{on_expression}
 use Rattle.command.specs.Command.{command_at}
@@ -14,21 +17,28 @@ use Rattle.expression.specs.Content.{Level, no_level, sequence_of, choice_of, Na
 use Rattle.expression.specs.Expression.{Expression}
 use Rattle.expression.specs.Limits.{most_uses}
 use Rattle.expression.specs.Tests.{nullable, first, last, follow}
-use Rattle.expression.specs.declared.parts.Opening.{Opening}
-use Rattle.expression.specs.declared.parts.Opening.TheVariants.{OneType, Bracket, NoFactor}
-use Rattle.expression.specs.declared.sets.Parsed.{Parsed}
+use Rattle.expression.specs.declared.parsed.Parsed.{Parsed}
+use Rattle.expression.specs.declared.parts.Factor.{Factor}
+use Rattle.expression.specs.declared.parts.Factor.TheVariants.{OneType, Bracket}
+use Rattle.expression.specs.declared.tables.Tables.{Tables}
 
--- what a command begins
-abbrev pub part_opens : Part → Opening
-part_opens OpenBracket = Bracket
-part_opens CloseBracket = NoFactor
-part_opens (Use j) = OneType j
-part_opens Or = NoFactor
-part_opens Repeat = NoFactor
-part_opens End = NoFactor
+-- it begins a factor
+abbrev pub is_first : Part → Bool
+is_first OpenBracket = true
+is_first CloseBracket = false
+is_first (Use j) = true
+is_first Or = false
+is_first Repeat = false
+is_first End = false
 
-abbrev pub opening : Option Command → Opening
-opening c = on_part part_opens NoFactor c
+abbrev pub beginning : Option Command → Bool
+beginning c = on_part is_first false c
+
+-- what it begins, if it begins a factor
+abbrev pub Opens : Option Command → Option Factor → Type 0
+Opens c None = beginning c ≡ false
+Opens c (Some (OneType j)) = c ≡ Some (AnExpression (Use j))
+Opens c (Some Bracket) = c ≡ Some (AnExpression OpenBracket)
 
 -- it is 33; it is 34
 abbrev pub is_or : Part → Bool
@@ -82,21 +92,15 @@ unfoldable pub put_back : ℕ → List ℕ → List ℕ → List ℕ
 put_back n [] t = t
 put_back n (x ∷ xs) t = set (put_back n xs t) (n + length xs) x
 
--- the tables that the parsers fill
-pub record Tables : Type 0 where
-  pub next : List ℕ
-  pub types : List ℕ
-  pub places : List ℕ
-
 abbrev pub tables : List ℕ → List ℕ → List ℕ → Tables
 tables next types places = record { next = next; types = types; places = places }
 
--- parsed with no refusal
-abbrev pub parsed : ℕ → ℕ → Bool → ℕ → ℕ → Parsed
-parsed at uses nullable first last = record { number = 0; at = at; uses = uses; nullable = nullable; first = first; last = last }
+-- with no use
+abbrev pub no_tables : Tables
+no_tables = let zeros : List ℕ = replicate most_states 0 in tables zeros zeros zeros
 
-abbrev pub refused_at : ℕ → ℕ → Parsed
-refused_at n at = record { number = n; at = at; uses = 0; nullable = false; first = 0; last = 0 }
+abbrev pub parsed : ℕ → ℕ → Bool → ℕ → ℕ → Parsed
+parsed at uses nullable first last = record { at = at; first = first; last = last; uses = uses; nullable = nullable }
 
 -- the set, where the part is nullable with what lies beyond it
 abbrev pub beyond : Bool → ℕ → ℕ → ℕ
@@ -117,10 +121,11 @@ abbrev pub again_by : Parsed → Parsed
 again_by x = parsed (x.at + 1) x.uses true x.first x.last
 
 -- the row of each state of `last` has the states of `first` too; the others are as before
-pub record Linked (last first : ℕ) (next next' : List ℕ) : Type 0 where
-  pub rows : length next' ≡ most_states
-  pub below : ((k : ℕ) → get_or next k 0 < 2 ^ most_states) → (k : ℕ) → get_or next' k 0 < 2 ^ most_states
-  pub each : (p q : ℕ) → member q (get_or next' p 0) ≡ (member q (get_or next p 0) || (member p last && member q first))
+pub record Linked (last first : ℕ) (t t' : Tables) : Type 0 where
+  pub below : ((k : ℕ) → get_or t.next k 0 < 2 ^ most_states) → (k : ℕ) → get_or t'.next k 0 < 2 ^ most_states
+  pub each : (p q : ℕ) → member q (get_or t'.next p 0) ≡ (member q (get_or t.next p 0) || (member p last && member q first))
+  pub types : t'.types ≡ t.types
+  pub places : t'.places ≡ t.places
 
 -- What is parsed is the expression e, its uses numbered from n on, and `names` is what they name, the last first.
 pub record ReadAs (n : ℕ) (e : Expression) (names : List Name) (t t' : Tables) (x : Parsed) : Type 0 where
@@ -138,10 +143,10 @@ pub record ReadAs (n : ℕ) (e : Expression) (names : List Name) (t t' : Tables)
 abbrev pub NoRepeat : List ℕ → Bool → ℕ → Type 0
 NoRepeat file again i = again ≡ true → repeating (command_at file i) ≡ false
 
--- what is parsed, or the refusal
-pub data Outcome (x : Parsed) (A B : Type 0) : Type 0 where
-  goes_well : x.number ≡ 0 → A → Outcome x A B
-  is_refused : ¬ (x.number ≡ 0) → B → Outcome x A B
+-- what holds of what is parsed, or of the refusal's number and place
+abbrev pub Outcome : {A : Type 0} → (A → Type 0) → (ℕ → ℕ → Type 0) → Result A Refusal → Type 0
+Outcome P Q (Ok x) = P x
+Outcome P Q (Err e) = Q (question_number e.why) e.place
 
 -- The factor e is read from the place i on, with `depth` brackets open and u uses before.
 pub record Item (file : List ℕ) (i depth u : ℕ) (e : Expression) (names : List Name) (again : Bool) (t t' : Tables) (x : Parsed) : Type 0 where
@@ -159,27 +164,25 @@ pub record FactorTaken (file : List ℕ) (i depth u : ℕ) (t t' : Tables) (x : 
   pub no_repeat : NoRepeat file again x.at
 
 -- whatever is read before, the content is refused
-abbrev pub FactorRefused : List ℕ → ℕ → ℕ → ℕ → Parsed → Type 0
-FactorRefused file i depth u x =
+abbrev pub FactorRefused : List ℕ → ℕ → ℕ → ℕ → ℕ → ℕ → Type 0
+FactorRefused file i depth u n p =
     (around : List Level) (l : Level) (before : List Name) (b : Bool) → length around ≡ depth → length before ≡ u
-    → scan file i (so_far around l before b) ≡ broken x.number x.at
+    → scan file i (so_far around l before b) ≡ broken n p
 
--- no factor begins at the place
-pub record NoneTaken (file : List ℕ) (i : ℕ) (t t' : Tables) (x : Parsed) : Type 0 where
-  pub stays : x.at ≡ i
-  pub opens_not : opening (command_at file i) ≡ NoFactor
-  pub same : t' ≡ t
+-- a factor, or that none begins at the place
+abbrev pub FactorRead : List ℕ → ℕ → ℕ → ℕ → Tables → Tables → Option Parsed → Type 0
+FactorRead file i depth u t t' None = (beginning (command_at file i) ≡ false) × (t' ≡ t)
+FactorRead file i depth u t t' (Some x) = FactorTaken file i depth u t t' x
 
-pub record FactorSays (file : List ℕ) (i depth u : ℕ) (t t' : Tables) (x : Parsed) : Type 0 where
-  pub onward : i ≤ x.at
-  pub rows : length t'.next ≡ most_states
-  pub says : Outcome x (NoneTaken file i t t' x ⊎ FactorTaken file i depth u t t' x) (FactorRefused file i depth u x)
+abbrev pub FactorSays : List ℕ → ℕ → ℕ → ℕ → Tables → Tables → Result (Option Parsed) Refusal → Type 0
+FactorSays file i depth u t t' r = Outcome (FactorRead file i depth u t t') (FactorRefused file i depth u) r
 
 -- The factors of a sequence.
 pub record SequenceTaken (file : List ℕ) (i depth u : ℕ) (t t' : Tables) (x : Parsed) : Type 0 where
   pub items : List Expression
   pub names : List Name
   pub again : Bool
+  pub onward : i ≤ x.at
   pub read : ReadAs (suc u) (sequence_of items) names t t' x
   pub no_repeat : NoRepeat file again x.at
   pub scans : (around : List Level) (ss : List Expression) (before : List Name) → length around ≡ depth → length before ≡ u
@@ -187,26 +190,25 @@ pub record SequenceTaken (file : List ℕ) (i depth u : ℕ) (t t' : Tables) (x 
 
 pub record SequenceWhole (file : List ℕ) (i depth u : ℕ) (t t' : Tables) (x : Parsed) : Type 0 where
   pub taken : SequenceTaken file i depth u t t' x
-  pub opens_not : opening (command_at file x.at) ≡ NoFactor
+  pub opens_not : beginning (command_at file x.at) ≡ false
 
-abbrev pub SequenceRefused : List ℕ → ℕ → ℕ → ℕ → Parsed → Type 0
-SequenceRefused file i depth u x =
+abbrev pub SequenceRefused : List ℕ → ℕ → ℕ → ℕ → ℕ → ℕ → Type 0
+SequenceRefused file i depth u n p =
     (around : List Level) (ss : List Expression) (before : List Name) → length around ≡ depth → length before ≡ u
-    → scan file i (so_far around (level_of ss []) before false) ≡ broken x.number x.at
+    → scan file i (so_far around (level_of ss []) before false) ≡ broken n p
 
-pub record SequenceSays (file : List ℕ) (i depth u : ℕ) (t t' : Tables) (x : Parsed) : Type 0 where
-  pub onward : i ≤ x.at
-  pub rows : length t'.next ≡ most_states
-  pub says : Outcome x (SequenceWhole file i depth u t t' x) (SequenceRefused file i depth u x)
+abbrev pub SequenceSays : List ℕ → ℕ → ℕ → ℕ → Tables → Tables → Result Parsed Refusal → Type 0
+SequenceSays file i depth u t t' r = Outcome (SequenceWhole file i depth u t t') (SequenceRefused file i depth u) r
 
 -- The sequences of a choice.
 pub record ChoiceTaken (file : List ℕ) (i depth u : ℕ) (t t' : Tables) (x : Parsed) : Type 0 where
   pub level : Level
   pub names : List Name
   pub again : Bool
+  pub onward : i ≤ x.at
   pub read : ReadAs (suc u) (choice_of level) names t t' x
   pub no_repeat : NoRepeat file again x.at
-  pub opens_not : opening (command_at file x.at) ≡ NoFactor
+  pub opens_not : beginning (command_at file x.at) ≡ false
   pub scans : (around : List Level) (before : List Name) → length around ≡ depth → length before ≡ u
       → scan file i (so_far around no_level before false) ≡ scan file x.at (so_far around level (names ++ before) again)
 
@@ -214,10 +216,10 @@ pub record ChoiceWhole (file : List ℕ) (i depth u : ℕ) (t t' : Tables) (x : 
   pub taken : ChoiceTaken file i depth u t t' x
   pub divides_not : dividing (command_at file x.at) ≡ false
 
-abbrev pub ChoiceRefused : List ℕ → ℕ → ℕ → ℕ → Parsed → Type 0
-ChoiceRefused file i depth u x =
+abbrev pub ChoiceRefused : List ℕ → ℕ → ℕ → ℕ → ℕ → ℕ → Type 0
+ChoiceRefused file i depth u n p =
     (around : List Level) (before : List Name) → length around ≡ depth → length before ≡ u
-    → scan file i (so_far around no_level before false) ≡ broken x.number x.at
+    → scan file i (so_far around no_level before false) ≡ broken n p
 
 -- where the next sequence of a choice begins: at its beginning, with nothing read, or behind a 33
 pub data NextSequence (file : List ℕ) (i depth u : ℕ) (t t' : Tables) (x : Parsed) (from : ℕ) : Type 0 where
@@ -225,34 +227,28 @@ pub data NextSequence (file : List ℕ) (i depth u : ℕ) (t t' : Tables) (x : P
   behind_33 : ChoiceTaken file i depth u t t' x → command_at file x.at ≡ Some (AnExpression Or) → from ≡ x.at + 1
       → NextSequence file i depth u t t' x from
 
--- what is read of the whole choice
-pub record ChoiceSays (file : List ℕ) (i depth u : ℕ) (t t' : Tables) (x : Parsed) : Type 0 where
-  pub onward : i ≤ x.at
-  pub rows : length t'.next ≡ most_states
-  pub says : Outcome x (ChoiceWhole file i depth u t t' x) (ChoiceRefused file i depth u x)
+abbrev pub ChoiceSays : List ℕ → ℕ → ℕ → ℕ → Tables → Tables → Result Parsed Refusal → Type 0
+ChoiceSays file i depth u t t' r = Outcome (ChoiceWhole file i depth u t t') (ChoiceRefused file i depth u) r
 
 -- one use, by its type and the number of uses before
-abbrev pub one_use : ℕ → ℕ → ℕ → Parsed
+abbrev pub use_parsed : ℕ → ℕ → Parsed
+use_parsed at u = parsed (at + 2) (u + 1) false (insert (u + 1) no_states) (insert (u + 1) no_states)
+
+abbrev pub one_use : ℕ → ℕ → ℕ → Result Parsed Refusal
 one_use at j u =
     cond (ltb j most_types)
-    (cond (ltb u most_uses) (parsed (at + 2) (u + 1) false (insert (u + 1) no_states) (insert (u + 1) no_states)) (refused_at 22 at))
-    (refused_at 4 at)
+    (cond (ltb u most_uses) (Ok (use_parsed at u)) (Err (record { why = TooManyUses; place = at })))
+    (Err (record { why = OutOfRange; place = at }))
 
-pub record UseSays (at j u : ℕ) (types types' places places' : List ℕ) (x : Parsed) : Type 0 where
-  pub result : x ≡ one_use at j u
-  pub types_set : x.number ≡ 0 → types' ≡ set types (u + 1) j
-  pub places_set : x.number ≡ 0 → places' ≡ set places (u + 1) at
-
--- one of two, or the refusal of the second
-abbrev pub either_by : Parsed → Parsed → Parsed
-either_by x y = cond (eqb y.number 0) (or_by x y) y
+abbrev pub UseSays : ℕ → ℕ → ℕ → Tables → Tables → Result Parsed Refusal → Type 0
+UseSays at j u t t' r = (r ≡ one_use at j u) × OnOk r (t' ≡ tables t.next (set t.types (u + 1) j) (set t.places (u + 1) at))
 
 -- the choice in a bracket, judged by the command behind it
-abbrev pub bracket_by : Option Command → Parsed → Parsed
-bracket_by c x = cond (eqb x.number 0) (cond (eqb (ending true c) 0) (closed_by x) (refused_at (ending true c) x.at)) x
+abbrev pub BracketSays : Option Command → Parsed → Result Parsed Refusal → Type 0
+BracketSays c x (Ok y) = (ending true c ≡ 0) × (y ≡ closed_by x)
+BracketSays c x (Err e) = (question_number e.why ≡ ending true c) × (e.place ≡ x.at)
 
 -- a factor, and its 34 if the command behind it is one
-pub data RepeatSays (file : List ℕ) (x : Parsed) (next next' : List ℕ) (y : Parsed) : Type 0 where
-  repeats_it : x.number ≡ 0 → repeating (command_at file x.at) ≡ true → y ≡ again_by x → Linked x.last x.first next next'
-      → RepeatSays file x next next' y
-  stays_so : (x.number ≡ 0 → repeating (command_at file x.at) ≡ false) → y ≡ x → next' ≡ next → RepeatSays file x next next' y
+pub data RepeatSays (file : List ℕ) (x : Parsed) (t t' : Tables) (y : Parsed) : Type 0 where
+  repeats_it : repeating (command_at file x.at) ≡ true → y ≡ again_by x → Linked x.last x.first t t' → RepeatSays file x t t' y
+  stays_so : repeating (command_at file x.at) ≡ false → y ≡ x → t' ≡ t → RepeatSays file x t t' y

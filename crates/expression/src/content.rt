@@ -1,18 +1,20 @@
 // The automaton of an expression in a file.
-ghost use Rattle.std.specs.Prelude.{◌≡◌, cond};
-ghost use Rattle.sdtd.specs.Answer.{question_number};
+ghost use Rattle.std.specs.Prelude.{◌≡◌, cond, List, reverse};
 ghost use Rattle.schema.specs.States.{insert};
-ghost use Rattle.expression.specs.Answer.{NumberInside, ContentMeans};
-ghost use Rattle.expression.specs.Content.{content_at};
+ghost use Rattle.expression.specs.Answer.{automaton_read, ContentMeans};
+ghost use Rattle.expression.specs.Content.{Name, content_at};
+ghost use Rattle.expression.specs.Expression.{Expression};
+ghost use Rattle.expression.specs.Parsing.{ReadAs, no_tables};
 
+use crate::parsed::Parsed;
 use crate::parsers::choice;
 use crate::parts::ends;
-use crate::sets::STATE_NUMBERS;
+use crate::tables::{STATE_NUMBERS, Tables};
 use command::command_at;
 use schema::StateSet;
-use sdtd::{Refusal, Refused};
+use sdtd::Refusal;
 
-// The automaton of the expression that begins at a place of the file, or why there is none.
+// The automaton of an expression.
 #[derive(Clone, Copy)]
 pub struct Automaton {
     // the place of the 3F
@@ -26,20 +28,6 @@ pub struct Automaton {
     pub places: [usize; STATE_NUMBERS],
 }
 
-// The question of a number of an expression.
-fn refused_by(number: u8) -> Refused
-    ensures { NumberInside number → question_number result ≡ number }
-{
-    match number {
-        2 => Refused::NoCommand,
-        3 => Refused::OutOfOrder,
-        4 => Refused::OutOfRange,
-        21 => Refused::CannotFollow,
-        22 => Refused::TooManyUses,
-        _ => Refused::TooManyBrackets,
-    }
-}
-
 // The set, with state 0 where the empty word is accepted.
 fn accepting_of(nullable: bool, last: u32) -> StateSet
     ensures { result.0 ≡ cond nullable (insert 0 last) last }
@@ -50,28 +38,39 @@ fn accepting_of(nullable: bool, last: u32) -> StateSet
     StateSet(last)
 }
 
-// The automaton of the expression that begins at a place of the file.
-pub fn read_content(file: &[u8], at: usize) -> Result<Automaton, Refusal>
-    ensures { ContentMeans (content_at file.now at) result }
+// The automaton of an expression that is read whole.
+fn automaton_of(read: Parsed, tables: Tables) -> Automaton
+    ensures { (e : Expression) (names : List Name) → ReadAs 1 e names no_tables tables read
+        → result ≡ automaton_read e (reverse names) read.at }
 {
-    let mut next = [StateSet::NONE.0; STATE_NUMBERS];
-    let mut types = [0u8; STATE_NUMBERS];
-    let mut places = [0usize; STATE_NUMBERS];
-    let read = choice(file, at, 0, 0, &mut next, &mut types, &mut places);
-    if read.number != 0 {
-        return Err(refused_by(read.number).at(read.at));
-    }
-    let number = ends(command_at(file, read.at), false);
-    if number != 0 {
-        return Err(refused_by(number).at(read.at));
-    }
+    let Tables {
+        mut next,
+        types,
+        places,
+    } = tables;
     next[0] = read.first;
-    Ok(Automaton {
+    Automaton {
         end: read.at,
         uses: read.uses,
         accepting: accepting_of(read.nullable, read.last),
         next,
         types,
         places,
-    })
+    }
+}
+
+// The automaton of the expression that begins at a place of the file.
+pub fn read_content(file: &[u8], at: usize) -> Result<Automaton, Refusal>
+    ensures { ContentMeans (content_at file.now at) result }
+{
+    let mut tables = Tables {
+        next: [StateSet::NONE.0; STATE_NUMBERS],
+        types: [0; STATE_NUMBERS],
+        places: [0; STATE_NUMBERS],
+    };
+    let read = choice(file, at, 0, 0, &mut tables)?;
+    if let Err(why) = ends(command_at(file, read.at), false) {
+        return Err(why.at(read.at));
+    }
+    Ok(automaton_of(read, tables))
 }

@@ -2,9 +2,10 @@
 #![tactic(auto)]
 
 mod content;
+mod parsed;
 mod parsers;
 mod parts;
-mod sets;
+mod tables;
 
 pub use content::{Automaton, read_content};
-pub use sets::STATE_NUMBERS;
+pub use tables::STATE_NUMBERS;

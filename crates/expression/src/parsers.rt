@@ -1,27 +1,43 @@
 // The parsers of choice, sequence and factor. Each takes the file and a place, the number of brackets open and of uses before, and the
-// tables by state or use: what follows each use, the type that it names and the place of its 32.
-ghost use Rattle.std.specs.Prelude.{◌≡◌, ◌&&◌, eqb, length};
-ghost use Rattle.sdtd.specs.Limits.{most_states};
+// tables.
+ghost use Rattle.std.specs.Prelude.{◌≡◌};
 ghost use Rattle.command.specs.Command.{command_at};
-ghost use Rattle.expression.specs.Parsing.{dividing, tables, ChoiceSays, SequenceSays, FactorSays};
+ghost use Rattle.expression.specs.Parsing.{BracketSays, RepeatSays, ChoiceSays, SequenceSays, FactorSays};
 
-use crate::parts::{Opening, divides, opens};
-use crate::sets::{
-    Parsed, STATE_NUMBERS, closed, either, followed, link, no_choice, nothing, one_use, refused,
-    repeated,
-};
+use crate::parsed::Parsed;
+use crate::parts::{Factor, divides, ends_bracket, opens, repeats};
+use crate::tables::Tables;
+use sdtd::{Refusal, Refused};
 
 // "23 for brackets deeper than 16"
 const BRACKETS: u8 = 16;
 
-// Does another sequence follow?
-fn goes_on(file: &[u8], number: u8, at: usize) -> bool
-    ensures { result ≡ (eqb number 0 && dividing (command_at file.now at)) }
+// The choice inside a bracket, and its 31.
+fn closed(file: &[u8], inner: Parsed) -> Result<Parsed, Refusal>
+    ensures { BracketSays (command_at file.now inner.at) inner result }
 {
-    if number != 0 {
-        return false;
+    if let Err(why) = ends_bracket(file, inner.at) {
+        return Err(why.at(inner.at));
     }
-    divides(file, at)
+    Ok(Parsed {
+        at: inner.at + 1,
+        ..inner
+    })
+}
+
+// A factor, and the one 34 after it if there is one.
+fn repeated(file: &[u8], factor: Parsed, tables: &mut Tables) -> Parsed
+    ensures { RepeatSays file.now factor tables.old tables.new result }
+{
+    if !repeats(file, factor.at) {
+        return factor;
+    }
+    tables.link(factor.last, factor.first);
+    Parsed {
+        at: factor.at + 1,
+        nullable: true,
+        ..factor
+    }
 }
 
 // A choice: its sequences, with 33 between them. `sequence` is called at one place only: so the compiler makes one function of the three
@@ -32,22 +48,17 @@ pub(crate) fn choice<'a>(
     at: usize,
     depth: u8,
     uses: u8,
-    next: &'a mut [u32; STATE_NUMBERS],
-    types: &'a mut [u8; STATE_NUMBERS],
-    places: &'a mut [usize; STATE_NUMBERS],
-) -> Parsed
-    requires { length next.old ≡ most_states }
-    ensures { ChoiceSays file.now at depth uses
-        (tables next.old types.old places.old)
-        (tables next.new types.new places.new) result }
+    tables: &'a mut Tables,
+) -> Result<Parsed, Refusal>
+    ensures { ChoiceSays file.now at depth uses tables.old tables.new result }
 {
-    let mut read = no_choice(at, uses);
+    let mut read = Parsed::nothing(at, uses, false);
     let mut from = at;
     loop {
-        let other = sequence(file, from, depth, read.uses, next, types, places);
-        read = either(read, other);
-        if !goes_on(file, read.number, read.at) {
-            return read;
+        let other = sequence(file, from, depth, read.uses, tables)?;
+        read = read.or(other);
+        if !divides(file, read.at) {
+            return Ok(read);
         }
         from = read.at + 1;
     }
@@ -60,58 +71,42 @@ fn sequence<'a>(
     at: usize,
     depth: u8,
     uses: u8,
-    next: &'a mut [u32; STATE_NUMBERS],
-    types: &'a mut [u8; STATE_NUMBERS],
-    places: &'a mut [usize; STATE_NUMBERS],
-) -> Parsed
-    requires { length next.old ≡ most_states }
-    ensures { SequenceSays file.now at depth uses
-        (tables next.old types.old places.old)
-        (tables next.new types.new places.new) result }
+    tables: &'a mut Tables,
+) -> Result<Parsed, Refusal>
+    ensures { SequenceSays file.now at depth uses tables.old tables.new result }
 {
-    let mut read = nothing(at, uses);
-    loop {
-        let one = factor(file, read.at, depth, read.uses, next, types, places);
-        if one.number != 0 {
-            return one;
-        }
-        if one.at == read.at {
-            return read;
-        }
-        link(next, read.last, one.first);
-        read = followed(read, one);
+    let mut read = Parsed::nothing(at, uses, true);
+    while let Some(one) = factor(file, read.at, depth, read.uses, tables)? {
+        tables.link(read.last, one.first);
+        read = read.then(one);
     }
+    Ok(read)
 }
 
-// A factor: a 32, or a 30, a choice and a 31; and one 34 after it. Where none begins, nothing is read.
+// A factor, if one begins at the place: a 32, or a 30, a choice and a 31; and one 34 after it.
 #[cycle(choice_factor_sequence)]
 fn factor<'a>(
     file: &'a [u8],
     at: usize,
     depth: u8,
     uses: u8,
-    next: &'a mut [u32; STATE_NUMBERS],
-    types: &'a mut [u8; STATE_NUMBERS],
-    places: &'a mut [usize; STATE_NUMBERS],
-) -> Parsed
-    requires { length next.old ≡ most_states }
-    ensures { FactorSays file.now at depth uses
-        (tables next.old types.old places.old)
-        (tables next.new types.new places.new) result }
+    tables: &'a mut Tables,
+) -> Result<Option<Parsed>, Refusal>
+    ensures { FactorSays file.now at depth uses tables.old tables.new result }
 {
     match opens(file, at) {
-        Opening::OneType(j) => {
-            let read = one_use(at, j, uses, types, places);
-            repeated(file, read, next)
+        Some(Factor::OneType(j)) => {
+            let read = tables.one_use(at, j, uses)?;
+            Ok(Some(repeated(file, read, tables)))
         }
-        Opening::Bracket => {
+        Some(Factor::Bracket) => {
             if BRACKETS <= depth {
-                return refused(23, at);
+                return Err(Refused::TooManyBrackets.at(at));
             }
-            let inner = choice(file, at + 1, depth + 1, uses, next, types, places);
-            let read = closed(file, inner);
-            repeated(file, read, next)
+            let inner = choice(file, at + 1, depth + 1, uses, tables)?;
+            let read = closed(file, inner)?;
+            Ok(Some(repeated(file, read, tables)))
         }
-        Opening::NoFactor => nothing(at, uses),
+        None => Ok(None),
     }
 }

@@ -1,48 +1,30 @@
-// The commands of an expression, as the parsers ask about them.
-ghost use Rattle.std.specs.Prelude.{◌≡◌, true, ◌&&◌, eqb, ltb, length, get_or};
+// The commands of an expression, as the parsers ask about them. The parsers look at the bytes themselves: by `command_at` they took up to 2.6
+// times as long.
+ghost use Rattle.std.specs.Prelude.{◌≡◌, true};
+ghost use Rattle.sdtd.specs.Answer.{number_told};
 ghost use Rattle.command.specs.Command.{command_at};
-ghost use Rattle.expression.specs.Parsing.{opening, dividing, repeating, part_ending, ending};
+ghost use Rattle.expression.specs.Parsing.{Opens, dividing, repeating, part_ending, ending};
 
 use command::{Command, Part, command_at};
-use sdtd::TypeNo;
+use sdtd::{Refused, TypeNo};
 
-// What a factor begins with: the type of a 32, a 30, or nothing that begins one.
+// What a factor begins with: a 32 with its type, or a 30.
 #[derive(Clone, Copy)]
-pub(crate) enum Opening {
+pub(crate) enum Factor {
     OneType(TypeNo),
     Bracket,
-    NoFactor,
 }
 
-// Does the file have the byte at the place?
-fn has_byte(file: &[u8], at: usize, b: u8) -> bool
-    ensures { result ≡ (ltb at (length file.now) && eqb (get_or file.now at 0) b) }
-{
-    if file.len() <= at {
-        return false;
-    }
-    file[at] == b
-}
-
-// What the command at a place begins.
+// What the command at a place begins, if it begins a factor.
 #[tactic(auto, unfolding(command::specs::Command::command_of, command::specs::Command::added_command))]
-pub(crate) fn opens(file: &[u8], at: usize) -> Opening
-    ensures { result ≡ opening (command_at file.now at) }
+pub(crate) fn opens(file: &[u8], at: usize) -> Option<Factor>
+    ensures { Opens (command_at file.now at) result }
 {
-    if file.len() <= at {
-        return Opening::NoFactor;
+    match file.get(at..)? {
+        [0x32, j, ..] => Some(Factor::OneType(TypeNo(*j))),
+        [0x30, ..] => Some(Factor::Bracket),
+        _ => None,
     }
-    let b = file[at];
-    if b == 0x32 {
-        if file.len() - at < 2 {
-            return Opening::NoFactor;
-        }
-        return Opening::OneType(TypeNo(file[at + 1]));
-    }
-    if b == 0x30 {
-        return Opening::Bracket;
-    }
-    Opening::NoFactor
 }
 
 // Is the command at a place 33?
@@ -50,7 +32,7 @@ pub(crate) fn opens(file: &[u8], at: usize) -> Opening
 pub(crate) fn divides(file: &[u8], at: usize) -> bool
     ensures { result ≡ dividing (command_at file.now at) }
 {
-    has_byte(file, at, 0x33)
+    matches!(file.get(at), Some(0x33))
 }
 
 // Is it 34?
@@ -58,41 +40,38 @@ pub(crate) fn divides(file: &[u8], at: usize) -> bool
 pub(crate) fn repeats(file: &[u8], at: usize) -> bool
     ensures { result ≡ repeating (command_at file.now at) }
 {
-    has_byte(file, at, 0x34)
+    matches!(file.get(at), Some(0x34))
 }
 
-// The number that a command of an expression gets where a choice ends: 0 for the 31 inside a bracket and the 3F outside, else 21.
-fn part_ends(part: Part, inside: bool) -> u8
-    ensures { result ≡ part_ending inside part }
+// May a command of an expression stand where a choice ends? The 31 does inside a bracket, the 3F outside; any other gets 21.
+fn part_ends(part: Part, inside: bool) -> Result<(), Refused>
+    ensures { number_told result ≡ part_ending inside part }
 {
     match part {
-        Part::OpenBracket => 21,
-        Part::CloseBracket => if inside { 0 } else { 21 },
-        Part::Use(_) => 21,
-        Part::Or => 21,
-        Part::Repeat => 21,
-        Part::End => if inside { 21 } else { 0 },
+        Part::CloseBracket if inside => Ok(()),
+        Part::End if !inside => Ok(()),
+        _ => Err(Refused::CannotFollow),
     }
 }
 
-// The number that a command gets where a choice ends.
-pub(crate) fn ends(command: Option<Command>, inside: bool) -> u8
-    ensures { result ≡ ending inside command }
+// May a command stand where a choice ends?
+pub(crate) fn ends(command: Option<Command>, inside: bool) -> Result<(), Refused>
+    ensures { number_told result ≡ ending inside command }
 {
     match command {
-        None => 2,
+        None => Err(Refused::NoCommand),
         Some(Command::Expression(part)) => part_ends(part, inside),
-        Some(_) => 3,
+        Some(_) => Err(Refused::OutOfOrder),
     }
 }
 
-// The number that the command at a place gets where the choice in a bracket ends. The 31 is asked for first: it mostly stands there.
+// May the command at a place stand where the choice in a bracket ends? The 31 is asked for first: it mostly stands there.
 #[tactic(auto, unfolding(command::specs::Command::command_of, command::specs::Command::added_command))]
-pub(crate) fn ends_bracket(file: &[u8], at: usize) -> u8
-    ensures { result ≡ ending true (command_at file.now at) }
+pub(crate) fn ends_bracket(file: &[u8], at: usize) -> Result<(), Refused>
+    ensures { number_told result ≡ ending true (command_at file.now at) }
 {
-    if has_byte(file, at, 0x31) {
-        return 0;
+    if matches!(file.get(at), Some(0x31)) {
+        return Ok(());
     }
     ends(command_at(file, at), true)
 }

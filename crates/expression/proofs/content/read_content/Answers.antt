@@ -1,48 +1,38 @@
 -- `expression::content::read_content` meets its contract: the choice, the command behind it, and the automaton's tables.
+use mathlib.Core.Path.{◌≡◌, refl, sym, ap}
 use mathlib.Core.Bool.{false}
-use mathlib.Core.Path.{◌≡◌, ap}
-use mathlib.Core.List.{List}
-use Prim.Native.Nat.{ℕ}
 use native.Mathlib.Omega.{arith}
-use Rattle.std.specs.Prelude.{Ok, Err}
-use Rattle.sdtd.specs.Answer.{refused_at, question_number}
-use Rattle.sdtd.specs.declared.Refusal.{Refusal}
-use Rattle.sdtd.specs.declared.Refused.{Refused}
+use Rattle.std.proofs.lemmas.Result.{err_from_is_err_and}
+use Rattle.std.specs.Prelude.{Ok}
+use Rattle.sdtd.specs.Answer.{question_number}
+use Rattle.sdtd.proofs.Verdicts.{number_some}
 use Rattle.command.specs.Command.{command_at}
-use Rattle.expression.specs.Answer.{NumberInside, ContentMeans}
-use Rattle.expression.specs.Content.{broken, content_at}
-use Rattle.expression.specs.Parsing.{ending}
-use Rattle.expression.proofs.WholeContents.{broken_number}
-use Rattle.expression.proofs.ContentLaws.{content_refused, content_unended, content_whole, automaton_whole}
+use Rattle.expression.specs.Parsing.{ending, ChoiceWhole, ChoiceRefused}
+use Rattle.expression.proofs.ContentLaws.{content_refused, content_unended, content_whole}
 use Rattle.expression.proofs.content.read_content.Goals as goal
 
--- a refusal by the number that was read
-refused_there : (file : List ℕ) (i n p : ℕ) → content_at file i ≡ broken n p → (why : Refused) (e : Refusal) → e ≡ record { why = why; place = p }
-    → (NumberInside n → question_number why ≡ n) → ContentMeans (content_at file i) (Err e)
-refused_there file i n p c why e r q = rw (c, r) (ap (λ (k : ℕ). refused_at k p) (q (broken_number file i c)))
-
-pub returns-then-read-ne0 : goal.returns-then-read-ne0
-returns-then-read-ne0 c =
-    refused_there c.args.file.now c.args.at _ _
-    (content_refused c.args.file.now c.args.at _ _ c.choice-read.result c.choice-read.ensures c.if-read-ne0.true)
-    c.refused_by.result c.at.result c.at.ensures c.refused_by.ensures
-
-pub returns-then-number-ne0 : goal.returns-then-number-ne0
-returns-then-number-ne0 c =
-    let x = c.choice-read in
+pub returns-in_err-read : goal.returns-in_err-read
+returns-in_err-read c =
     let a = c.args in
-    let e : c.ends-number.result ≡ ending false (command_at a.file.now x.result.at) = rw c.command_at.ensures at c.ends-number.ensures in
-    refused_there a.file.now a.at _ _
-    (content_unended a.file.now a.at _ _ x.result x.ensures c.if-read-ne0.false (rw e at c.if-number-ne0.true))
-    c.refused_by-then-number-ne0.result c.at-then-number-ne0.result c.at-then-number-ne0.ensures
-    (rw e at c.refused_by-then-number-ne0.ensures)
+    let p = err_from_is_err_and c.from_residual.result c.from_residual.ensures.1 in
+    let r : ChoiceRefused a.file.now a.at 0 0 _ _ = rw c.in_err-read.was at c.choice.ensures in
+    rw (content_refused a.file.now a.at _ _ r, p.1, p.2) refl
+
+pub returns-in-Err : goal.returns-in-Err
+returns-in-Err c =
+    let a = c.args in
+    let x = c.in_ok-read in
+    let w : ChoiceWhole a.file.now a.at 0 0 _ _ x.read = rw x.was at c.choice.ensures in
+    let e : question_number c.in-Err.why ≡ ending false (command_at a.file.now x.read.at) =
+    rw (c.in-Err.is, c.command_at.ensures) at c.ends.ensures in
+    let unended = content_unended a.file.now a.at _ _ x.read w (λ z. omega (arith, number_some c.in-Err.why, e)) in
+    rw (unended, c.at.ensures, e) refl
 
 pub returns : goal.returns
 returns c =
-    let x = c.choice-read in
     let a = c.args in
-    let e : c.ends-number.result ≡ ending false (command_at a.file.now x.result.at) = rw c.command_at.ensures at c.ends-number.ensures in
-    let w = content_whole a.file.now a.at _ _ x.result x.ensures c.if-read-ne0.false (rw e at c.if-number-ne0.false) in
-    rw w.same
-    (ap Ok (automaton_whole _ x.result w.content w.names w.read w.rows (omega (arith, x.type_inv)) (omega (arith, x.type_inv))
-    c.accepting_of.result c.accepting_of.ensures))
+    let x = c.in_ok-read in
+    let w : ChoiceWhole a.file.now a.at 0 0 _ c.choice.new.tables x.read = rw x.was at c.choice.ensures in
+    let e : ending false (command_at a.file.now x.read.at) ≡ 0 = rw c.command_at.ensures at (sym c.in_default.ensures) in
+    let k = content_whole a.file.now a.at _ _ x.read w e in
+    rw k.same (ap Ok (c.automaton_of.ensures k.content k.names k.read))

@@ -1,0 +1,59 @@
+// The tables that are filled while an expression is read.
+ghost use Rattle.std.specs.Prelude.{◌≡◌, ◌<◌, ◌+◌, ◌^◌};
+ghost use Rattle.expression.specs.Parsing.{Linked, UseSays};
+
+use crate::parsed::Parsed;
+use schema::{STATES, StateSet, TYPES};
+use sdtd::{Refusal, Refused, TypeNo};
+
+// the entries of a table by states
+pub const STATE_NUMBERS: usize = STATES as usize;
+
+// "22 for more than 31 uses of 32"
+const USES: u8 = STATES - 1;
+
+// the types, as a type's number
+const TYPE_NUMBERS: u8 = TYPES as u8;
+
+// By state or use: the uses that follow it, the type that it names and the place of its 32.
+#[derive(Clone, Copy)]
+pub(crate) struct Tables {
+    pub next: [u32; STATE_NUMBERS],
+    pub types: [u8; STATE_NUMBERS],
+    pub places: [usize; STATE_NUMBERS],
+}
+
+impl Tables {
+    // Lets each use that can come last be followed by each that can come first.
+    pub(crate) fn link(&mut self, last: u32, first: u32)
+        ensures { Linked last first self.old self.new }
+    {
+        for p in StateSet(last).states() {
+            self.next[p as usize] |= first;
+        }
+    }
+
+    // One use, numbered behind those so far.
+    pub(crate) fn one_use(&mut self, at: usize, j: TypeNo, uses: u8) -> Result<Parsed, Refusal>
+        requires { at + 2 < 2 ^ 64 }
+        ensures { UseSays at j.0 uses self.old self.new result }
+    {
+        if TYPE_NUMBERS <= j.0 {
+            return Err(Refused::OutOfRange.at(at));
+        }
+        if USES <= uses {
+            return Err(Refused::TooManyUses.at(at));
+        }
+        let own = uses + 1;
+        self.types[own as usize] = j.0;
+        self.places[own as usize] = at;
+        let set = StateSet::NONE.with(own);
+        Ok(Parsed {
+            at: at + 2,
+            first: set.0,
+            last: set.0,
+            uses: own,
+            nullable: false,
+        })
+    }
+}
