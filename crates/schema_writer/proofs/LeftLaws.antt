@@ -1,30 +1,20 @@
 -- The bytes of what is left of a command, of states and of steps.
-use mathlib.Core.Path.{◌≡◌, refl, sym, ap}
+use mathlib.Core.Path.{◌≡◌, refl, sym, ap, ◌∙◌}
 use mathlib.Core.Bool.{Bool, true, false, cond}
-use mathlib.Core.List.{List, [], ◌∷◌, ◌++◌, map, map-append, append-nil}
-use Prim.Native.Nat.{ℕ, suc, ◌+◌, ◌-◌, ◌≤◌, ◌<◌}
-use native.Mathlib.Numerals.{add-one}
-use native.Mathlib.Omega.{arith}
+use mathlib.Core.List.{List, [], ◌∷◌, ◌++◌, map, append-nil}
+use Prim.Native.Nat.{ℕ}
 use Rattle.sdtd.specs.Schema.{step}
 use Rattle.sdtd.specs.Schema.{Step as StepOf}
 use Rattle.sdtd.specs.Trim.{kept_steps}
 use Rattle.sdtd.specs.Reduced.{new_number, relabel_step, steps_left}
 use Rattle.sdtd.specs.Numbered.{type_no}
-use Rattle.schema.specs.States.{member, members_below}
-use Rattle.schema.specs.Value.{up_from, step_at, steps_of}
-use Rattle.schema.proofs.Values.{steps_cons}
 use Rattle.command.specs.Command.{bytes_of, file_of}
 use Rattle.command.specs.Relabelled.{relabel_command}
 use Rattle.command.specs.declared.Command.{Command}
 use Rattle.command.specs.declared.Command.TheVariants.{Final, Step}
-use Rattle.command.proofs.CommandLaws.{file_append}
+use Rattle.text.specs.Page.{Sheet, laid}
+use Rattle.text.proofs.PageLaws.{laid_append, laid_none}
 use Rattle.schema_writer.specs.Left.{stays, command_left, step_command}
-use Rattle.schema_writer.specs.Laying.{kept_by, number_by, NewNumbers}
-
--- by a table of the new numbers a command gets those
-pub relabel_same : {kept : List Bool} {numbers : List ℕ} → NewNumbers kept numbers → (c : Command)
-    → relabel_command (number_by numbers) c ≡ relabel_command (new_number (kept_by kept)) c
-relabel_same x c i = relabel_command (λ j. x.each j i) c
 
 -- one command, or none
 one_file : (c : Command) → file_of (c ∷ []) ≡ bytes_of c
@@ -63,28 +53,25 @@ module _ (kept : ℕ → Bool) where
           (sym (append-nil (bytes_of (step_command (relabel_step (new_number kept) s)))))
       by_test rest false = refl
 
-  -- the steps of a table from the place i on: the next one and those after it; none
-  pub steps_first : (from by to : List ℕ) (i end : ℕ) → i < end
-      → step_bytes (steps_of from by to i (end - i)) ≡ step_bytes (step_at from by to i ∷ []) ++ step_bytes (steps_of from by to (i + 1) (end - (i + 1)))
-  steps_first from by to i end l =
-      let n : end - i ≡ suc (end - suc i) = omega arith in
-      rw (add-one i, n, steps_cons from by to i (end - suc i)) (steps_next (step_at from by to i) (steps_of from by to (suc i) (end - suc i)))
+  -- a step is laid, and those that are left after it
+  pub steps_turn : (was : Sheet) {now whole : Sheet} {s : StepOf} {before after : List StepOf} → before ≡ s ∷ after → now ≡ laid was (step_bytes (s ∷ []))
+      → laid was (step_bytes before) ≡ whole → laid now (step_bytes after) ≡ whole
+  steps_turn was {s = s} {after = after} e f w =
+      ap (λ (p : Sheet). laid p (step_bytes after)) f ∙ sym (laid_append was (step_bytes (s ∷ [])) (step_bytes after))
+      ∙ ap (laid was) (sym (ap step_bytes e ∙ steps_next s after)) ∙ w
 
-  pub steps_none : (from by to : List ℕ) (i end : ℕ) → end ≤ i → step_bytes (steps_of from by to i (end - i)) ≡ []
-  unfolding steps_of up_from steps_left file_of
-  steps_none from by to i end l = let n : end - i ≡ 0 = omega arith in rw n
+  pub steps_end : {now whole : Sheet} {ss : List StepOf} → ss ≡ [] → laid now (step_bytes ss) ≡ whole → now ≡ whole
+  unfolding steps_left file_of
+  steps_end {now} e w = sym (laid_none now) ∙ ap (λ (ss : List StepOf). laid now (step_bytes ss)) (sym e) ∙ w
 
--- the FINAL of a state, if it accepts
-pub final_stays : (q x : ℕ) → member q x ≡ true → file_of (map Final (cond (member q x) (q ∷ []) [])) ≡ bytes_of (Final q)
-final_stays q x e = rw e (one_file (Final q))
-
-pub final_goes : (q x : ℕ) → member q x ≡ false → file_of (map Final (cond (member q x) (q ∷ []) [])) ≡ []
+-- a FINAL is laid, and those that are left after it
+pub finals_turn : (was : Sheet) {now whole : Sheet} {q : ℕ} {before after : List ℕ} → before ≡ q ∷ after → now ≡ laid was (bytes_of (Final q))
+    → laid was (file_of (map Final before)) ≡ whole → laid now (file_of (map Final after)) ≡ whole
 unfolding file_of
-final_goes q x e = rw e
+finals_turn was {q = q} {after = after} e f w =
+    ap (λ (p : Sheet). laid p (file_of (map Final after))) f ∙ sym (laid_append was (bytes_of (Final q)) (file_of (map Final after)))
+    ∙ ap (λ (qs : List ℕ). laid was (file_of (map Final qs))) (sym e) ∙ w
 
--- the FINALs of one state more
-pub finals_next : (q x : ℕ)
-    → file_of (map Final (members_below (q + 1) x)) ≡ file_of (map Final (members_below q x)) ++ file_of (map Final (cond (member q x) (q ∷ []) []))
-unfolding members_below
-finals_next q x =
-    rw (add-one q, map-append) (file_append (map Final (members_below q x)) (map Final (cond (member q x) (q ∷ []) [])))
+pub finals_end : {now whole : Sheet} {qs : List ℕ} → qs ≡ [] → laid now (file_of (map Final qs)) ≡ whole → now ≡ whole
+unfolding file_of
+finals_end {now} e w = sym (laid_none now) ∙ ap (λ (qs : List ℕ). laid now (file_of (map Final qs))) (sym e) ∙ w

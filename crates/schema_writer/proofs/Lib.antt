@@ -6,7 +6,6 @@ pub mod RewriteStates
 pub mod RewriteSame
 pub mod RisingSteps
 pub mod SecondPass
-pub mod CountedLaws
 pub mod NumberLaws
 pub mod ContentLaws
 pub mod LeftLaws

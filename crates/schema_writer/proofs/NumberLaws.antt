@@ -8,6 +8,7 @@ use native.Mathlib.Numerals.{add-one}
 use native.Mathlib.Omega.{arith}
 use borrow.Author.Tests.{le-ltb, lt-ltb}
 use lib.ListN.{length, get_or, set, length-set}
+use mir.Val.{bool_byte}
 use lib.Seq.{get_or-set_same, get_or-set_other}
 use Rattle.sdtd.specs.Limits.{most_types}
 use Rattle.sdtd.specs.Reduced.{new_number}
@@ -41,9 +42,9 @@ module _ {kept : List Bool} {numbers : List ℕ} {n a : ℕ} (x : Numbered kept 
         | no d ↦ get_or-set_other numbers a j n 0 d ∙ x.below j (omega arith)
       ]
 
-  pub one_numbered : {m : ℕ} → a < most_types → m ≡ cond (get_or kept a false) (suc n) n → Numbered kept (set numbers a n) m (a + 1)
+  numbered_to : {m : ℕ} → a < most_types → m ≡ cond (get_or kept a false) (suc n) n → Numbered kept (set numbers a n) m (a + 1)
   unfolding new_number
-  one_numbered {m} l e =
+  numbered_to {m} l e =
       rw add-one
       (record {
         most = l;
@@ -56,6 +57,14 @@ module _ {kept : List Bool} {numbers : List ℕ} {n a : ℕ} (x : Numbered kept 
       count : (b : Bool) → m ≡ cond b (suc n) n → m ≤ suc a
       count true e = omega (arith, x.few)
       count false e = omega (arith, x.few)
+
+  pub one_numbered : {m : ℕ} → a < most_types → m ≡ bool_byte (get_or kept a false) → Numbered kept (set numbers a n) (n + m) (a + 1)
+  one_numbered {m} l e =
+      numbered_to l (by_kept (get_or kept a false) e)
+    where
+      by_kept : (b : Bool) → m ≡ bool_byte b → n + m ≡ cond b (suc n) n
+      by_kept true e = omega arith
+      by_kept false e = omega arith
 
   -- with the last number the table is whole
   pub all_numbered : most_types ≤ a → NewNumbers kept (set numbers most_types n)

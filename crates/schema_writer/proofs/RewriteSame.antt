@@ -15,7 +15,7 @@ use Rattle.sdtd.proofs.NewNumbers.{new_same}
 use Rattle.command.specs.Command.{part_bytes, bytes_of, file_of, size}
 use Rattle.command.specs.Relabelled.{relabel_part}
 use Rattle.command.specs.declared.Command.{Command}
-use Rattle.command.specs.declared.Command.TheVariants.{Tags, TypeBlock, Final, Step, Root, Nil, Done, Expression, NoCommand}
+use Rattle.command.specs.declared.Command.TheVariants.{Tags, TypeBlock, Final, Step, Root, Nil, Done, Expression}
 use Rattle.command.specs.declared.Part.{Part}
 use Rattle.command.specs.declared.Part.TheVariants.{OpenBracket, CloseBracket, Use, Or, Repeat, End}
 use Rattle.command.proofs.CommandLaws.{file_append}
@@ -24,7 +24,7 @@ use Rattle.expression.proofs.ExpressionParts.{Parts, last, more, type_used, type
 use Rattle.expression.proofs.RelabelledContents.{relabelled_parts}
 use Rattle.commands.specs.Questions.{failed}
 use Rattle.commands.specs.File.{Stated, seen_of, after, block_by, schema_by, unknown, StatesSchema}
-use Rattle.commands.proofs.Passing.{passed, passed_command}
+use Rattle.commands.proofs.Passing.{passed}
 use Rattle.commands.proofs.StatedLimits.{Each, stated_within}
 use Rattle.commands.proofs.Traces.{Trace, ended, command, content, trace_of}
 use Rattle.commands.proofs.TraceLaws.{type_known, blocks_grow}
@@ -46,13 +46,13 @@ part_same image End h = refl
 parts_bytes : (image : ℕ → ℕ) {file : List ℕ} {i p : ℕ} {xs : List Part} → Parts file i xs p → Each (λ j. image j ≡ j) (types_used xs)
     → file_of (relabelled_parts image xs) ++ drop (p + 1) file ≡ drop i file
 unfolding file_of
-parts_bytes image {file} {i} (last e) h = sym (command_bytes file i e tt)
+parts_bytes image {file} {i} (last e) h = sym (command_bytes file i e)
 parts_bytes image {file} {i} {p} (more {x = x} {xs = xs} e n ps) h =
     let tail = file_of (relabelled_parts image xs) in
     append_assoc (part_bytes (relabel_part image x)) tail (drop (p + 1) file)
     ∙ ap (λ (y : Part). part_bytes y ++ (tail ++ drop (p + 1) file)) (part_same image x (λ j m. h j (Memᴰ.append_left (types_used xs) m)))
     ∙ ap (λ (l : List ℕ). part_bytes x ++ l) (parts_bytes image ps (λ j m. h j (Memᴰ.append_right (type_used x) m)))
-    ∙ sym (command_bytes file i e tt)
+    ∙ sym (command_bytes file i e)
 
 -- All types of the file, which is read to its end and states g, are kept.
 module _ (kept : ℕ → Bool) (S : Schema) (file : List ℕ) (g : Stated) (known : unknown g ≡ []) (some : 1 ≤ length g.blocks)
@@ -85,7 +85,6 @@ module _ (kept : ℕ → Bool) (S : Schema) (file : List ℕ) (g : Stated) (know
   command_same i g₀ Nil z l m named = one (kept (pred (length g₀.blocks))) (own_kept (length g₀.blocks) l) refl
   command_same i g₀ Done z l m named = refl
   command_same i g₀ (Expression x) z l m named = absurd (passed g₀ (Expression x) z)
-  command_same i g₀ NoCommand z l m named = absurd (passed g₀ NoCommand z)
 
   -- from each place on the rest of the file is left
   same_from : {i : ℕ} {g₀ : Stated} → Trace file g i g₀ → (fuel : ℕ) → length file - i < fuel
@@ -95,14 +94,13 @@ module _ (kept : ℕ → Bool) (S : Schema) (file : List ℕ) (g : Stated) (know
       ap file_of (left_end kept S file fuel i (length g₀.blocks) l) ∙ sym (drop_of_length-le file l)
   same_from {i} {g₀} (command c at_place z o t) fuel f =
       let a = length g₀.blocks in
-      let k = passed_command g₀ c z in
-      let l = left_command kept S file fuel i a c at_place k o f in
+      let l = left_command kept S file fuel i a c at_place o f in
       let more = left_from l.fuel_then kept S file (i + size c) (type_count c + a) in
       let n = blocks_grow t in
       let stays = command_same i g₀ c z (blocks_grow (command {g₀ = g₀} c at_place z o t)) n (λ x m. type_known known t m) in
       ap file_of (l.is ∙ ap (λ (cs : List Command). cs ++ more) stays)
       ∙ ap (λ (b : ℕ). bytes_of c ++ file_of (left_from l.fuel_then kept S file (i + size c) b)) (counted g₀ i c)
-      ∙ ap (λ (x : List ℕ). bytes_of c ++ x) (same_from t l.fuel_then l.enough) ∙ sym (command_bytes file i at_place k)
+      ∙ ap (λ (x : List ℕ). bytes_of c ++ x) (same_from t l.fuel_then l.enough) ∙ sym (command_bytes file i at_place)
   same_from {i} {g₀} (content t e ns p at_place z read fits rest) fuel f =
       let a = length g₀.blocks in
       let given = content_known known (after g₀ i (TypeBlock t 0)) e ns rest in
@@ -117,7 +115,7 @@ module _ (kept : ℕ → Bool) (S : Schema) (file : List ℕ) (g : Stated) (know
       ∙ ap (λ (x : List ℕ). bytes_of c ++ (file_of xs ++ x)) (same_from rest m.fuel_then m.enough)
       ∙ ap (λ (x : List ℕ). bytes_of c ++ x)
       (parts_bytes (new_number kept) parts.chain (λ j o. same_number j (given j (subst (Memᴰ j) (sym parts.types) o))))
-      ∙ sym (command_bytes file i at_place tt)
+      ∙ sym (command_bytes file i at_place)
 
 -- Where each type of the schema is kept, the written file is the file itself.
 pub every_kept : {file : List ℕ} {S : Schema} (kept : ℕ → Bool) → StatesSchema file S → ((a : ℕ) → a < length S.blocks → T (kept a))

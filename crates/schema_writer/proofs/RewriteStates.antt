@@ -17,10 +17,11 @@ use Rattle.sdtd.specs.declared.Tag.{Tag}
 use Rattle.sdtd.proofs.Basics.{and_parts, and_both, cond_either}
 use Rattle.sdtd.proofs.NewNumbers.{new_at_most}
 use Rattle.schema.specs.States.{members}
+use Rattle.std.specs.Prelude.{Some}
 use Rattle.command.specs.Command.{bytes_of, file_of, size, command_at}
 use Rattle.command.specs.Relabelled.{relabel_command}
 use Rattle.command.specs.declared.Command.{Command}
-use Rattle.command.specs.declared.Command.TheVariants.{Tags, TypeBlock, Final, Step, Root, Nil, Done, Expression, NoCommand}
+use Rattle.command.specs.declared.Command.TheVariants.{Tags, TypeBlock, Final, Step, Root, Nil, Done, Expression}
 use Rattle.command.proofs.CommandLaws.{read_back, file_append}
 use Rattle.expression.specs.Expression.{Expression as Exp}
 use Rattle.expression.specs.Limits.{most_uses}
@@ -35,7 +36,7 @@ use Rattle.expression.proofs.RelabelledContents.{relabelled_parts, relabelled_re
 use Rattle.commands.specs.Questions.{failed}
 use Rattle.commands.specs.File.{Draft, Stated, nothing_stated, step_count, seen_of, after, with_automaton, after_expression}
 use Rattle.commands.specs.File.{block_by, schema_by, unknown, StatesSchema}
-use Rattle.commands.proofs.Passing.{passed, passed_command}
+use Rattle.commands.proofs.Passing.{passed}
 use Rattle.commands.proofs.StatedLimits.{Each}
 use Rattle.commands.proofs.StatedExpressions.{types_below}
 use Rattle.commands.proofs.Traces.{Trace, ended, command, content, opens_expression, trace_of, trace_states}
@@ -114,11 +115,10 @@ module _ (kept : ℕ → Bool) (file : List ℕ) (g : Stated) (known : unknown g
         treated Done before rest o e (λ t. keeps_done r i (length before) z (λ n. some_root (ap (roots_left kept) (sym (end refl)) ∙ n)))
         (λ n. absurd (n tt)) then
     one_command (Expression x) before rest z o named end e then = absurd (passed g₀ (Expression x) z)
-    one_command NoCommand before rest z o named end e then = absurd (passed g₀ NoCommand z)
 
   -- a TYPE and the expression that follows it
   module _ (i : ℕ) {g₀ h : Stated} (r : Related kept (length g.blocks) g₀ h) (t : Tag) (e : Exp) (ns : List Name) (p : ℕ)
-      (begins : command_at file i ≡ TypeBlock t 0) (passes : failed (seen_of g₀ (TypeBlock t 0)) (TypeBlock t 0) ≡ 0)
+      (begins : command_at file i ≡ Some (TypeBlock t 0)) (passes : failed (seen_of g₀ (TypeBlock t 0)) (TypeBlock t 0) ≡ 0)
       (read : content_at file (i + 3) ≡ whole e ns p) (fits : step_count g₀.blocks + length (all_steps e) ≤ most_steps)
       (rest : Trace file g (p + 1) (after_expression (after g₀ i (TypeBlock t 0)) e ns))
       (then : (h' : Stated) (before : List ℕ) (fuel : ℕ) → length file - (p + 1) < fuel
@@ -175,7 +175,7 @@ module _ (kept : ℕ → Bool) (file : List ℕ) (g : Stated) (known : unknown g
         record {
           stated = x.stated;
           trace =
-              content t e' q.names q.end (read_back before (xs ++ file_of more) c tt e₁)
+              content t e' q.names q.end (read_back before (xs ++ file_of more) c e₁)
               (copied_passes r t e ns passes names few below given fits k all)
               (subst (λ (a : ℕ). content_at F a ≡ whole e' q.names q.end) k₁ q.read)
               (copied_fits r t e ns passes names few below given fits k all)
@@ -251,7 +251,7 @@ module _ (kept : ℕ → Bool) (file : List ℕ) (g : Stated) (known : unknown g
         related = subst (λ (x : Stated). Related kept (length g.blocks) x h) e r;
       }
   walk {i} {g₀} (command c at_place z o t) h before fuel f r is =
-      let l = left_command kept (schema_by g) file fuel i (length g₀.blocks) c at_place (passed_command g₀ c z) o f in
+      let l = left_command kept (schema_by g) file fuel i (length g₀.blocks) c at_place o f in
       one_command i r c before (left_from l.fuel_then kept (schema_by g) file (i + size c) (type_count c + length g₀.blocks)) z o
       (λ x m. type_known known t m)
       (λ q. roots_at_done g₀ i (subst (λ (c : Command). Trace file g (i + size c) (after g₀ i c)) q t))

@@ -12,7 +12,9 @@ use Rattle.sdtd.specs.Reduced.{new_number, relabel_step, steps_left, block_left}
 use Rattle.sdtd.specs.declared.Tag.{Tag}
 use Rattle.sdtd.proofs.Basics.{cond_either}
 use Rattle.sdtd.proofs.NewNumbers.{new_rises}
+use Rattle.std.specs.Prelude.{Option, Some, None}
 use Rattle.command.specs.Command.{command_at}
+use Rattle.command.specs.declared.Command.{Command}
 use Rattle.command.specs.Cases.{on_type}
 use Rattle.command.specs.declared.Command.TheVariants.{TypeBlock}
 use Rattle.sdtd.specs.Lists.{RisingFrom, Rising}
@@ -67,11 +69,16 @@ pub left_block_rises : (kept : ℕ → Bool) (b : Block) → BlockRises b → Bl
 unfolding block_left
 left_block_rises kept b r = record { accepting = r.accepting; steps = left_rises kept b.steps r.steps }
 
+-- the state count of a TYPE
+abbrev states_in : Option Command → ℕ
+states_in None = 0
+states_in (Some c) = on_type (λ g s. s) 0 c
+
 -- The block of a type of a schema that a file states rises, if its TYPE has state count 0: an expression states it.
 pub type_rises : {file : List ℕ} {S : Schema} → StatesSchema file S → (a : ℕ) → a < length S.blocks → (t : Tag)
-    → command_at file (place_of_type file a) ≡ TypeBlock t 0 → BlockRises (block_of S a)
+    → command_at file (place_of_type file a) ≡ Some (TypeBlock t 0) → BlockRises (block_of S a)
 type_rises {file} x a l t e =
     let (w, place) = type_written x a l in
-    let same : TypeBlock w.tag w.states ≡ TypeBlock t 0 = sym w.begins ∙ ap (command_at file) place ∙ e in
-    let automaton = (w.stands (ap (on_type (λ g s. s) 0) same)).automaton in
+    let same : Some (TypeBlock w.tag w.states) ≡ Some (TypeBlock t 0) = sym w.begins ∙ ap (command_at file) place ∙ e in
+    let automaton = (w.stands (ap states_in same)).automaton in
     record { accepting = automaton.accepting_rise; steps = automaton.steps_rise }

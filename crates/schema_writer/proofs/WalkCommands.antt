@@ -10,7 +10,7 @@ use Rattle.sdtd.specs.Schema.{step}
 use Rattle.sdtd.proofs.Basics.{is_true}
 use Rattle.command.specs.Relabelled.{relabel_command}
 use Rattle.command.specs.declared.Command.{Command}
-use Rattle.command.specs.declared.Command.TheVariants.{Tags, TypeBlock, Final, Step, Root, Nil, Done, Expression, NoCommand}
+use Rattle.command.specs.declared.Command.TheVariants.{Tags, TypeBlock, Final, Step, Root, Nil, Done, Expression}
 use Rattle.expression.specs.Expression.{Expression as Exp}
 use Rattle.expression.specs.Content.{Name}
 use Rattle.expression.proofs.WholeContents.{types_of}
@@ -32,7 +32,6 @@ counted g i (Root a) = omega arith
 counted g i Nil = omega (arith, same_count with_nil g.blocks)
 counted g i Done = omega arith
 counted g i (Expression x) = omega arith
-counted g i NoCommand = omega arith
 
 -- a command with other types opens an expression or not, as before
 pub opens_same : (image : ℕ → ℕ) (c : Command) → opens_expression c ≡ false → opens_expression (relabel_command image c) ≡ false
@@ -44,7 +43,6 @@ opens_same image (Root a) o = o
 opens_same image Nil o = o
 opens_same image Done o = o
 opens_same image (Expression x) o = o
-opens_same image NoCommand o = o
 
 -- where no name is of a dropped type, each is of a kept one
 pub none_dropped : (kept : ℕ → Bool) (ns : List Name) → names_dropped kept ns ≡ false → Each (λ j. T (kept j)) (types_of ns)

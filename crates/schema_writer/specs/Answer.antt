@@ -1,4 +1,4 @@
--- What the writer answers and leaves in the buffer lent: document 02, Req 06.
+-- What the writer answers and leaves in the buffer lent.
 use Rattle.std.specs.Prelude.{◌≡◌, Bool, List, [], ◌∷◌, ℕ, ◌≤◌, length}
 use Rattle.sdtd.specs.Schema.{Schema}
 use Rattle.sdtd.specs.Reduced.{TellsUsed}

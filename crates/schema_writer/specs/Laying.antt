@@ -1,25 +1,10 @@
--- What the writer's private steps compute: bytes laid and counted, the tables of kept types and of new numbers, and how what stands at a place is
--- written.
-use Rattle.std.specs.Prelude.{◌≡◌, Bool, false, cond, ◌&&◌, List, ℕ, ◌+◌, ◌≤◌, ◌<◌, min, max, T, ltb, length, get_or}
-use Rattle.std.proofs.lemmas.List.Edits.{sets}
+-- What the writer's private steps compute: the tables of kept types and of new numbers, and which types are written by their states.
+use Rattle.std.specs.Prelude.{◌≡◌, Bool, false, cond, ◌&&◌, Option, Some, None, List, ℕ, ◌+◌, ◌<◌, min, T, ltb, get_or}
 use Rattle.sdtd.specs.Limits.{most_types}
 use Rattle.sdtd.specs.Reduced.{new_number}
 use Rattle.command.specs.declared.Command.{Command}
 use Rattle.expression.specs.Content.{Content, broken, whole, content_at}
 use Rattle.schema_writer.specs.Left.{names_dropped, begins_expression}
-use Rattle.schema_writer.specs.declared.content.Form.{Form}
-use Rattle.schema_writer.specs.declared.content.Form.TheVariants.{ByStates, AsGiven}
-
--- the largest count
-abbrev pub most_counted : ℕ
-most_counted = 0xffff_ffff_ffff_ffff
-
--- The buffer `is` holds the bytes from the place `at` on, as far as they fit, and its other bytes are as they were. The next place counts the bytes
--- whether they fit or not; a count that would pass the largest is the largest, which no buffer's length passes.
-pub record Counted (was : List ℕ) (at : ℕ) (bytes is : List ℕ) (r : ℕ) : Type 0 where
-  pub short : length was ≤ most_counted
-  pub laid : is ≡ sets was at bytes
-  pub place : r ≡ max at (min (at + length bytes) most_counted)
 
 -- the type a is kept, by the table of kept types; no number past the table is a type
 abbrev pub kept_by : List Bool → ℕ → Bool
@@ -33,19 +18,15 @@ number_by numbers j = get_or numbers (min j most_types) 0
 pub record NewNumbers (table : List Bool) (numbers : List ℕ) : Type 0 where
   pub each : (j : ℕ) → number_by numbers j ≡ new_number (kept_by table) j
 
--- how a type is written whose content is so
-abbrev pub content_written : (ℕ → Bool) → Content → Form
-content_written kept (broken n p) = AsGiven
-content_written kept (whole e names p) = cond (names_dropped kept names) (ByStates (p + 1)) AsGiven
+-- where the file goes on after a kept type whose content is so, if it is written by its states
+abbrev pub past_content : (ℕ → Bool) → Content → Option ℕ
+past_content kept (broken n p) = None
+past_content kept (whole e names p) = cond (names_dropped kept names) (Some (p + 1)) None
 
--- how the command is written that ends at the place `next` and before which a TYPEs stand
-abbrev pub written_as : (ℕ → Bool) → List ℕ → ℕ → ℕ → Command → Form
-written_as kept file next a c = cond (begins_expression c && kept a) (content_written kept (content_at file next)) AsGiven
+-- the same of the command that ends at the place `next` and before which a TYPEs stand
+abbrev pub past_states : (ℕ → Bool) → List ℕ → ℕ → ℕ → Command → Option ℕ
+past_states kept file next a c = cond (begins_expression c && kept a) (past_content kept (content_at file next)) None
 
 -- only types below so many are kept
 pub record KeptBelow (table : List Bool) (types : ℕ) : Type 0 where
   pub below : (a : ℕ) → T (kept_by table a) → a < types
-
--- each type below so many is kept
-pub record AllKept (table : List Bool) (types : ℕ) : Type 0 where
-  pub each : (a : ℕ) → a < types → T (kept_by table a)

@@ -1,5 +1,6 @@
 -- What is left of a schema file without the types that are not kept: "one without those types and the steps by them, numbers closed up in order".
-use Rattle.std.specs.Prelude.{Bool, true, false, not, cond, ◌&&◌, ◌||◌, List, [], ◌∷◌, ◌++◌, map, ℕ, zero, suc, ◌+◌, pred, eqb, leb, length}
+use Rattle.std.specs.Prelude.{Bool, true, false, not, cond, ◌&&◌, ◌||◌, Option, Some, None, List, [], ◌∷◌, ◌++◌, map, ℕ, zero, suc, ◌+◌, pred, eqb, length}
+use Rattle.std.specs.Option.{option_map}
 use Rattle.sdtd.specs.Numbered.{tag_no, type_no}
 use Rattle.sdtd.specs.Schema.{Block, Schema, block_of}
 use Rattle.sdtd.specs.Schema.{Step as StepOf}
@@ -8,7 +9,7 @@ use Rattle.command.specs.Command.{command_at, size}
 use Rattle.command.specs.Cases.{on_type}
 use Rattle.command.specs.Relabelled.{relabel_command}
 use Rattle.command.specs.declared.Command.{Command}
-use Rattle.command.specs.declared.Command.TheVariants.{Tags, TypeBlock, Final, Step, Root, Nil, Done, Expression, NoCommand}
+use Rattle.command.specs.declared.Command.TheVariants.{Tags, TypeBlock, Final, Step, Root, Nil, Done, Expression}
 use Rattle.expression.specs.Content.{Name, Content, broken, whole, content_at}
 
 -- Does the command stay, where `a` TYPEs stand before it? The block that it is in is then that of the type `pred a`, and a TYPE is that of the
@@ -22,7 +23,6 @@ stays kept a (Root r) = kept r.0
 stays kept a Nil = kept (pred a)
 stays kept a Done = true
 stays kept a (Expression x) = kept (pred a)
-stays kept a NoCommand = false
 
 -- the command, if it stays, with new numbers for the types that it names
 abbrev pub command_left : (ℕ → Bool) → ℕ → Command → List Command
@@ -67,19 +67,26 @@ by_states kept S a given (whole e names p) =
 abbrev pub begins_expression : Command → Bool
 begins_expression c = on_type (λ g s. eqb s 0) false c
 
-unfoldable pub piece_at : (ℕ → Bool) → Schema → List ℕ → ℕ → ℕ → Piece
-piece_at kept S file i a =
-    let c = command_at file i in
+-- what is written of the command c at the place i
+abbrev pub piece_of : (ℕ → Bool) → Schema → List ℕ → ℕ → ℕ → Command → Piece
+piece_of kept S file i a c =
     let given = one_left kept i a c in
     cond (begins_expression c && kept a) (by_states kept S a given (content_at file (i + size c))) given
+
+-- the piece at the place i, if a command stands there
+unfoldable pub piece_at : (ℕ → Bool) → Schema → List ℕ → ℕ → ℕ → Option Piece
+piece_at kept S file i a = option_map (piece_of kept S file i a) (command_at file i)
+
+-- a piece, and the rest from the place on where the file goes on after it
+abbrev pub and_rest : (ℕ → ℕ → List Command) → Option Piece → List Command
+and_rest rest None = []
+and_rest rest (Some x) = x.written ++ rest x.next x.types
 
 -- The commands that are left from the place i on, where a TYPEs stand before it; `fuel` is more than the bytes left. "All other commands keep their
 -- order".
 unfoldable pub left_from : ℕ → (ℕ → Bool) → Schema → List ℕ → ℕ → ℕ → List Command
 left_from zero kept S file i a = []
-left_from (suc fuel) kept S file i a =
-    let x = piece_at kept S file i a in
-    cond (leb (length file) i) [] (x.written ++ left_from fuel kept S file x.next x.types)
+left_from (suc fuel) kept S file i a = and_rest (left_from fuel kept S file) (piece_at kept S file i a)
 
 -- The commands that are left of a file that states S.
 unfoldable pub commands_left : (ℕ → Bool) → Schema → List ℕ → List Command

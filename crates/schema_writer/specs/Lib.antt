@@ -1,4 +1,4 @@
--- The writer of schema files without the types that no valid document uses: document 02, Req 06. `Laying` says what the private steps compute; no
+-- The writer of schema files without the types that no valid document uses. `Laying` says what the private steps compute; no
 -- public promise cites it.
 pub mod Left
 pub mod Answer

@@ -3,10 +3,9 @@
 
 mod blocks;
 mod content;
-mod numbers;
+mod kept;
 mod pieces;
 mod put;
-mod same;
 mod walk;
 mod write;
 

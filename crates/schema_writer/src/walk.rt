@@ -1,49 +1,64 @@
-// The walk over a file's commands that lays and counts what is left of them.
+// The walk over a file's commands that lays what is left of them.
+ghost use Rattle.std.specs.Prelude.{◌≡◌, min, length};
+ghost use Rattle.std.proofs.lemmas.List.Edits.{sets};
 ghost use Rattle.sdtd.specs.Schema.{WithinLimits};
 ghost use Rattle.schema.specs.Value.{meaning};
 ghost use Rattle.command.specs.Command.{file_of};
+ghost use Rattle.text.specs.Page.{most_counted, Lays};
 ghost use Rattle.schema_writer.specs.Left.{commands_left};
-ghost use Rattle.schema_writer.specs.Laying.{Counted, kept_by, KeptBelow, NewNumbers};
+ghost use Rattle.schema_writer.specs.Laying.{kept_by, KeptBelow};
 
 use crate::blocks::put_block;
-use crate::content::{Form, written_as};
-use crate::numbers::NUMBERS;
-use crate::pieces::{put_left, type_count};
-use command::{command_at, size_of};
-use schema::{Schema, TYPES};
+use crate::content::past_states;
+use crate::kept::Kept;
+use crate::pieces::put_left;
+use command::command_at;
+use schema::Schema;
+use sdtd::TypeNo;
+use text::Page;
 
-// Lays what is left of the file from the buffer's start on, as far as it fits, and gives its length. `types` counts the TYPEs before the place `at`.
-pub(crate) fn put_file(
-    out: &mut [u8],
-    file: &[u8],
-    schema: Schema,
-    kept: &[bool; TYPES],
-    numbers: &[u8; NUMBERS],
-) -> usize
-    requires { NewNumbers kept.now numbers.now × WithinLimits (meaning schema) × KeptBelow kept.now schema.types }
-    ensures { Counted out.old 0
-        (file_of (commands_left (kept_by kept.now) (meaning schema) file.now)) out.new result }
+// Puts what is left of the file. `types` counts the TYPEs before the place `at`.
+fn put_file(page: &mut Page<'_>, file: &[u8], schema: &Schema, kept: &Kept)
+    requires { WithinLimits (meaning schema.now) × KeptBelow kept.now.kept schema.now.types }
+    ensures { Lays page.old (file_of (commands_left (kept_by kept.now.kept) (meaning schema.now) file.now)) page.new }
 {
-    let mut place = 0;
     let mut at = 0;
     let mut types = 0;
-    while at < file.len() {
-        let c = command_at(file, at);
-        let size = size_of(c);
-        if size == 0 {
-            return place;
-        }
-        let next = at + size;
-        let how = written_as(file, next, c, types, kept);
-        if let Form::ByStates(end) = how {
-            place = put_block(out, place, schema, types, kept, numbers);
+    while let Some(command) = command_at(file, at) {
+        let next = at + command.size();
+        if let Some(end) = past_states(file, next, command, types, kept) {
+            put_block(page, schema, TypeNo(types as u8), kept);
             types += 1;
             at = end;
-            continue;
+        } else {
+            put_left(page, command, types, kept);
+            types += usize::from(command.is_type());
+            at = next;
         }
-        place = put_left(out, place, c, types, kept, numbers);
-        types += type_count(c);
-        at = next;
     }
-    place
+}
+
+// How many bytes are left of the file: laid on a page of no bytes.
+#[tactic(auto, unfolding(text::specs::Page::laid))]
+pub(crate) fn measured(file: &[u8], schema: &Schema, kept: &Kept) -> usize
+    requires { WithinLimits (meaning schema.now) × KeptBelow kept.now.kept schema.now.types }
+    ensures { result ≡ min
+        (length (file_of (commands_left (kept_by kept.now.kept) (meaning schema.now) file.now)))
+        most_counted }
+{
+    let mut nowhere = [0u8; 0];
+    let mut page = Page::new(&mut nowhere, 0);
+    put_file(&mut page, file, schema, kept);
+    page.count()
+}
+
+// Lays what is left of the file from the buffer's start on, as far as it fits.
+#[tactic(auto, unfolding(text::specs::Page::laid))]
+pub(crate) fn lay_file(out: &mut [u8], file: &[u8], schema: &Schema, kept: &Kept)
+    requires { WithinLimits (meaning schema.now) × KeptBelow kept.now.kept schema.now.types }
+    ensures { out.new ≡ sets out.old 0
+        (file_of (commands_left (kept_by kept.now.kept) (meaning schema.now) file.now)) }
+{
+    let mut page = Page::new(out, 0);
+    put_file(&mut page, file, schema, kept);
 }

@@ -1,50 +1,62 @@
 // The call: a file that passed is written without the types that no valid document uses.
+ghost use Rattle.std.specs.Prelude.{◌≡◌, ◌↔◌, [], ◌∷◌, T, All};
+ghost use Rattle.sdtd.specs.Answer.{Ordered};
+ghost use Rattle.sdtd.specs.Output.{writes, written_of};
 ghost use Rattle.schema.specs.Value.{meaning};
 ghost use Rattle.commands.specs.File.{StatesSchema};
-ghost use Rattle.schema_writer.specs.Answer.{Writes, WriteMeans};
+ghost use Rattle.schema_writer.specs.Answer.{room_asked, Writes, WriteMeans};
 
-use crate::numbers::new_numbers;
-use crate::same::{keeps_all, write_same};
-use crate::walk::put_file;
+use crate::kept::Kept;
+use crate::walk::{lay_file, measured};
 use commands::read_commands;
 use competition::{LEAST_WITNESS, judge};
 use schema::{Schema, used_types};
-use sdtd::{FileWritten, Verdict};
+use sdtd::Refused;
+
+// Is each of the types kept?
+fn all_kept(kept: &[bool]) -> bool
+    ensures { T result ↔ All T kept.now }
+{
+    kept.iter().all(|is_kept| *is_kept)
+}
+
+// Writes the file as it is, where it fits.
+fn write_same(file: &[u8], out: &mut [u8]) -> Result<usize, Refused>
+    ensures { Ordered (room_asked out.old file.now ∷ []) (λ x. x ≡ writes out.old file.now)
+        (record { answer = written_of result; buffer = out.new }) }
+{
+    if out.len() < file.len() {
+        return Err(Refused::NoRoom);
+    }
+    out[..file.len()].copy_from_slice(file);
+    Ok(file.len())
+}
 
 // Writes what is left of a file that states the schema: the file itself where each type is kept; else it is measured over a buffer of no bytes, and
 // written where it fits.
-fn write_left(file: &[u8], schema: Schema, out: &mut [u8]) -> FileWritten
-    requires { StatesSchema file.now (meaning schema) }
-    ensures { Writes file.now (meaning schema) out.old (record { answer = result; buffer = out.new }) }
+fn write_left(file: &[u8], schema: &Schema, out: &mut [u8]) -> Result<usize, Refused>
+    requires { StatesSchema file.now (meaning schema.now) }
+    ensures { Writes file.now (meaning schema.now) out.old (record { answer = written_of result; buffer = out.new }) }
 {
-    let kept = used_types(schema);
-    if keeps_all(&kept, schema.types as usize) {
+    let used = used_types(schema);
+    if all_kept(&used[..usize::from(schema.types)]) {
         return write_same(file, out);
     }
-    let numbers = new_numbers(&kept);
-    let mut nowhere = [0u8; 0];
-    let length = put_file(&mut nowhere, file, schema, &kept, &numbers);
+    let kept = Kept::new(used);
+    let length = measured(file, schema, &kept);
     if out.len() < length {
-        return FileWritten::Refused(20);
+        return Err(Refused::NoRoom);
     }
-    put_file(out, file, schema, &kept, &numbers);
-    FileWritten::Length(length)
+    lay_file(out, file, schema, &kept);
+    Ok(length)
 }
 
 // Questions 2 to 9 and 21 to 23 of the file, then whether the output has room for what is left of it.
-pub fn write_reduced(file: &[u8], out: &mut [u8]) -> FileWritten
-    ensures { WriteMeans file.now out.old out.new result }
+pub fn write_reduced(file: &[u8], out: &mut [u8]) -> Result<usize, Refused>
+    ensures { WriteMeans file.now out.old out.new (written_of result) }
 {
-    let all = read_commands(file);
-    let verdict = all.verdict;
-    if let Verdict::RefusedAt(n, _) = verdict {
-        return FileWritten::Refused(n);
-    }
-    let schema = all.schema;
+    let schema = read_commands(file).map_err(|refusal| refusal.why)?;
     let mut witness = [0u8; LEAST_WITNESS];
-    let judged = judge(schema, &mut witness);
-    if let Verdict::RefusedAt(n, _) = judged {
-        return FileWritten::Refused(n);
-    }
-    write_left(file, schema, out)
+    judge(&schema, &mut witness)?;
+    write_left(file, &schema, out)
 }

@@ -1,43 +1,39 @@
 -- `schema_writer::blocks::put_block` meets its contract: its TYPE, then its FINALs, then its steps.
-use mathlib.Core.Path.{sym}
+use mathlib.Core.Path.{sym, ap, ◌∙◌}
 use native.Mathlib.Omega.{arith}
+use Rattle.text.specs.Page.{sheet, laid}
+use Rattle.text.proofs.PageLaws.{laid_then}
 use Rattle.schema_writer.specs.Laying.{kept_by}
 use Rattle.schema_writer.proofs.BlockLaws.{TypeRoom, type_room, block_bytes}
-use Rattle.schema_writer.proofs.CountedLaws.{counted_then, counted_same}
 use Rattle.schema_writer.proofs.blocks.put_block.Goals as goal
 
-pub start_of-start-requires : goal.start_of-start-requires
-start_of-start-requires c =
-    let room : TypeRoom c.args.schema c.args.a = type_room _ _ c.requires.2 c.requires.1 in
-    let r = room in (omega arith, omega arith)
+pub bounds-schema-i : goal.bounds-schema-i
+bounds-schema-i c =
+    let room : TypeRoom c.args.schema.now c.args.a.0 = type_room _ _ c.requires.1 c.requires.0 in
+    omega (arith, c.from-i.ensures, room.type)
 
-pub bounds-schema-a : goal.bounds-schema-a
-bounds-schema-a c =
-    let room : TypeRoom c.args.schema c.args.a = type_room _ _ c.requires.2 c.requires.1 in
-    room.type
+pub bounds-schema-i-2 : goal.bounds-schema-i-2
+bounds-schema-i-2 c =
+    let room : TypeRoom c.args.schema.now c.args.a.0 = type_room _ _ c.requires.1 c.requires.0 in
+    omega (arith, c.from-i.ensures, room.type)
 
-pub bounds-schema-a-2 : goal.bounds-schema-a-2
-bounds-schema-a-2 c =
-    let room : TypeRoom c.args.schema c.args.a = type_room _ _ c.requires.2 c.requires.1 in
-    room.type
+pub bounds-schema-i-3 : goal.bounds-schema-i-3
+bounds-schema-i-3 c =
+    let room : TypeRoom c.args.schema.now c.args.a.0 = type_room _ _ c.requires.1 c.requires.0 in
+    omega (arith, c.from-i.ensures, room.type)
 
-pub bounds-schema-a-3 : goal.bounds-schema-a-3
-bounds-schema-a-3 c =
-    let room : TypeRoom c.args.schema c.args.a = type_room _ _ c.requires.2 c.requires.1 in
-    room.type
-
-pub bounds-schema-a-4 : goal.bounds-schema-a-4
-bounds-schema-a-4 c =
-    let room : TypeRoom c.args.schema c.args.a = type_room _ _ c.requires.2 c.requires.1 in
-    room.type
-
-pub put_steps-requires : goal.put_steps-requires
-put_steps-requires c =
-    let room : TypeRoom c.args.schema c.args.a = type_room _ _ c.requires.2 c.requires.1 in
-    (c.requires.0, omega (arith, c.start_of-start.ensures, room.steps))
+pub span-requires : goal.span-requires
+span-requires c =
+    let room : TypeRoom c.args.schema.now c.args.a.0 = type_room _ _ c.requires.1 c.requires.0 in
+    (room.type, room.steps)
 
 pub returns : goal.returns
 returns c =
-    counted_same (sym (block_bytes c.args.schema c.args.a c.requires.2 (kept_by c.args.kept.now)))
-    (counted_then c.put_command-first.ensures
-    (counted_then c.put_finals-second.ensures (rw c.start_of-start.ensures at c.put_steps.ensures)))
+    let a = c.args in
+    let head = rw c.from-i.ensures at c.put_command.ensures.1 in
+    let finals = rw c.from-i.ensures at c.put_finals.ensures.1 in
+    let steps = rw (c.steps_in.ensures, c.span.ensures.start, c.span.ensures.n) at c.put_steps.ensures.1 in (
+      c.put_steps.ensures.0 ∙ c.put_finals.ensures.0 ∙ c.put_command.ensures.0,
+      laid_then _ _ _ head (laid_then _ _ _ finals steps)
+          ∙ ap (laid (sheet a.page.now)) (sym (block_bytes a.schema.now a.a.0 c.requires.1 (kept_by a.kept.now.kept))),
+    )

@@ -8,23 +8,22 @@ use Rattle.commands.specs.Laying.{names_from}
 use Rattle.schema_writer.proofs.ContentLaws.{first_dropped, first_kept}
 use Rattle.schema_writer.proofs.content.names_dropped.Goals as goal
 
-pub returns-then-not-keeps : goal.returns-then-not-keeps
-returns-then-not-keeps c =
-    let x = c.args.read in
-    let gone = ap not (sym c.keeps.ensures) ∙ c.if-not-keeps.true-raw in
-    sym (first_dropped _ x.types x.places x.uses c.loop-q.q c.loop-q-test.true gone) ∙ c.loop-q.invariant.2
+pub returns-then-not-has_type : goal.returns-then-not-has_type
+returns-then-not-has_type c =
+    let x = c.args.read.now in
+    let told = rw c.from.ensures at c.has_type.ensures in
+    let gone = ap not (sym told ∙ c.if-not-has_type.true) in
+    sym (first_dropped _ x.types x.places x.uses c.loop-q.q (omega arith) gone) ∙ c.loop-q.invariant
 
 pub loop-q-preserved : goal.loop-q-preserved
 loop-q-preserved c =
-    let x = c.args.read in
-    let there = ap not (sym c.keeps.ensures) ∙ c.if-not-keeps.false-raw in (
-      omega arith,
-      omega arith,
-      sym (first_kept _ x.types x.places x.uses c.loop-q.q c.loop-q-test.true there) ∙ c.loop-q.invariant.2,
-    )
+    let x = c.args.read.now in
+    let told = rw c.from.ensures at c.has_type.ensures in
+    let there = ap not (sym told ∙ c.if-not-has_type.false) in
+    sym (first_kept _ x.types x.places x.uses c.loop-q.q (omega arith) there) ∙ c.loop-q.invariant
 
 pub returns : goal.returns
 unfolding names_from
 returns c =
-    let z : c.args.read.uses + 1 - c.loop-q.q ≡ 0 = omega arith in
-    rw z at c.loop-q.invariant.2
+    let z : c.args.read.now.uses + 1 - c.loop-q.q ≡ 0 = omega arith in
+    rw z at c.loop-q.invariant

@@ -1,37 +1,33 @@
--- `schema_writer::walk::put_file` meets its contract. The loop's invariant: what is left of the file from the place on, put,
--- is all put. The measure is what is left of the file: a command ends inside it, and so does an expression.
-use mathlib.Core.Path.{sym, ◌∙◌}
-use Prim.Native.Nat.{◌+◌, ◌≤◌, ◌<◌}
+-- `schema_writer::walk::put_file` meets its contract, command after command.
+use mathlib.Core.Path.{sym, ap, ◌∙◌}
+use Prim.Native.Nat.{◌+◌}
 use native.Mathlib.Omega.{arith}
-use lib.ListN.{length}
+use mir.Val.{bool_byte}
 use Rattle.schema_writer.specs.Laying.{kept_by}
-use Rattle.schema_writer.proofs.ContentLaws.{written_ends}
-use Rattle.schema_writer.proofs.FileLaws.{walked_none, walked_end, walked_stop, walked_block, walked_given}
+use Rattle.schema_writer.proofs.ContentLaws.{states_end}
+use Rattle.schema_writer.proofs.FileLaws.{count_is, walked_none, walked_end, walked_block, walked_given}
 use Rattle.schema_writer.proofs.walk.put_file.Goals as goal
 
-pub loop-at-init : goal.loop-at-init
-loop-at-init c = walked_none _ _ _ _
+pub loop-command-init : goal.loop-command-init
+loop-command-init c = walked_none _ _ _ c.args.page.now
 
-pub returns-then-size-eq0 : goal.returns-then-size-eq0
-returns-then-size-eq0 c =
-    walked_stop _ _ _ c.loop-at.invariant (omega arith) c.command_at-c.ensures c.size_of-size.ensures c.if-size-eq0.true
+pub loop-command-smaller-in-Some-past_states : goal.loop-command-smaller-in-Some-past_states
+loop-command-smaller-in-Some-past_states c =
+    let l = c.loop-command in
+    let ends = states_end (kept_by c.args.kept.now.kept) c.args.file.now (l.at + c.size.result) l.types c.in-Some.command
+    (sym c.past_states.ensures ∙ c.in-Some-past_states.is) in
+    omega (arith, ends.0, ends.1)
 
-pub loop-at-smaller-in-ByStates : goal.loop-at-smaller-in-ByStates
-loop-at-smaller-in-ByStates c =
-    let block_ends : (c.loop-at.at + c.size_of-size.result < c.in-ByStates.end)
-    × (c.in-ByStates.end ≤ length c.args.file.now) = written_ends (kept_by c.args.kept.now) c.args.file.now (c.loop-at.at + c.size_of-size.result) c.loop-at.types c.command_at-c.result
-    (sym c.written_as-how.ensures ∙ c.in-ByStates.is) in
-    let e = block_ends in omega arith
+pub loop-command-preserved-in-Some-past_states : goal.loop-command-preserved-in-Some-past_states
+loop-command-preserved-in-Some-past_states c =
+    walked_block _ _ _ c.loop-command.invariant (sym c.command_at.ensures ∙ c.in-Some.is) (rw c.size.ensures at c.past_states.ensures)
+    c.in-Some-past_states.is c.put_block.ensures
 
-pub loop-at-preserved-in-ByStates : goal.loop-at-preserved-in-ByStates
-loop-at-preserved-in-ByStates c =
-    walked_block _ _ _ c.loop-at.invariant c.loop-at-test.true c.command_at-c.ensures c.size_of-size.ensures
-    c.written_as-how.ensures c.in-ByStates.is c.put_block-place.ensures
-
-pub loop-at-preserved : goal.loop-at-preserved
-loop-at-preserved c =
-    walked_given _ _ _ c.loop-at.invariant c.loop-at-test.true c.command_at-c.ensures c.size_of-size.ensures
-    c.written_as-how.ensures c.in_default.is c.if-size-eq0.false c.put_left-place.ensures c.type_count-types.ensures
+pub loop-command-preserved : goal.loop-command-preserved
+loop-command-preserved c =
+    rw c.size.ensures
+    (walked_given _ _ _ c.loop-command.invariant (sym c.command_at.ensures ∙ c.in-Some.is) (rw c.size.ensures at c.past_states.ensures)
+    c.in_default-past_states.is c.put_left.ensures (c.from-types.ensures ∙ ap bool_byte c.is_type.ensures ∙ sym (count_is c.in-Some.command)))
 
 pub returns : goal.returns
-returns c = walked_end _ _ _ c.loop-at.invariant (omega arith) c.loop-at-test.false
+returns c = walked_end _ _ _ c.loop-command.invariant (sym c.command_at.ensures ∙ c.in_default.is)
