@@ -7,7 +7,7 @@ use Rattle.std.specs.Prelude.{fold}
 use Rattle.sdtd.specs.Limits.{most_types}
 use Rattle.sdtd.specs.Schema.{Step}
 use Rattle.schema.specs.Value.{up_from, step_at, steps_of}
-use Rattle.schema.specs.Spread.{spread_step, spread_set, ways_by}
+use Rattle.schema.specs.Spread.{spread_step, spread_set}
 use Rattle.schema.specs.Going.{along, steps_by, tells_by, told_anew}
 use Rattle.schema.specs.declared.value.Schema.{Schema}
 use Rattle.schema.specs.declared.spread.Way.{Way}

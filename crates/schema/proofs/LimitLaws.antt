@@ -14,7 +14,7 @@ use lib.ListN.{length, get_or}
 use Rattle.std.specs.List.{All}
 use Rattle.std.proofs.lemmas.List.Elements.{All-head, All-tail}
 use Rattle.sdtd.specs.Limits.{most_tags, most_types, most_states, most_steps}
-use Rattle.sdtd.specs.Schema.{Step, Block, no_block, block_of, StepWithin, BlockWithin, WithinLimits, steps_in}
+use Rattle.sdtd.specs.Schema.{Step, Block, no_block, block_of, BlockWithin, WithinLimits, steps_in}
 use Rattle.sdtd.specs.Schema.{Schema as Meaning}
 use Rattle.sdtd.proofs.Basics.{get_or_member}
 use Rattle.schema.specs.States.{members}

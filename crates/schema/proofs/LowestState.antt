@@ -1,7 +1,7 @@
 -- The lowest state of a set: the machine counts zeros to find it, and takes it out by `&`. What is left of the set, and its list of states.
 use mathlib.Core.Path.{◌≡◌, refl, sym, ap, subst, ◌∙◌}
-use mathlib.Core.Bool.{false, cond}
-use mathlib.Core.List.{[], ◌∷◌, ◌++◌}
+use mathlib.Core.Bool.{false}
+use mathlib.Core.List.{[], ◌∷◌}
 use Prim.Native.Nat.{ℕ, zero, suc, ◌+◌, ◌-◌, ◌/◌, ◌%◌, ◌^◌, ◌≤◌, ◌<◌}
 use native.Mathlib.Decide.{dec_lt, ℕ_discrete}
 use native.Mathlib.Nat.{add-div_right, div-one, div-eq_of_lt, div-div-eq-div-mul, pow-suc, pow-succ'}
@@ -9,7 +9,7 @@ use native.Mathlib.Omega.{arith}
 use borrow.Author.Tests.{eq-eqb, ne_eqb}
 use lib.Bits.{bit_and, and_step, and_self}
 use lib.Count.{under, count_trailing_zeros}
-use lib.Dec.{T, eqb, eqb→eq}
+use lib.Dec.{T, eqb→eq}
 use lib.Pow.{pow_pos}
 use Rattle.sdtd.specs.Limits.{most_states}
 use Rattle.sdtd.proofs.Basics.{is_true, is_false}

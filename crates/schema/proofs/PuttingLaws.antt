@@ -51,14 +51,6 @@ put_there (x ∷ xs) at t (suc k) l h =
     ap (λ (n : ℕ). get_or (put_all xs (suc at) (set t at x)) n 0) (omega arith)
     ∙ put_there xs (suc at) (set t at x) k (rw length-set (omega arith)) (omega arith)
 
-pub picked-cons : (p e : ℕ) (es : List ℕ) → picked p (e ∷ es) ≡ picked p (e ∷ []) ++ picked p es
-unfolding picked
-picked-cons p e es = go (eqb (from_in e) p)
-  where
-    go : (b : Bool) → cond b (e ∷ picked p es) (picked p es) ≡ cond b (e ∷ []) [] ++ picked p es
-    go true = refl
-    go false = refl
-
 pub counted-cons : (tag ways : List ℕ) (own : ℕ) (s : Step) (ss : List Step)
     → counted tag ways own (s ∷ ss) ≡ counted_step tag ways own s ++ counted tag ways own ss
 unfolding counted

@@ -7,7 +7,7 @@ use native.Mathlib.Decide.{ℕ_discrete, dec_lt}
 use native.Mathlib.Omega.{arith}
 use borrow.Author.Tests.{lt-ltb}
 use lib.Dec.{T, ltb}
-use lib.ListN.{length, get_or, set, replicate, length-set, length-replicate, get_or-eq_default}
+use lib.ListN.{length, get_or, set, replicate, length-set, length-replicate}
 use lib.Seq.{get_or-set_same, get_or-set_other}
 use Rattle.sdtd.specs.Limits.{most_types}
 use Rattle.sdtd.specs.Schema.{Step}
@@ -238,16 +238,6 @@ module _ (own : ℕ → List Step) (bears forward live : List ℕ) (roots : List
 
   pub visited_most : {at : ℕ} {m : Queued} → Visited at m → m.count ≤ most_types
   visited_most {m = m} v = omega (arith, count-le m.reached, v.kept.counted, v.kept.long)
-
-  -- the next type is one below the limit
-  pub visited_below : {at : ℕ} {m : Queued} → Visited at m → at < m.count → type_at m at < most_types
-  visited_below {at} {m} v l =
-      elim (dec_lt (type_at m at) most_types) [
-        | yes h ↦ h
-        | no h ↦
-            let past : length m.reached ≤ type_at m at = rw v.kept.long (omega arith) in
-            absurd (rw (get_or-eq_default m.reached false past) at (v.kept.marked at l))
-      ]
 
   -- at the start nothing is marked; then the roots are
   none_marked : Kept (Reaching own bears forward live roots) (queued (replicate most_types false) (replicate most_types 0) 0)

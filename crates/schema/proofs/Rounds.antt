@@ -4,12 +4,11 @@ use mathlib.Core.Logic.{◌≢◌}
 use mathlib.Core.List.{List, ◌∷◌, ◌++◌, append_assoc}
 use Prim.Native.Nat.{ℕ, zero, suc, ◌+◌, ◌-◌, ◌^◌, ◌≤◌, ◌<◌}
 use native.Mathlib.Numerals.{add-one}
-use native.Mathlib.Decide.{ℕ_discrete, dec_lt}
+use native.Mathlib.Decide.{ℕ_discrete}
 use native.Mathlib.Omega.{arith}
-use borrow.Author.Tests.{lt-ltb, le-ltb}
 use lib.ListN.{length, get_or, set, take, replicate}
 use lib.Seq.{take-suc, set_at, length-take-le}
-use Rattle.sdtd.specs.Limits.{most_types, most_states, most_steps}
+use Rattle.sdtd.specs.Limits.{most_types, most_states}
 use Rattle.sdtd.specs.Schema.{Step}
 use Rattle.schema.specs.Value.{steps_of, step_at, offset}
 use Rattle.schema.specs.Spread.{spread_set, settle_set, iterate, Settled, start_states}

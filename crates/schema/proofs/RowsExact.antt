@@ -1,7 +1,7 @@
 -- The rows of a schema inside the limits have exactly the steps that count.
 use mathlib.Core.Path.{◌≡◌, refl, sym, ap, subst, ◌∙◌}
 use mathlib.Core.Logic.{◌↔◌, ⊎_elim}
-use mathlib.Core.Bool.{Bool, true, false, cond}
+use mathlib.Core.Bool.{cond}
 use mathlib.Core.List.Memᴰ
 use mathlib.Core.List.{List, [], ◌∷◌, Memᴰ}
 use Prim.Native.Nat.{ℕ, ◌+◌, ◌*◌, ◌/◌, ◌%◌, ◌≤◌, ◌<◌}
@@ -116,10 +116,6 @@ row_made v ways live a q l =
 -- the block of a type is inside the limits
 block_within : (v : Schema) → WithinLimits (meaning v) → (a : ℕ) → a < v.types → BlockWithin (meaning v) (block_of (meaning v) a)
 block_within v within a l = within.blocks (block_of (meaning v) a) (get_or_member (meaning v).blocks a no_block (rw types_count l))
-
-pub states_few : (v : Schema) → WithinLimits (meaning v) → (a : ℕ) → a < v.types → get_or v.states a 0 ≤ most_states
-unfolding block_at
-states_few v within a l = rw (block_of_lem v a l) at (block_within v within a l).states_most
 
 module _
     {v : Schema} (fits : Fits v) (within : WithinLimits (meaning v)) (ways live : List ℕ)

@@ -1,15 +1,15 @@
 -- Laws of a round over a table of sets of states: what its entries are, what they keep, and what they take in.
 use mathlib.Core.Path.{◌≡◌, refl, sym, ◌∙◌, ap, subst}
-use mathlib.Core.Logic.{◌↔◌, inl, inr, ⊎_elim, ◌≢◌}
+use mathlib.Core.Logic.{inl, inr, ⊎_elim}
 use mathlib.Core.Bool.{Bool, ◌&&◌}
 use mathlib.Core.List.{List, [], ◌∷◌, Memᴰ}
 use Prim.Native.Nat.{ℕ, zero, suc, ◌+◌, ◌-◌, ◌%◌, ◌^◌, ◌≤◌, ◌<◌}
 use native.Mathlib.Numerals.{add-one}
-use native.Mathlib.Decide.{ℕ_discrete, dec_lt}
+use native.Mathlib.Decide.{ℕ_discrete}
 use native.Mathlib.Omega.{arith}
 use lib.Dec.{T}
 use lib.ListN.{length, get_or, set, length-set}
-use lib.Seq.{get_or-set_same, get_or-set_other, set-get_or, ext_get_or}
+use lib.Seq.{get_or-set_same, get_or-set_other, set-get_or}
 use Rattle.sdtd.specs.Limits.{most_types, most_states}
 use Rattle.sdtd.specs.Schema.{Step}
 use Rattle.sdtd.proofs.Basics.{cond_either, and_parts, and_both}
@@ -209,38 +209,6 @@ module _ (steps : List ℕ) (part : ℕ → ℕ → List Step) (tells : List ℕ
   pub round_done : (a s types : ℕ) (t y : List ℕ) → types ≤ a → spread_all steps part tells a s (types - a) t ≡ y → t ≡ y
   unfolding spread_all
   round_done a s types t y l h = let q : types - a ≡ 0 = omega arith in rw q at h
-
-  spread_length : (n a s : ℕ) (t : List ℕ) → length (spread_all steps part tells a s n t) ≡ length t
-  unfolding spread_all
-  spread_length zero a s t = refl
-  spread_length (suc n) a s t = spread_length n (suc a) (s + get_or steps a 0) (set t a _) ∙ length-set t a _
-
-  -- the entries of other types stay
-  spread_other :
-      (n a s : ℕ) (t : List ℕ) (b : ℕ) → ((k : ℕ) → k < n → b ≢ a + k) → get_or (spread_all steps part tells a s n t) b 0 ≡ get_or t b 0
-  unfolding spread_all
-  spread_other zero a s t b other = refl
-  spread_other (suc n) a s t b other =
-      spread_other n (suc a) (s + get_or steps a 0) (set t a _) b (λ k l e. other (suc k) (omega arith) (omega arith))
-      ∙ get_or-set_other t a b _ 0 (λ e. other 0 (omega arith) (omega arith))
-
-  -- a round leaves the table as it is where it leaves the entries below n
-  round_same :
-      (n : ℕ) (t : List ℕ) → ((a : ℕ) → a < n → get_or t a 0 ≡ get_or (spread_all steps part tells 0 0 n t) a 0) → spread_all steps part tells 0 0 n t ≡ t
-  round_same n t same =
-      ext_get_or 0 (spread_all steps part tells 0 0 n t) t (spread_length n 0 0 t)
-      (λ a l.
-      elim (dec_lt a n) [
-        | yes h ↦ sym (same a h)
-        | no h ↦ spread_other n 0 0 t a (λ k i e. omega arith)
-      ])
-
-  pub round_tells :
-      (n : ℕ) (b : Bool) (t u : List ℕ) → u ≡ spread_all steps part tells 0 0 n t → T b ↔ ((a : ℕ) → a < n → get_or t a 0 ≡ get_or u a 0) → T b ↔ (u ≡ t)
-  round_tells n b t u e test = (
-    λ p. e ∙ round_same n t (λ a h. rw e at (test.0 p a h)),
-    λ q. test.1 (λ a h. ap (λ (x : List ℕ). get_or x a 0) (sym q)),
-  )
 
   -- a round keeps what its tables have
   pub round_keeps :

@@ -20,6 +20,7 @@ const TAG: u32 = TYPE_PLACE * TYPE_ROOM;
 
 const WAYS_PLACE: u32 = TAG * TAGS as u32;
 
+// One number and no struct of its parts: `reading` tests tag and kind by one sum (docs/SPEED.md has the measures).
 #[derive(Clone, Copy)]
 pub struct Entry(pub u32);
 

@@ -66,8 +66,8 @@ fn blocks_within(schema: &Schema) -> bool
         (steps_of schema.now.from schema.now.by schema.now.to) schema.now.tags schema.now.types 0 0 schema.now.types }
 {
     let mut start = 0;
-    for a in 0..schema.types as usize {
-        let n = schema.steps[a] as usize;
+    for a in 0..usize::from(schema.types) {
+        let n = usize::from(schema.steps[a]);
         if STEPS - start < n {
             return false;
         }
@@ -97,7 +97,7 @@ pub fn within(schema: &Schema) -> bool
     if TAGS < schema.tags {
         return false;
     }
-    if TYPES < schema.types as usize {
+    if TYPES < usize::from(schema.types) {
         return false;
     }
     if !roots_within(schema) {

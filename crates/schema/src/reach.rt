@@ -26,14 +26,13 @@ fn span_of(schema: &Schema, a: u8) -> Span
 }
 
 // Does the step go from a state in `forward`, by a tree-bearing type, to a state in `live`?
-// Inside the limits the remainder changes nothing: a type is below TYPES.
 fn reaches(step: Step, ways: &[u8; TYPES], forward: u32, live: u32) -> bool
     ensures { result ≡ reaches ways.now forward live (meant step) }
 {
     if !StateSet(forward).has(step.from) {
         return false;
     }
-    if !bears_in(ways, step.by.0 as usize % TYPES) {
+    if !bears_in(ways, step.by) {
         return false;
     }
     StateSet(live).has(step.to)
@@ -54,7 +53,7 @@ impl Queued {
     fn join(&mut self, by: TypeNo)
         ensures { self.new ≡ join_type (by.0 % most_types) self.old }
     {
-        let b = by.0 as usize % TYPES;
+        let b = usize::from(by.0) % TYPES;
         if self.reached[b] {
             return;
         }
@@ -71,8 +70,8 @@ impl Queued {
     fn join_marked(&mut self, marked: &[bool; TYPES])
         ensures { self.new ≡ join_marked marked.now 0 most_types self.old }
     {
-        for a in 0..TYPES {
-            if marked[a] {
+        for (a, is_marked) in marked.iter().enumerate() {
+            if *is_marked {
                 self.join(TypeNo(a as u8));
             }
         }
@@ -109,9 +108,10 @@ pub(crate) fn reached_types(
     };
     types.join_marked(roots);
     let mut at = 0;
+    // The queue grows while it is gone over, so that no range or slice of it can be fixed before.
     while at < types.count {
         let b = types.queue[at];
-        let a = b as usize;
+        let a = usize::from(b);
         let steps = schema.steps_in(span_of(schema, b));
         types.join_reached(steps, &found.ways, forward[a], found.live[a]);
         at += 1;

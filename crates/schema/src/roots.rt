@@ -29,7 +29,7 @@ fn roots_below(roots: &[u8], types: u8) -> bool
 pub(crate) fn roots_within(schema: &Schema) -> bool
     ensures { T result ↔ RootsWithin schema.now.root schema.now.roots schema.now.types }
 {
-    let n = schema.roots as usize;
+    let n = usize::from(schema.roots);
     if n == 0 {
         return false;
     }
@@ -44,18 +44,18 @@ pub(crate) fn roots_within(schema: &Schema) -> bool
 fn mark_type(marked: &mut [bool; TYPES], a: TypeNo)
     ensures { marked.new ≡ mark_type a.0 marked.old }
 {
-    let i = a.0 as usize;
+    let i = usize::from(a.0);
     if i < TYPES {
         marked[i] = true;
     }
 }
 
-// Which types are roots, by the table of roots and their count.
+// Which types are roots, by the table of roots and their count, which in a made-up value may pass the table's end.
 pub fn root_types(root: [u8; ROOTS], roots: u8) -> [bool; TYPES]
     ensures { MarksExactly (roots_of root roots) result }
 {
     let mut marked = [false; TYPES];
-    for i in 0..roots as usize {
+    for i in 0..usize::from(roots) {
         mark_type(&mut marked, root_at(root, i));
     }
     marked

@@ -25,22 +25,21 @@ pub const ROWS: usize = TYPES * STATES as usize;
 pub const BEGINS: usize = ROWS + 1;
 
 // Does the step count, where `own` are the live states of the type that has it?
-// Inside the limits the remainder changes nothing: a type is below TYPES.
 #[tactic(auto, unfolding(crate::specs::RowMaking::counts_by))]
 fn counts(ways: &[u8; TYPES], own: u32, step: Step) -> bool
     ensures { result ≡ counts_by ways.now own (meant step) }
 {
-    if !bears_in(ways, step.by.0 as usize % TYPES) {
+    if !bears_in(ways, step.by) {
         return false;
     }
     StateSet(own).has(step.to)
 }
 
-// The step's entry.
+// The step's entry. Inside the limits the remainder changes nothing: a type is below TYPES.
 fn entry_for(schema: &Schema, ways: &[u8; TYPES], step: Step) -> Entry
     ensures { result.0 ≡ entry_by schema.now.tag ways.now (meant step) }
 {
-    let b = step.by.0 as usize % TYPES;
+    let b = usize::from(step.by.0) % TYPES;
     entry_of(step.from, step.to, step.by, Tag(schema.tag[b]), ways[b])
 }
 
@@ -108,7 +107,7 @@ fn add_row(entries: &mut [u32; STEPS], begins: &mut [u16; BEGINS], i: usize, kep
     ensures { row_tables entries.new begins.new
         ≡ add_row (picked p kept.now) i (row_tables entries.old begins.old) }
 {
-    let at = begins[i] as usize;
+    let at = usize::from(begins[i]);
     let past = pick(entries, at, kept, p);
     begins[i + 1] = past as u16;
 }
@@ -164,8 +163,8 @@ pub(crate) fn make_rows(
 {
     let mut kept = [0u32; STEPS];
     let mut start = 0;
-    for a in 0..schema.types as usize {
-        let n = schema.steps[a] as usize;
+    for a in 0..usize::from(schema.types) {
+        let n = usize::from(schema.steps[a]);
         let span = Span { start, n };
         let count = counted(schema, found, a, span, &mut kept);
         type_rows(entries, begins, a, &kept[..count], schema.states[a]);

@@ -36,13 +36,11 @@ impl Step {
 }
 
 // A step by a tree-bearing type with its state `to` in the set adds its state `from`.
-// Inside the limits the remainder changes nothing: a type is below TYPES.
 #[tactic(auto, unfolding(crate::specs::Spread::spread_step, crate::specs::States::insert))]
 fn spread_step(step: Step, ways: &[u8; TYPES], set: u32) -> u32
     ensures { result ≡ spread_step ways.now (meant step) set }
 {
-    let b = step.by.0 as usize % TYPES;
-    if !bears_in(ways, b) {
+    if !bears_in(ways, step.by) {
         return set;
     }
     if !StateSet(set).has(step.to) {
@@ -96,8 +94,8 @@ fn spread_all(schema: &Schema, way: Way, ways: &mut [u8; TYPES], sets: &mut [u32
         × (ways.new ≡ tells_by way schema.now ways.old sets.new) }
 {
     let mut start = 0;
-    for a in 0..schema.types as usize {
-        let n = schema.steps[a] as usize;
+    for a in 0..usize::from(schema.types) {
+        let n = usize::from(schema.steps[a]);
         let span = Span { start, n };
         let settled = settle_set(schema, span, way, ways, sets[a]);
         sets[a] = settled;
@@ -128,6 +126,7 @@ pub(crate) fn settle(
         × (ways.new ≡ tells_by way schema.now ways.old result) }
 {
     let mut sets = first;
+    // A loop until a round changes nothing has no range to go over.
     loop {
         let before = sets;
         spread_all(schema, way, ways, &mut sets);

@@ -46,7 +46,7 @@ fn live_states(schema: &Schema) -> LiveStates
         (first_sets schema.now.types schema.now.accepting) result.live
         × (result.ways ≡ ways_by schema.now.nillable schema.now.types result.live) }
 {
-    let types = schema.types as usize;
+    let types = usize::from(schema.types);
     let first = first_sets(&schema.accepting, types);
     let mut ways = ways_by(&schema.nillable, types, &first);
     let live = settle(schema, Way::Back, &mut ways, first);

@@ -14,6 +14,7 @@ pub const STEPS: usize = 1024;
 // The table entries are bare numbers: a type in `root` and `by`, a tag in `tag`, a set of states in `accepting`, a state in `from` and `to`.
 // The first `roots` entries of `root` are the root types, in the file's order. `nillable[a]` says that the type a is nillable.
 // The steps stand in the order of their types, `steps[a]` of them for the type a.
+// C lends and reads the tables side by side, so what goes over the types or the steps counts their places in all of them.
 #[repr(C)]
 #[derive(Clone, Copy)]
 pub struct Schema {

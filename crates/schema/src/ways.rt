@@ -1,5 +1,5 @@
 // By which kinds of opening a type bears a tree, as one number: 0 neither, 1 plainly, 2 both, 3 as nil.
-ghost use Rattle.std.specs.Prelude.{◌≡◌, ◌||◌, ◌≤◌, ◌<◌};
+ghost use Rattle.std.specs.Prelude.{◌≡◌, ◌||◌, ◌%◌, ◌≤◌};
 ghost use Rattle.sdtd.specs.Limits.{most_types};
 ghost use Rattle.sdtd.specs.Tree.{plain, nil};
 ghost use Rattle.schema.specs.Ways.{opens_by, bears_in};
@@ -8,6 +8,7 @@ ghost use Rattle.schema.specs.States.{member};
 
 use crate::state_set::StateSet;
 use crate::value::TYPES;
+use sdtd::TypeNo;
 
 // How many such numbers there are.
 pub const WAYS: u8 = 4;
@@ -43,12 +44,11 @@ pub(crate) fn ways_of(live: u32, nillable: bool) -> u8
     if nillable { 3 } else { 0 }
 }
 
-// Does the table say that the type bears a tree?
-pub(crate) fn bears_in(ways: &[u8; TYPES], a: usize) -> bool
-    requires { a < most_types }
-    ensures { result ≡ bears_in ways.now a }
+// Does the table say that the type bears a tree? Inside the limits the remainder changes nothing: a type is below TYPES.
+pub(crate) fn bears_in(ways: &[u8; TYPES], a: TypeNo) -> bool
+    ensures { result ≡ bears_in ways.now (a.0 % most_types) }
 {
-    opens(ways[a])
+    opens(ways[usize::from(a.0) % TYPES])
 }
 
 // The numbers of the types, by their live states; 0 for the others.

@@ -1,5 +1,4 @@
 -- The types from a on fit exactly when all do.
-use mathlib.Core.Path.{refl}
 use native.Mathlib.Omega.{arith}
 use borrow.Author.Rules.{rules}
 use Rattle.schema.proofs.LimitLaws.{stops, goes_on, blocks_none, blocks_full, blocks_next}
@@ -10,18 +9,18 @@ returns-then-start-n c = (
   λ f. absurd f,
   λ w.
       let left = c.loop-a.invariant.1.1 w in
-      omega (arith, blocks_full _ _ _ _ _ _ _ c.loop-a.a c.loop-a.start _ refl (omega arith) left),
+      omega (arith, blocks_full _ _ _ _ _ _ _ c.loop-a.a c.loop-a.start _ c.from-n.ensures (omega arith) left),
 )
 
 pub returns-then-not-block_within : goal.returns-then-not-block_within
 returns-then-not-block_within c =
-    stops c.block_within.result c.block_within.ensures (blocks_next _ _ _ _ _ _ _ c.loop-a.a c.loop-a.start _ refl (omega arith) (omega arith))
+    stops c.block_within.result c.block_within.ensures (blocks_next _ _ _ _ _ _ _ c.loop-a.a c.loop-a.start _ c.from-n.ensures (omega arith) (omega arith))
     c.loop-a.invariant.1 c.if-not-block_within.true-raw
 
 pub loop-a-preserved : goal.loop-a-preserved
 loop-a-preserved c = (
   search rules,
-  goes_on c.block_within.result c.block_within.ensures (blocks_next _ _ _ _ _ _ _ c.loop-a.a c.loop-a.start _ refl (omega arith) (omega arith))
+  goes_on c.block_within.result c.block_within.ensures (blocks_next _ _ _ _ _ _ _ c.loop-a.a c.loop-a.start _ c.from-n.ensures (omega arith) (omega arith))
       c.loop-a.invariant.1 c.if-not-block_within.false-raw,
 )
 

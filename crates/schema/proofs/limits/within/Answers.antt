@@ -9,8 +9,8 @@ returns-then-schema-eq0-clause-limits c = (λ f. absurd f, λ w. let k = (within
 pub returns-then-schema-gt-TAGS-clause-limits : goal.returns-then-schema-gt-TAGS-clause-limits
 returns-then-schema-gt-TAGS-clause-limits c = (λ f. absurd f, λ w. let k = (within_means _ c.sets_fit.ensures).0 w in omega arith)
 
-pub returns-then-schema-gt-TYPES-clause-limits : goal.returns-then-schema-gt-TYPES-clause-limits
-returns-then-schema-gt-TYPES-clause-limits c = (λ f. absurd f, λ w. let k = (within_means _ c.sets_fit.ensures).0 w in omega arith)
+pub returns-then-from-gt-TYPES-clause-limits : goal.returns-then-from-gt-TYPES-clause-limits
+returns-then-from-gt-TYPES-clause-limits c = (λ f. absurd f, λ w. let k = (within_means _ c.sets_fit.ensures).0 w in omega arith)
 
 pub returns-then-not-roots_within-clause-limits : goal.returns-then-not-roots_within-clause-limits
 returns-then-not-roots_within-clause-limits c = (

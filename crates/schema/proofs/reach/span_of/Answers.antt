@@ -2,7 +2,7 @@
 use mathlib.Core.Path.{◌≡◌}
 use native.Mathlib.Omega.{arith}
 use lib.ListN.{get_or}
-use borrow.Author.Tests.{lt-ltb, le-ltb}
+use borrow.Author.Tests.{lt-ltb}
 use Rattle.schema.specs.Value.{offset}
 use Rattle.schema.proofs.Rounds.{steps_fit}
 use Rattle.schema.proofs.reach.span_of.Goals as goal

@@ -8,7 +8,8 @@ use Rattle.schema.proofs.roots.roots_within.Goals as goal
 pub returns : goal.returns
 returns c =
     let v = c.args.schema.now in
+    let below = rw c.from-n.ensures at c.roots_below.ensures in
     let is = roots_taken (λ x. x < v.types) v.root v.roots (search rules) in (
-      λ t. record { least = omega arith; most = omega arith; below = is.0 (c.roots_below.ensures.0 t) },
-      λ w. c.roots_below.ensures.1 (is.1 w.below),
+      λ t. record { least = omega arith; most = omega arith; below = is.0 (below.0 t) },
+      λ w. below.1 (is.1 w.below),
     )

@@ -1,6 +1,6 @@
 -- What is left of the steps, put after the entries kept so far, makes the whole.
 use Prim.Native.Nat.{◌+◌, ◌≤◌}
-use lib.ListN.{length, get_or}
+use lib.ListN.{length}
 use Rattle.sdtd.specs.Limits.{most_steps}
 use Rattle.schema.specs.Value.{steps_of}
 use Rattle.schema.specs.Steps.{left}

@@ -1,5 +1,4 @@
 -- From a state below `states` there are all, from any other none.
-use mathlib.Core.Path.{ap, ◌∙◌}
 use native.Mathlib.Omega.{arith}
 use borrow.Author.Tests.{lt-ltb, le-ltb}
 use Rattle.schema.specs.RowMaking.{picked}

@@ -1,5 +1,5 @@
 -- The rows of the types below `a` are laid, and reach no further than their steps.
-use mathlib.Core.Path.{◌≡◌, refl, sym, ap, subst, ◌∙◌}
+use mathlib.Core.Path.{◌≡◌, refl, sym, ap, ◌∙◌}
 use mathlib.Core.List.{List}
 use Prim.Native.Nat.{ℕ, ◌+◌, ◌≤◌}
 use native.Mathlib.Omega.{arith}
@@ -12,7 +12,7 @@ use Rattle.schema.proofs.LimitLaws.{within_room}
 use Rattle.schema.proofs.Rounds.{offset_more, steps_fit}
 use Rattle.schema.proofs.FirstTables.{Fits}
 use Rattle.schema.proofs.PuttingLaws.{put_long}
-use Rattle.schema.proofs.RowsLaid.{RowsAdded, added_first}
+use Rattle.schema.proofs.RowsLaid.{added_first}
 use Rattle.schema.proofs.RowsExact.{type_entries, entries_from, put_take, type_few, type_added, rows_exact}
 use Rattle.schema.proofs.rows.make_rows.Goals as goal
 
@@ -45,7 +45,7 @@ slice_bounds-kept-end c =
     let es : List ℕ = type_entries v f.ways f.live c.loop-a.a in
     let few : length es ≤ get_or v.steps c.loop-a.a 0 = type_few v f.ways f.live c.loop-a.a in
     let is = entries_from v f.ways f.live c.loop-a.a c.loop-a.start i.0 in
-    let e = c.counted-count.ensures in
+    let e = rw c.from-n.ensures at c.counted-count.ensures in
     let count : c.counted-count.result ≡ length es = e.1 ∙ ap length is in
     let k = entries_kept es c.loop-a.kept _ _ i.1 (omega arith) (e.0 ∙ ap (λ x. put_all x 0 c.loop-a.kept) is) count in
     omega (arith, k.1, count, few, fit)
@@ -60,7 +60,7 @@ slice_bounds-type_rows-end c =
     let es : List ℕ = type_entries v f.ways f.live c.loop-a.a in
     let few : length es ≤ get_or v.steps c.loop-a.a 0 = type_few v f.ways f.live c.loop-a.a in
     let is = entries_from v f.ways f.live c.loop-a.a c.loop-a.start i.0 in
-    let e = c.counted-count.ensures in
+    let e = rw c.from-n.ensures at c.counted-count.ensures in
     let count : c.counted-count.result ≡ length es = e.1 ∙ ap length is in
     let k = entries_kept es c.loop-a.kept _ _ i.1 (omega arith) (e.0 ∙ ap (λ x. put_all x 0 c.loop-a.kept) is) count in
     count ∙ sym (ap length k.0)
@@ -78,7 +78,7 @@ type_rows-requires c =
     let es : List ℕ = type_entries v f.ways f.live c.loop-a.a in
     let few : length es ≤ get_or v.steps c.loop-a.a 0 = type_few v f.ways f.live c.loop-a.a in
     let is = entries_from v f.ways f.live c.loop-a.a c.loop-a.start i.0 in
-    let e = c.counted-count.ensures in
+    let e = rw c.from-n.ensures at c.counted-count.ensures in
     let count : c.counted-count.result ≡ length es = e.1 ∙ ap length is in
     let k = entries_kept es c.loop-a.kept _ _ i.1 (omega arith) (e.0 ∙ ap (λ x. put_all x 0 c.loop-a.kept) is) count in
     (omega (arith, (within_room v c.requires.1).types), omega (arith, i.2.laid.begins_long), omega (arith, i.2.reach, ap length k.0, few, fit))
@@ -98,12 +98,12 @@ loop-a-preserved c =
     let es : List ℕ = type_entries v f.ways f.live c.loop-a.a in
     let few : length es ≤ get_or v.steps c.loop-a.a 0 = type_few v f.ways f.live c.loop-a.a in
     let is = entries_from v f.ways f.live c.loop-a.a c.loop-a.start i.0 in
-    let e = c.counted-count.ensures in
+    let e = rw c.from-n.ensures at c.counted-count.ensures in
     let count : c.counted-count.result ≡ length es = e.1 ∙ ap length is in
     let k = entries_kept es c.loop-a.kept _ _ i.1 (omega arith) (e.0 ∙ ap (λ x. put_all x 0 c.loop-a.kept) is) count in
     let added = type_added v f.ways f.live c.loop-a.a c.loop-a.start (row_tables c.loop-a.entries c.loop-a.begins)
     (omega (arith, (within_room v c.requires.1).types)) fit i.2 in
-    (offset_more v.steps c.loop-a.a _ i.0, k.1, rw (c.type_rows.ensures, k.0) added)
+    rw c.from-n.ensures (offset_more v.steps c.loop-a.a _ i.0, k.1, rw (c.type_rows.ensures, k.0) added)
 
 pub returns : goal.returns
 returns c =

@@ -1,5 +1,5 @@
 -- The steps over the set so far settle where they settle over the first one; each time that they change it leaves fewer states absent.
-use mathlib.Core.Path.{◌≡◌, sym, ◌∙◌}
+use mathlib.Core.Path.{sym, ◌∙◌}
 use borrow.Author.Rules.{rules}
 use Rattle.schema.proofs.GoingLaws.{spread_left}
 use Rattle.schema.proofs.Rounds.{settle_first, settle_less, settle_last}

@@ -1,9 +1,7 @@
 -- What is left of the round, over what has grown so far, gives what the whole round gives.
-use Prim.Native.Nat.{◌+◌, ◌≤◌}
 use mathlib.Core.Path.{◌∙◌}
 use native.Mathlib.Omega.{arith}
-use lib.ListN.{get_or, length-set}
-use Rattle.sdtd.specs.Limits.{most_steps}
+use lib.ListN.{length-set}
 use Rattle.schema.proofs.GoingLaws.{told_next}
 use Rattle.schema.proofs.Rounds.{offset_more, steps_fit}
 use Rattle.schema.proofs.SpreadLaws.{round_turn, round_done}
@@ -23,8 +21,8 @@ pub loop-a-preserved : goal.loop-a-preserved
 loop-a-preserved c =
     let i = c.loop-a.invariant in
     let v = c.args.schema.now in
-    let settled = rw i.2 at c.settle_set-settled.ensures in
-    let told = told_next c.args.way v c.args.ways.now c.loop-a.sets c.loop-a.a c.settle_set-settled.result c.requires.0 i.3 (omega arith) in (
+    let settled = rw (i.2, c.from-n.ensures) at c.settle_set-settled.ensures in
+    let told = told_next c.args.way v c.args.ways.now c.loop-a.sets c.loop-a.a c.settle_set-settled.result c.requires.0 i.3 (omega arith) in rw c.from-n.ensures (
       offset_more v.steps c.loop-a.a _ i.0,
       round_turn _ _ _ _ _ _ _ _ _ (omega arith) settled i.1,
       rw (c.tell_anew.ensures, i.2) told,

@@ -11,7 +11,7 @@ use Rattle.sdtd.specs.Limits.{most_types}
 use Rattle.schema.specs.Spread.{join_type, join_marked}
 use Rattle.schema.specs.declared.reach.Queued.{Queued}
 use Rattle.schema.proofs.reach.Queued.join_marked.Goals as goal
-use Rattle.schema.proofs.reach.Queued.join_marked.Goals.{then-marked-a, else-marked-a}
+use Rattle.schema.proofs.reach.Queued.join_marked.Goals.{then-is_marked, else-is_marked}
 
 -- a turn takes the first of the types left
 turn : (marked : List Bool) (a : ℕ) (x x' y : Queued) → a < most_types
@@ -31,9 +31,9 @@ done marked a x y l h = let none : most_types - a ≡ 0 = omega arith in rw none
 pub loop-a-preserved : goal.loop-a-preserved
 loop-a-preserved c =
     turn _ _ _ _ _ (omega arith)
-    (elim c.if-marked-a.branch [
-      | then-marked-a w ↦ rw (w.if-marked-a.true, w.self-is) w.join.ensures
-      | else-marked-a w ↦ rw (w.if-marked-a.false, w.self-is)
+    (elim c.if-is_marked.branch [
+      | then-is_marked w ↦ rw (w.if-is_marked.true, w.self-is) w.join.ensures
+      | else-is_marked w ↦ rw (w.if-is_marked.false, w.self-is)
     ])
     c.loop-a.invariant
 

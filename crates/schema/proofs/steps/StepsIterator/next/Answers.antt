@@ -2,7 +2,7 @@
 use mathlib.Core.Path.{ap}
 use native.Mathlib.Omega.{arith}
 use lib.ListN.{length}
-use Rattle.schema.proofs.Values.{steps_none, steps_first, steps_count}
+use Rattle.schema.proofs.Values.{steps_none, steps_first}
 use Rattle.schema.proofs.steps.StepsIterator.next.Goals as goal
 
 pub returns-then-n-eq0-clause-steps : goal.returns-then-n-eq0-clause-steps
