@@ -20,7 +20,8 @@ use Rattle.sdtd.proofs.Rivals.{RivalSteps, rivals_compete, no_rivals}
 use Rattle.competition.specs.Rivals.{open_alike}
 use Rattle.schema.specs.Rows.{Counts, to_in, ways_in, RowsMean}
 use Rattle.schema.specs.Trimming.{WaysExactly}
-use Rattle.competition.specs.Rows.{row_of, Leading}
+use Rattle.schema.specs.Rows.{row_of}
+use Rattle.competition.specs.Rows.{Leading}
 use Rattle.competition.specs.Found.{found_at, word_to}
 use Rattle.competition.specs.Rivals.{AreRivals}
 use Rattle.competition.specs.Queue.{Trail, ClosedPairs, TrailToRivals}

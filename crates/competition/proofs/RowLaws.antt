@@ -2,17 +2,17 @@
 use mathlib.Core.Path.{◌≡◌, refl, sym, ◌∙◌}
 use mathlib.Core.Logic.{◌⊎◌, inl, inr}
 use mathlib.Core.List.{List, ◌∷◌}
-use Prim.Native.Nat.{ℕ, zero, suc, ◌+◌, ◌-◌, ◌≤◌, ◌<◌}
+use Prim.Native.Nat.{ℕ, zero, suc, ◌+◌, ◌-◌, ◌<◌}
 use native.Mathlib.Omega.{arith}
-use lib.ListN.{length, get_or, take, drop}
-use Rattle.std.specs.List.{Contains, slice_range}
+use lib.ListN.{length, get_or, drop}
+use Rattle.std.specs.List.{Contains}
 use Rattle.std.proofs.lemmas.Grind.{get_or_default_zero}
-use Rattle.std.proofs.lemmas.List.{length-take, length-drop}
+use Rattle.std.proofs.lemmas.List.{length-take}
 use Rattle.std.proofs.lemmas.List.Edits.{length-between, get_or-between}
 use Rattle.std.proofs.lemmas.List.Elements.{Contains-get_or}
 use Rattle.sdtd.specs.Limits.{most_steps}
 use Rattle.schema.specs.Rows.{row_place, InRow, RowsInside}
-use Rattle.competition.specs.Rows.{row_of}
+use Rattle.schema.specs.Rows.{row_of}
 
 -- an entry of a row stands at its first place or in the rest
 pub contains_first : (y : ℕ) (row : List ℕ) → Contains (y ∷ row) y

@@ -17,7 +17,7 @@ use Rattle.schema.specs.Value.{meaning}
 use Rattle.schema.specs.Ways.{bears_in}
 use Rattle.schema.specs.Rows.{RowsMean}
 use Rattle.schema.specs.Trimming.{Exact}
-use Rattle.competition.specs.Rows.{row_of}
+use Rattle.schema.specs.Rows.{row_of}
 use Rattle.competition.specs.Found.{word_to}
 use Rattle.competition.specs.declared.queue.Found.{Found}
 use Rattle.competition.specs.Queue.{is_useful, CompetingIn, RestrainedIn}

@@ -4,7 +4,7 @@ use mathlib.Core.List.{List}
 use Prim.Native.Nat.{ℕ, zero, suc, ◌≤◌, ◌<◌}
 use native.Mathlib.Decide.{dec_lt}
 use native.Mathlib.Omega.{arith}
-use lib.ListN.{length, get_or}
+use lib.ListN.{length}
 use Rattle.sdtd.specs.Limits.{most_steps}
 use Rattle.sdtd.specs.Schema.{Schema, WithinLimits}
 use Rattle.sdtd.specs.Trim.{Live}
@@ -14,7 +14,7 @@ use Rattle.sdtd.proofs.Pairs.{pair_swap_number, pair_either}
 use Rattle.sdtd.proofs.Rivals.{rivals_in}
 use Rattle.schema.specs.Rows.{RowsMean}
 use Rattle.schema.specs.Trimming.{WaysExactly}
-use Rattle.competition.specs.Rows.{row_of}
+use Rattle.schema.specs.Rows.{row_of}
 use Rattle.competition.specs.Found.{found_at, word_to}
 use Rattle.competition.specs.declared.queue.Found.{Found}
 use Rattle.competition.specs.Queue.{Placed, LeadsBefore, NoRivals, Trail, TrailToRivals}

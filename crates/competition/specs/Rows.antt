@@ -1,11 +1,6 @@
--- Rows of entries, as the pair search goes over them.
-use Rattle.std.specs.Prelude.{◌≡◌, List, ℕ, suc, Contains, get_or}
-use Rattle.std.specs.List.{slice_range}
-use Rattle.schema.specs.Rows.{to_in, by_in, row_place}
-
--- the row of the state p of the type a
-abbrev pub row_of : List ℕ → List ℕ → ℕ → ℕ → List ℕ
-row_of entries begins a p = slice_range entries (get_or begins (row_place a p) 0) (get_or begins (suc (row_place a p)) 0)
+-- Two rows of entries, as the pair search goes over them.
+use Rattle.std.specs.Prelude.{◌≡◌, List, ℕ, Contains}
+use Rattle.schema.specs.Rows.{to_in, by_in}
 
 -- an entry of the row is of e's type, and e leads to p, the other to q
 pub record LeadsWith (row : List ℕ) (e p q : ℕ) : Type 0 where

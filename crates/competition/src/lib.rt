@@ -6,8 +6,8 @@ mod numbers;
 mod queue;
 mod rivals;
 mod roots;
-mod rows;
 mod search;
+mod trimmed;
 mod verdict;
 mod witness;
 

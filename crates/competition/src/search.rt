@@ -7,9 +7,8 @@ ghost use Rattle.sdtd.specs.Answer.{number_told};
 ghost use Rattle.sdtd.specs.Competition.{CompeteOutside};
 ghost use Rattle.schema.specs.Trimming.{Exact};
 ghost use Rattle.schema.specs.Value.{meaning};
-ghost use Rattle.schema.specs.Rows.{RowsMean};
+ghost use Rattle.schema.specs.Rows.{RowsMean, row_of};
 ghost use Rattle.competition.specs.Queue.{PairMeans, SearchedAt, CompetingMeans, CompetesMeans};
-ghost use Rattle.competition.specs.Rows.{row_of};
 ghost use Rattle.competition.specs.Roots.{OpensExactly, RootsCompeteMeans};
 ghost use Rattle.competition.specs.Search.{SearchMeans};
 
@@ -18,10 +17,10 @@ use crate::numbers::Numbers;
 use crate::queue::Queue;
 use crate::rivals::{Rivals, rivals_at};
 use crate::roots::{opening_types, rival_roots};
-use crate::rows::Rows;
+use crate::trimmed::trimmed;
 use crate::witness::{LEAST_WITNESS, NO_PARENT, WitnessHead, write_head, write_witness};
 use pairs::{PAIRS, pair_numbers};
-use schema::{BEGINS, STEPS, Schema, TYPES, Trimming, opens, trim};
+use schema::{BEGINS, Rows, STEPS, Schema, TYPES, Trimming, opens};
 use sdtd::{Refused, TypeNo};
 
 // A pair with rivals, by its place in the queue.
@@ -181,10 +180,9 @@ pub fn competition(schema: &Schema, witness: &mut [u8]) -> Result<(), Refused>
     }
     let mut entries = [0u32; STEPS];
     let mut begins = [0u16; BEGINS];
-    let trimming = trim(schema, &mut entries, &mut begins);
-    if !trimming.inside {
+    let Some(trimming) = trimmed(schema, &mut entries, &mut begins) else {
         return Err(Refused::OutsideLimits);
-    }
+    };
     let opening = opening_types(schema, &trimming);
     let rows = Rows {
         entries: &entries,

@@ -7,10 +7,10 @@ ghost use Rattle.competition.specs.Search.{questions_of, JudgedBy, JudgeMeans, R
 ghost use Rattle.competition.specs.Unused.{FirstUnmarked};
 
 use crate::roots::{opening_types, some_opens};
-use crate::rows::Rows;
 use crate::search::competes;
+use crate::trimmed::trimmed;
 use crate::witness::LEAST_WITNESS;
-use schema::{BEGINS, STEPS, Schema, TYPES, trim, used_in};
+use schema::{BEGINS, Rows, STEPS, Schema, TYPES, used_in};
 use sdtd::{Refused, TypeNo};
 
 // Why a schema is refused; of a type that no valid document uses, the first.
@@ -57,10 +57,9 @@ fn judge_types(schema: &Schema, n: usize, witness: &mut [u8]) -> Result<(), Judg
     }
     let mut entries = [0u32; STEPS];
     let mut begins = [0u16; BEGINS];
-    let trimming = trim(schema, &mut entries, &mut begins);
-    if !trimming.inside {
+    let Some(trimming) = trimmed(schema, &mut entries, &mut begins) else {
         return Err(Judged::Outside);
-    }
+    };
     let opening = opening_types(schema, &trimming);
     if !some_opens(&opening) {
         return Err(Judged::NoRootBears);

@@ -1,5 +1,5 @@
 // The witness of a competition: written to the lent buffer, and its head read again.
-ghost use Rattle.std.specs.Prelude.{◌≡◌, ◌∷◌, ◌++◌, ◌+◌, ◌/◌, ◌%◌, ◌<◌, ◌≤◌, min, max, length, drop, set};
+ghost use Rattle.std.specs.Prelude.{◌≡◌, ◌∷◌, ◌++◌, ◌+◌, ◌/◌, ◌%◌, ◌<◌, ◌≤◌, min, max, length, drop};
 ghost use Rattle.sdtd.specs.Limits.{most_pairs, most_word, least_witness};
 ghost use Rattle.sdtd.specs.Competition.{witness_bytes};
 ghost use Rattle.competition.specs.Found.{Linked, word_to};
@@ -42,14 +42,6 @@ fn word_length(queue: &[Found; PAIRS], at: usize) -> usize
     n
 }
 
-// A type's byte, at a place of the witness.
-fn put_type(out: &mut [u8], at: usize, a: TypeNo)
-    requires { at < length out.old }
-    ensures { out.new ≡ set out.old at a.0 }
-{
-    out[at] = a.0;
-}
-
 // The word of n types to the pair at the place `at`, from the end of the word back to its beginning.
 fn fill_word(out: &mut [u8], queue: &[Found; PAIRS], at: usize, n: usize)
     requires { (at < most_pairs) × Linked queue.now at × (n ≡ length (word_to at queue.now at)) × (n ≤ length out.old) }
@@ -60,7 +52,7 @@ fn fill_word(out: &mut [u8], queue: &[Found; PAIRS], at: usize, n: usize)
     while 0 < i {
         let found = queue[i];
         left -= 1;
-        put_type(out, left, found.by);
+        out[left] = found.by.0;
         i = usize::from(found.parent);
     }
 }

@@ -1,6 +1,6 @@
 -- `competition::search::first_competing` meets its contract. The loop's invariant: in no type before i do two compete.
 use Prim.Native.Nat.{ℕ, ◌<◌}
-use Rattle.competition.specs.Rows.{row_of}
+use Rattle.schema.specs.Rows.{row_of}
 use Rattle.competition.specs.Queue.{RestrainedIn}
 use Rattle.competition.proofs.search.first_competing.Given as goal
 

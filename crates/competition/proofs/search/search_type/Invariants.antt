@@ -2,7 +2,7 @@
 -- The measure is what is left of the queue's places.
 use Prim.Native.Nat.{◌-◌}
 use Rattle.sdtd.specs.Limits.{most_pairs}
-use Rattle.competition.specs.Rows.{row_of}
+use Rattle.schema.specs.Rows.{row_of}
 use Rattle.competition.specs.Marks.{marks}
 use Rattle.competition.proofs.Queues.{SearchInv}
 use Rattle.competition.proofs.search.search_type.Given as goal

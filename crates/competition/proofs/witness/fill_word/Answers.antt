@@ -1,10 +1,10 @@
 -- `competition::witness::fill_word` meets its contract. The loop's invariant: `left` is the length of the word to i, and that word before the
 -- part of the buffer from `left` on is the claim. The measure is i.
-use mathlib.Core.Path.{◌≡◌, refl, sym, ◌∙◌}
+use mathlib.Core.Path.{◌≡◌, sym, ◌∙◌}
 use mathlib.Core.List.{List, ◌∷◌, ◌++◌, append_assoc}
 use Prim.Native.Nat.{ℕ, zero, suc, ◌-◌, ◌≤◌, ◌<◌}
 use native.Mathlib.Omega.{arith}
-use lib.ListN.{length, get_or, set, drop, length-set}
+use lib.ListN.{length, set, drop, length-set}
 use lib.Seq.{drop-cons, get_or-set_same, drop-set-lt}
 use Rattle.competition.specs.Found.{found_at, Linked, word_to}
 use Rattle.competition.specs.declared.queue.Found.{Found}
@@ -27,11 +27,9 @@ moved queue at l i pos b out left m e h = rw (word_step queue at l i pos b, e, d
 
 -- one type less to store
 turn : (queue : List Found) (at : ℕ) → Linked queue at → (n : ℕ) (out₀ out : List ℕ) (left i : ℕ) → 0 < i → Filling queue at n out₀ out left i
-    → (i' by : ℕ) (out' : List ℕ) → i' ≡ (found_at queue i).parent → by ≡ (found_at queue i).by.0 → out' ≡ set out (left - 1) by
-    → Filling queue at n out₀ out' (left - 1) i'
-turn queue at l n out₀ out left i pos inv i' by out' parent is set_is =
-    let s = back queue at l i pos inv.0 in
-    rw (set_is, is, parent) (
+    → Filling queue at n out₀ (set out (left - 1) (found_at queue i).by.0) (left - 1) (found_at queue i).parent
+turn queue at l n out₀ out left i pos inv =
+    let s = back queue at l i pos inv.0 in (
       omega arith,
       omega arith,
       rw length-set inv.2,
@@ -49,8 +47,8 @@ overflow_sub-left c =
     let back_from : Back c.args.queue.now c.loop-i.i = back c.args.queue.now c.args.at c.requires.1 c.loop-i.i c.loop-i-test.true c.loop-i.invariant.0 in
     omega (arith, back_from)
 
-pub put_type-requires : goal.put_type-requires
-put_type-requires c =
+pub bounds-out-left : goal.bounds-out-left
+bounds-out-left c =
     let back_from : Back c.args.queue.now c.loop-i.i = back c.args.queue.now c.args.at c.requires.1 c.loop-i.i c.loop-i-test.true c.loop-i.invariant.0 in
     omega (arith, back_from)
 
@@ -58,9 +56,7 @@ pub loop-i-preserved : goal.loop-i-preserved
 loop-i-preserved c =
     let l = c.loop-i in
     let a = c.args in
-    turn a.queue.now a.at c.requires.1 a.n a.out.now l.out l.left l.i c.loop-i-test.true l.invariant
-    c.from-i.result (found_at c.args.queue.now c.loop-i.i).by.0 c.put_type.new.out
-    c.from-i.ensures refl c.put_type.ensures
+    rw c.from-i.ensures (turn a.queue.now a.at c.requires.1 a.n a.out.now l.out l.left l.i c.loop-i-test.true l.invariant)
 
 pub returns : goal.returns
 returns c =
