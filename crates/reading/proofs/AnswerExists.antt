@@ -1,10 +1,10 @@
 -- A call has an answer and a reading by its promise, for any schema and any reading; and no other.
+use Rattle.sdtd.specs.Answer.{typed, taken}
 use mathlib.Core.Path.{◌≡◌, refl, ap}
 use mathlib.Core.List.{List, [], ◌∷◌}
 use Prim.Native.Nat.{ℕ, pred, ◌<◌}
 use native.Mathlib.Nat.{le_refl, le_trans}
 use native.Mathlib.Omega.{arith}
-use Rattle.sdtd.specs.Numbered.{type_no}
 use Rattle.sdtd.specs.Limits.{most_states, most_levels}
 use Rattle.sdtd.specs.Schema.{Schema, tag_of}
 use Rattle.sdtd.specs.Tree.{Kind}
@@ -15,11 +15,9 @@ use Rattle.sdtd.proofs.Tests.{decided, to_dec, eq_means, lt_means, false_means}
 use Rattle.sdtd.proofs.Smallest.{smallest_of}
 use Rattle.sdtd.proofs.Within.{block_within}
 use Rattle.reading.specs.declared.value.Reading.{Reading}
-use Rattle.reading.specs.declared.calls.EventAnswer.TheVariants.{Typed, Taken}
-use Rattle.reading.specs.declared.calls.Next.{Next}
 use Rattle.reading.specs.Levels.{inner_type, Within}
-use Rattle.reading.specs.Questions.{gives, LeadsTo, CanOpen, opened, closed, after_finish, OpeningTaken, questions, TakenBy, CallMeans}
-use Rattle.reading.specs.Calls.{by_value, answer_of, Called}
+use Rattle.reading.specs.Questions.{gives, LeadsTo, CanOpen, opened, closed, after_finish, OpeningTaken, questions, TakenBy, CallMeans, Next}
+use Rattle.reading.specs.Calls.{by_value, Called}
 use Rattle.reading.proofs.StateSets.{decided_set}
 use Rattle.reading.proofs.Decisions.{within_decided, leads_decided, open_decided, some_open_decided, complete_decided, over_decided}
 use Rattle.reading.proofs.OneAnswer.{call_unique}
@@ -35,7 +33,7 @@ opening_taken : (S : Schema) (r : Reading) (κ : Kind) (g : ℕ) → Within S r 
 opening_taken S r κ g w o =
     let s = smallest_of (λ j. decided (open_decided S r κ g j).1) o.0 o.1 in
     let k = decided_set (λ q. (leads_decided S r s.number q).1) most_states (le_refl most_states) in (
-      gives (Typed (type_no s.number)) (opened κ r s.number k.set),
+      gives (typed s.number) (opened κ r s.number k.set),
       record {
         type = s.number;
         can_open = s.holds;
@@ -69,7 +67,7 @@ call_decided S r (closing g) = (
         to_dec (lt_means 0 r.depth),
         λ d. (
           to_dec (eq_means (tag_of S (inner_type r)) g),
-          λ e. (to_dec (complete_decided S r).1, λ k. (gives Taken (closed r), refl)),
+          λ e. (to_dec (complete_decided S r).1, λ k. (gives taken (closed r), refl)),
         ),
       ),
     ),
@@ -77,7 +75,7 @@ call_decided S r (closing g) = (
 )
 call_decided S r finish = (
   to_dec (within_decided S r).1,
-  λ w. (to_dec (false_means r.finished), λ f. (to_dec (over_decided r).1, λ k. (gives Taken (after_finish r), refl))),
+  λ w. (to_dec (false_means r.finished), λ f. (to_dec (over_decided r).1, λ k. (gives taken (after_finish r), refl))),
 )
 
 pub call_exists : (S : Schema) (r : Reading) (x : Event) → (n : Next) × CallMeans S r x n
@@ -93,4 +91,4 @@ called_exists S r [] = ([], refl, tt)
 called_exists S r (e ∷ es) =
     let n = call_exists S r e in
     let later = called_exists S n.0.reading es in
-    (record { call = e; answer = answer_of n.0.answer } ∷ later.0, ap (λ (l : List Event). e ∷ l) later.1, (by_value, n.0.answer, n.0.reading, (n.0, n.1, refl), refl, later.2))
+    (record { call = e; answer = n.0.answer } ∷ later.0, ap (λ (l : List Event). e ∷ l) later.1, (by_value, n.0.reading, (n.0, n.1, refl), later.2))

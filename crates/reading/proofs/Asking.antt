@@ -23,15 +23,16 @@ use Rattle.schema.specs.declared.value.Schema.{Schema}
 use Rattle.schema.proofs.FirstTables.{Fits}
 use Rattle.schema.proofs.Values.{same_everywhere}
 use Rattle.reading.specs.declared.value.Reading.{Reading}
-use Rattle.reading.specs.declared.calls.Next.{Next}
 use Rattle.reading.specs.declared.steps.Inner.{Inner}
 use Rattle.reading.specs.declared.event_file.WalkEnd.{WalkEnd}
 use Rattle.reading.specs.declared.stop.Stop.{Stop}
 use Rattle.reading.specs.Levels.{Within}
-use Rattle.reading.specs.Questions.{refuses, questions, TakenBy, CallMeans}
-use Rattle.reading.specs.Calls.{answer_of}
+use Rattle.reading.specs.Questions.{refuses, questions, TakenBy, CallMeans, Next}
 use Rattle.reading.specs.Steps.{inner_of, close_step}
-use Rattle.reading.specs.Turns.{reading_at, Ended}
+use Rattle.reading.specs.Turns.{Ended}
+use Rattle.std.specs.Prelude.{Result, Ok, Err, is_ok}
+use Rattle.sdtd.specs.declared.Refused.{Refused}
+use Rattle.reading.specs.Calls.{taken_of}
 use Rattle.reading.specs.Stop.{WouldTake, TellsTags, StopMeans}
 use Rattle.reading.proofs.LevelLaws.{inner_tag}
 use Rattle.reading.proofs.OneAnswer.{call_unique}
@@ -39,7 +40,7 @@ use Rattle.reading.proofs.StepLaws.{close_step_means}
 
 -- the answer is no refusal
 abbrev pub Took : Next → Type 0
-Took n = IsTaken (answer_of n.answer)
+Took n = IsTaken (n.answer)
 
 -- A call would be taken exactly if what it gets is no refusal.
 pub taken_told : (S : Meaning) (r : Reading) (x : Event) (n : Next) → CallMeans S r x n → Took n ↔ WouldTake S r x
@@ -47,6 +48,11 @@ taken_told S r x n m = (λ t. (n, m, t), λ w. subst Took (call_unique S r x w.1
 
 not_refused : (r : Reading) (n : Next) → Took n → (k : ℕ) → n ≢ refuses r k
 not_refused r n t k e = subst Took e t
+
+-- the code's answer to a closing or a finish is no refusal exactly if it is `Ok`
+pub ok_took : {A : Type 0} (r : Result A Refused) → T (is_ok r) ↔ IsTaken (taken_of r)
+ok_took (Ok x) = (λ t. tt, λ t. tt)
+ok_took (Err why) = (λ t. t, λ t. t)
 
 -- Where a call would be taken, each of its questions is answered yes.
 pub would_hold : (S : Meaning) (r : Reading) (x : Event) → WouldTake S r x → AllHold (questions S r x)
@@ -129,13 +135,13 @@ module _ {v : Schema} {r : Reading} (fits : Fits v) (within : Within (meaning v)
 -- The walk has ended there: what it came to is told, with what would be taken on the reading there.
 module _ {v : Schema} {file : List ℕ} {end : WalkEnd} (ended : Ended v file end) where
   abbrev Takes : Event → Type 0
-  Takes x = WouldTake (meaning v) (reading_at end) x
+  Takes x = WouldTake (meaning v) end.reading x
 
   -- what holds of the reading there, of the passage's
-  of_last : (P : Reading → Type 0) → P (reading_at end) → P ended.passage.last
+  of_last : (P : Reading → Type 0) → P end.reading → P ended.passage.last
   of_last P p = subst P ended.reading p
 
-  pub stop_means : (r : Stop) → r.number ≡ end.number → r.place ≡ end.at → r.reading ≡ reading_at end
+  pub stop_means : (r : Stop) → r.number ≡ end.told.number → r.place ≡ end.told.place → r.reading ≡ end.reading
       → TellsTags (λ g. Takes (opening plain g)) r.opens → TellsTags (λ g. Takes (opening nil g)) r.opens_nil
       → T r.closes ↔ ((g : ℕ) × Takes (closing g)) → T r.finishes ↔ Takes finish → StopMeans (meaning v) file r
   stop_means r number place reading opens opens_nil closes finishes =

@@ -1,18 +1,19 @@
 -- The tags of which an opening would be taken: how they are marked, and that they are those.
-use mathlib.Core.Path.{◌≡◌, refl, sym, subst, ◌∙◌}
+use mathlib.Core.Path.{◌≡◌, refl, sym, ap, subst, ◌∙◌}
 use mathlib.Core.Bool.{Bool, true, false, ◌&&◌}
 use mathlib.Core.Logic.Iff
 use mathlib.Core.Logic.{◌↔◌, ◌⊎◌, inl, inr, ⊎_elim}
-use mathlib.Core.List.{List}
-use Prim.Native.Nat.{ℕ, suc, pred, ◌+◌, ◌%◌, ◌≤◌, ◌<◌}
+use mathlib.Core.List.Memᴰ
+use mathlib.Core.List.{List, [], ◌∷◌, Memᴰ}
+use Prim.Native.Nat.{ℕ, pred, min, ◌-◌, ◌%◌, ◌≤◌, ◌<◌}
 use native.Mathlib.Decide.{ℕ_discrete, dec_lt}
 use native.Mathlib.Omega.{arith}
 use lib.Dec.{T, eqb, eqb→eq, eqb_refl}
 use lib.ListN.{length, get_or, set, replicate, length-set, length-replicate, get_or-eq_default}
 use lib.Seq.{get_or-set_same, get_or-set_other}
-use Rattle.sdtd.specs.Limits.{most_tags, most_types, most_levels}
+use Rattle.sdtd.specs.Limits.{most_tags, most_types, most_levels, most_steps}
 use Rattle.sdtd.specs.Schema.{Schema as Meaning}
-use Rattle.sdtd.specs.Schema.{no_block, block_of, WithinLimits, step}
+use Rattle.sdtd.specs.Schema.{Step, no_block, block_of, WithinLimits, step}
 use Rattle.sdtd.specs.Tree.{Kind}
 use Rattle.sdtd.specs.Document.{opening}
 use Rattle.sdtd.proofs.Answers.{ordered_accepted}
@@ -20,23 +21,23 @@ use Rattle.sdtd.proofs.Basics.{◌&◌, get_or_member, not_both, and_parts, and_
 use Rattle.sdtd.proofs.Bearing.{by_bears}
 use Rattle.sdtd.proofs.ReducedDocuments.{bears_below}
 use Rattle.schema.specs.States.{member}
-use Rattle.schema.specs.Value.{offset, meaning}
+use Rattle.schema.specs.Value.{offset, steps_of, meaning}
 use Rattle.schema.specs.declared.value.Schema.{Schema}
 use Rattle.schema.proofs.FirstTables.{Fits}
 use Rattle.schema.proofs.Values.{same_everywhere}
 use Rattle.reading.specs.declared.value.Reading.{Reading}
-use Rattle.reading.specs.declared.event_file.WalkEnd.{WalkEnd}
-use Rattle.reading.specs.declared.coming.Coming.{Coming}
-use Rattle.reading.specs.declared.coming.Coming.TheVariants.{Nothing, OfType}
-use Rattle.reading.specs.Levels.{Within}
+use Rattle.reading.specs.declared.event_file.Trimmed.{Trimmed}
+use Rattle.std.specs.Prelude.{Some, None}
+use Rattle.reading.specs.Coming.{Coming}
+use Rattle.reading.specs.Levels.{inner_type, Within}
 use Rattle.reading.specs.Questions.{questions, TakenBy, CanOpen}
 use Rattle.reading.specs.Coming.{opens_in, step_taken}
 use Rattle.reading.specs.Steps.{coming_first}
-use Rattle.reading.specs.Turns.{reading_at, EndTables}
+use Rattle.reading.specs.Turns.{EndTables}
 use Rattle.reading.specs.Stop.{WouldTake, TellsTags}
-use Rattle.reading.specs.Asking.{comes, Marks, Somewhere, MarksWhere, taken_at}
+use Rattle.reading.specs.Asking.{comes, Marks, SomeStep, MarksSteps, taken_by}
 use Rattle.reading.proofs.ComingMeans.{ComingMeans}
-use Rattle.reading.proofs.InsideMeans.{some_step}
+use Rattle.reading.proofs.InsideMeans.{inside_room, some_step}
 use Rattle.reading.proofs.RootMeans.{root_means}
 use Rattle.reading.proofs.LevelLaws.{tags_of}
 use Rattle.reading.proofs.AnswerExists.{call_exists}
@@ -117,40 +118,55 @@ module _ (tag ways : List ℕ) (own states : ℕ) (κ : Kind) (p j q : ℕ) wher
           and_both (under k && member p states) (bearing && member q own)
           (and_both (under k) (member p states) u.0 (subst T (sym f) tt)) (and_both bearing (member q own) (subst T e u.1) (subst T (sym t) tt))
 
--- A loop over places from start on.
-module _ (P : ℕ → ℕ → Bool) (start : ℕ) where
-  pub where_none : MarksWhere P start start (replicate most_tags false)
-  where_none =
+-- A loop over steps: the flags mark those passed, and with those left come to all.
+module _ (P : ℕ → Step → Bool) (all : List Step) where
+  pub record MarksYet (left : List Step) (flags : List Bool) : Type 0 where
+    pub entries : length flags ≡ most_tags
+    pub exactly : (g : ℕ) → g < most_tags → (T (get_or flags g false) ⊎ SomeStep (P g) left) ↔ SomeStep (P g) all
+
+  pub yet_none : MarksYet all (replicate most_tags false)
+  yet_none =
       record {
         entries = length-replicate most_tags false;
-        exactly = λ g l. (λ t. absurd (subst T (same_everywhere false most_tags g) t), λ w. absurd (omega (arith, w.least, w.most)));
+        exactly = λ g l. (⊎_elim (λ t. absurd (subst T (same_everywhere false most_tags g) t)) (λ w. w), inr);
       }
 
-  pub where_next : {was is : List Bool} (i : ℕ) → start ≤ i → MarksWhere P start i was → Marks (λ g. P g i) was is → MarksWhere P start (suc i) is
-  where_next {was} {is} i least told m =
+  module _ {left rest : List Step} {s : Step} (e : left ≡ s ∷ rest) where
+    split : (g : ℕ) → SomeStep (P g) left ↔ (T (P g s) ⊎ SomeStep (P g) rest)
+    split g = (
+      λ w.
+          ⊎_elim (λ q. inl (subst (λ (x : Step). T (P g x)) q w.2)) (λ m. inr (w.0, m, w.2))
+          (Memᴰ.cases_cons (subst (Memᴰ w.0) e w.1)),
+      ⊎_elim (λ t. (s, subst (Memᴰ s) (sym e) (Memᴰ.head refl), t)) (λ w. (w.0, subst (Memᴰ w.0) (sym e) (Memᴰ.tail w.1), w.2)),
+    )
+
+    pub yet_next : {was is : List Bool} → MarksYet left was → Marks (λ g. P g s) was is → MarksYet rest is
+    yet_next {was} {is} told m =
+        record {
+          entries = m.entries ∙ told.entries;
+          exactly = λ g l.
+              let marked = m.exactly g l (rw told.entries l) in
+              let known = told.exactly g l in (
+                ⊎_elim (λ t. known.0 (⊎_elim inl (λ h. inr ((split g).1 (inl h))) (marked.0 t))) (λ w. known.0 (inr ((split g).1 (inr w)))),
+                λ w. ⊎_elim (λ h. inl (marked.1 (inl h))) (λ u. ⊎_elim (λ h. inl (marked.1 (inr h))) inr ((split g).0 u)) (known.1 w),
+              );
+        }
+
+  pub yet_all : {left : List Step} {flags : List Bool} → left ≡ [] → MarksYet left flags → MarksSteps P all flags
+  yet_all e told =
       record {
-        entries = m.entries ∙ told.entries;
-        exactly = λ g l. (
-          λ t.
-              ⊎_elim
-              (λ h.
-              let w = (told.exactly g l).0 h in
-              record { place = w.place; least = w.least; most = omega (arith, w.most); holds = w.holds })
-              (λ h. record { place = i; least = least; most = omega arith; holds = h })
-              ((m.exactly g l (rw told.entries l)).0 t),
-          λ w. (m.exactly g l (rw told.entries l)).1 (elim (dec_lt w.place i) [
-            | yes b ↦ inl ((told.exactly g l).1 (record { place = w.place; least = w.least; most = b; holds = w.holds }))
-            | no b ↦
-                let e : w.place ≡ i = omega (arith, w.most) in
-                inr (subst (λ (k : ℕ). T (P g k)) e w.holds)
-          ]),
-        );
+        entries = told.entries;
+        exactly = λ g l.
+            let known = told.exactly g l in (
+              λ t. known.0 (inl t),
+              λ w. ⊎_elim (λ t. t) (λ u. absurd (Memᴰ.not-nil (subst (Memᴰ u.0) e u.1))) (known.1 w),
+            );
       }
 
   -- the property is that of the marks, and no other number has it
-  where_tells : {end : ℕ} {flags : List Bool} (Q : ℕ → Type 0) → MarksWhere P start end flags
-      → ((g : ℕ) → Q g ↔ Somewhere (P g) start end) → ((g : ℕ) → Q g → g < most_tags) → TellsTags Q flags
-  where_tells {flags = flags} Q told same below =
+  steps_tell : {flags : List Bool} (Q : ℕ → Type 0) → MarksSteps P all flags → ((g : ℕ) → Q g ↔ SomeStep (P g) all)
+      → ((g : ℕ) → Q g → g < most_tags) → TellsTags Q flags
+  steps_tell {flags} Q told same below =
       record {
         entries = told.entries;
         exactly = λ g. (
@@ -168,8 +184,8 @@ tells_same same told = record { entries = told.entries; exactly = λ g. Iff.tran
 
 -- a type comes next exactly if some type can be opened
 comes_told : {S : Meaning} {r : Reading} {κ : Kind} {g : ℕ} (c : Coming) → ComingMeans S r κ g c → T (comes c) ↔ ((j : ℕ) × CanOpen S r κ g j)
-comes_told Nothing m = (λ t. absurd t, λ o. m o.0 o.1)
-comes_told (OfType j kept) m = (λ t. (j.0, m.can_open), λ o. tt)
+comes_told None m = (λ t. absurd t, λ o. m o.0 o.1)
+comes_told (Some (j, kept)) m = (λ t. (j.0, m.can_open), λ o. tt)
 
 -- the tag of a type that can be opened is one of the schema's
 opened_tag : {S : Meaning} {r : Reading} {κ : Kind} {g j : ℕ} → WithinLimits S → CanOpen S r κ g j → g < S.tags
@@ -194,10 +210,7 @@ module _ (S : Meaning) (r : Reading) (within : Within S r) (κ : Kind) where
   would_tag g w = omega (arith, (would_hold S r (opening κ g) w).1.1.0, within.schema.tags_most)
 
 -- Where a walk has ended, by the tables there.
-module _ {v : Schema} {end : WalkEnd} (held : EndTables v end) (κ : Kind) where
-  abbrev r : Reading
-  r = reading_at end
-
+module _ {v : Schema} {r : Reading} {t : Trimmed} (held : EndTables v r t) (κ : Kind) where
   abbrev Takes : ℕ → Type 0
   Takes g = WouldTake (meaning v) r (opening κ g)
 
@@ -215,7 +228,7 @@ module _ {v : Schema} {end : WalkEnd} (held : EndTables v end) (κ : Kind) where
 
     -- with no element open, by the heads
     pub tells_first : r.depth ≡ 0 → {flags : List Bool}
-        → TellsTags (λ g. (g < v.tags) × T (comes (coming_first end.heads r.rooted κ g))) flags → TellsTags Takes flags
+        → TellsTags (λ g. (g < v.tags) × T (comes (coming_first t.heads r.rooted κ g))) flags → TellsTags Takes flags
     tells_first none told =
         tells_same (λ g. (
           λ p. (opens g).1 ((root g (omega (arith, p.0, tags_of v, held.within.schema.tags_most))).0 p.1),
@@ -224,16 +237,19 @@ module _ {v : Schema} {end : WalkEnd} (held : EndTables v end) (κ : Kind) where
               (omega (arith, l, tags_of v), (root g (would_tag (meaning v) r held.within κ g w)).1 ((opens g).0 w)),
         )) told
       where
-        root : (g : ℕ) → g < most_tags → T (comes (coming_first end.heads r.rooted κ g)) ↔ ((j : ℕ) × CanOpen (meaning v) r κ g j)
-        root g l = comes_told (coming_first end.heads r.rooted κ g) (root_means (meaning v) r none κ g end.heads (held.heads.opens κ g l))
+        root : (g : ℕ) → g < most_tags → T (comes (coming_first t.heads r.rooted κ g)) ↔ ((j : ℕ) × CanOpen (meaning v) r κ g j)
+        root g l = comes_told (coming_first t.heads r.rooted κ g) (root_means (meaning v) r none κ g t.heads (held.heads.opens κ g l))
 
     -- inside an element, by the steps of its type a
-    pub tells_inside : {flags : List Bool} → Fits v → 0 < r.depth → (level a start : ℕ) → level ≡ pred r.depth
-        → a ≡ get_or end.types level 0 → start ≡ offset v.steps a
-        → MarksWhere (taken_at v.from v.by v.to v.tag end.ways
-        (record { states = get_or end.sets level 0; own = get_or end.live a 0 }) κ) start (start + get_or v.steps a 0) flags
-        → TellsTags Takes flags
-    tells_inside fits inside level a start level_is a_is start_is told =
-        where_tells _ _ Takes (rw (start_is, a_is, level_is) at told)
-        (λ g. Iff.trans (opens g) (some_step fits held.within inside end.live end.ways held.live held.ways κ g))
+    pub tells_inside : {flags : List Bool} → Fits v → 0 < r.depth → (a start n level : ℕ) → level ≡ pred r.depth → a ≡ get_or r.types level 0
+        → start ≡ min (offset v.steps a) most_steps → n ≡ min (get_or v.steps a 0) (most_steps - start)
+        → MarksSteps (taken_by v t.found.ways (record { states = record { 0 = get_or r.sets level 0 }; own = record { 0 = get_or t.found.live a 0 } }) κ)
+        (steps_of v.from v.by v.to start n) flags → TellsTags Takes flags
+    tells_inside fits inside a start n level level_is a_is start_is n_is told =
+        let here : a ≡ inner_type r = a_is ∙ ap (λ (m : ℕ). get_or r.types m 0) level_is in
+        let room = inside_room fits held.within inside in
+        let first : start ≡ offset v.steps (inner_type r) = omega (arith, start_is, ap (offset v.steps) here, room) in
+        let many : n ≡ get_or v.steps (inner_type r) 0 = omega (arith, n_is, ap (λ (m : ℕ). get_or v.steps m 0) here, first, room) in
+        steps_tell _ _ Takes (rw (first, many, here, level_is) at told)
+        (λ g. Iff.trans (opens g) (some_step fits held.within inside t.found.live t.found.ways held.live held.ways κ g))
         (would_tag (meaning v) r held.within κ)

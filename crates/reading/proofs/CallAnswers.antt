@@ -7,13 +7,12 @@ use mathlib.Core.List.{List, [], ◌∷◌, ◌++◌, append-nil}
 use Prim.Native.Nat.{ℕ, pred, ◌<◌}
 use native.Mathlib.Omega.{arith}
 use lib.ListN.{length, drop}
-use Rattle.sdtd.specs.Numbered.{type_no}
 use Rattle.sdtd.specs.Limits.{most_levels}
 use Rattle.sdtd.specs.Schema.{Schema, tag_of}
 use Rattle.sdtd.specs.Tree.{Kind, ValidContent}
 use Rattle.sdtd.specs.Document.{Event, opening, closing, finish, Begins}
 use Rattle.sdtd.specs.Competition.{Competition, Accepted}
-use Rattle.sdtd.specs.Answer.{Question, Answer, refused, ask, Ordered}
+use Rattle.sdtd.specs.Answer.{Question, Answer, refused, ask, Ordered, typed, taken}
 use Rattle.sdtd.specs.Reading.{depth, innermost, NotFinished, ChildrenFormWord, questions, TakenAnswer}
 use Rattle.sdtd.specs.Calls.{if_taken}
 use Rattle.sdtd.proofs.Machine.{Owner, top, own, OneRoot, Frame, frame}
@@ -23,29 +22,26 @@ use Rattle.sdtd.proofs.Next.{opening_exactly, opening_given}
 use Rattle.sdtd.proofs.Questions.{position_unfinished, position_finished, own_elements, innermost_of, nothing_open, children_word}
 use Rattle.sdtd.proofs.Questions.{root_closed}
 use Rattle.reading.specs.declared.value.Reading.{Reading}
-use Rattle.reading.specs.declared.calls.EventAnswer.TheVariants.{Typed, Taken, Refused}
-use Rattle.reading.specs.declared.calls.Next.{Next}
 use Rattle.reading.specs.Levels.{inner_type}
-use Rattle.reading.specs.Questions.{gives, CanOpen, OpeningTaken, opened, Complete, closed, after_finish, CallMeans}
+use Rattle.reading.specs.Questions.{gives, CanOpen, OpeningTaken, opened, Complete, closed, after_finish, CallMeans, Next}
 use Rattle.reading.specs.Questions as Promise
-use Rattle.reading.specs.Calls.{answer_of}
 use Rattle.reading.proofs.Keeping.{Levels, outermost, level, Reads, over, going, After, after_within}
 use Rattle.reading.proofs.Keeping.{Sized, some_frame, levels_of, levels_depth, levels_opened, opened_sized, closed_sized}
 use Rattle.reading.proofs.Innermost.{inner_level, complete_content, root_over, Opens, opens}
 
 -- The answer is right by the questions of the list, and the reading handed back is the one after the events then taken.
 pub record Answered (S : Schema) (e : List Event) (x : Event) (qs : List (Question Answer)) (n : Next) : Type 0 where
-  pub right : Ordered qs (TakenAnswer S e x) (answer_of n.answer)
-  pub next : After S (e ++ if_taken (answer_of n.answer) x) n.reading
+  pub right : Ordered qs (TakenAnswer S e x) (n.answer)
+  pub next : After S (e ++ if_taken (n.answer) x) n.reading
 
 -- A question of the promise, and the question that it is for the events taken.
 asked : {S : Schema} {e : List Event} {r : Reading} {x : Event} {i : ℕ} {P Q R : Type 0} {qs : List (Question Answer)} {n : Next}
-    → After S e r → P ↔ Q → (P → R → Answered S e x qs n) → ((¬ P) × (n ≡ gives (Refused i) r)) ⊎ (P × R)
+    → After S e r → P ↔ Q → (P → R → Answered S e x qs n) → ((¬ P) × (n ≡ gives (refused i) r)) ⊎ (P × R)
     → Answered S e x (ask (refused i) Q ∷ qs) n
 asked {S} {e} {x = x} k same next (inl o) =
     record {
-      right = inl (λ q. o.0 (same.1 q), ap (λ (m : Next). answer_of m.answer) o.1);
-      next = subst (λ (m : Next). After S (e ++ if_taken (answer_of m.answer) x) m.reading) (sym o.1) (rw append-nil k);
+      right = inl (λ q. o.0 (same.1 q), ap (λ (m : Next). m.answer) o.1);
+      next = subst (λ (m : Next). After S (e ++ if_taken (m.answer) x) m.reading) (sym o.1) (rw append-nil k);
     }
 asked k same next (inr o) = let a = next o.0 o.1 in record { right = inr (same.0 o.0, a.right); next = a.next }
 
@@ -63,7 +59,7 @@ module _ {S : Schema} (free : ¬ Competition S) {e : List Event} {r : Reading} (
       let j = t.type in
       let c : Candidate S o w κ j = ((s.can_open κ g j).0 t.can_open).1 in
       subst (Answered S e (opening κ g) []) (sym t.next)
-      (subst (λ (h : ℕ). Answered S e (opening κ h) [] (gives (Typed (type_no j)) (opened κ r j t.kept))) t.can_open.tag
+      (subst (λ (h : ℕ). Answered S e (opening κ h) [] (gives (typed j) (opened κ r j t.kept))) t.can_open.tag
       (record {
         right = record { type = j; answer = refl; given = opening_given free p c };
         next =
@@ -96,7 +92,7 @@ module _ {S : Schema} (free : ¬ Competition S) {e : List Event} {r : Reading} (
 
   closing_taken : {κ : Kind} {a : ℕ} {w : List ℕ} {fs : List Frame} {g : ℕ} → Position S e (frame (own κ a) w ∷ fs)
       → Levels S r.types r.sets r.rooted (pred r.depth) fs → tag_of S a ≡ g → ValidContent S κ a w
-      → x ≡ gives Taken (closed r) → Answered S e (closing g) [] x
+      → x ≡ gives taken (closed r) → Answered S e (closing g) [] x
   closing_taken {fs = fs} {g} p l t v q =
       let at : Position S (e ++ (closing g ∷ [])) fs = subst (λ (h : ℕ). Position S (e ++ (closing h ∷ [])) fs) t (close_position p v) in
       subst (Answered S e (closing g) []) (sym q)
@@ -104,7 +100,7 @@ module _ {S : Schema} (free : ¬ Competition S) {e : List Event} {r : Reading} (
 
   -- the depth is a number of its own here, so that the levels can be matched
   closing_answered : {fs : List Frame} {n : ℕ} (g : ℕ) → Levels S r.types r.sets r.rooted n fs → r.depth ≡ n → Position S e fs
-      → Ordered (drop 2 (Promise.questions S r (closing g))) (λ y. y ≡ gives Taken (closed r)) x
+      → Ordered (drop 2 (Promise.questions S r (closing g))) (λ y. y ≡ gives taken (closed r)) x
       → Answered S e (closing g) (drop 1 (questions S e (closing g))) x
   closing_answered g (outermost rooted) z p m =
       let none : depth e ≡ 0 = ap length (nothing_open (own_elements p (position_unfinished p))) in
@@ -121,7 +117,7 @@ module _ {S : Schema} (free : ¬ Competition S) {e : List Event} {r : Reading} (
       (λ h. asked k tags (λ t. asked k word (λ c. closing_taken p (rw z l) (sym tag ∙ t) (ends.0 c)))))
       m
 
-  finish_taken : {w : List ℕ} → Position S e (frame top w ∷ []) → r.depth ≡ 0 → OneRoot S w → x ≡ gives Taken (after_finish r)
+  finish_taken : {w : List ℕ} → Position S e (frame top w ∷ []) → r.depth ≡ 0 → OneRoot S w → x ≡ gives taken (after_finish r)
       → Answered S e finish [] x
   finish_taken p z v q =
       let sized : Sized (after_finish r) = record { depth = k.sized.depth; types = k.sized.types; sets = k.sized.sets } in
@@ -129,7 +125,7 @@ module _ {S : Schema} (free : ¬ Competition S) {e : List Event} {r : Reading} (
       (record { right = refl; next = record { frames = []; at = end_position p v; reads = over refl z; sized = sized } })
 
   finish_answered : {fs : List Frame} {n : ℕ} → Levels S r.types r.sets r.rooted n fs → r.depth ≡ n → Position S e fs
-      → Ordered (drop 2 (Promise.questions S r finish)) (λ y. y ≡ gives Taken (after_finish r)) x
+      → Ordered (drop 2 (Promise.questions S r finish)) (λ y. y ≡ gives taken (after_finish r)) x
       → Answered S e finish (drop 1 (questions S e finish)) x
   finish_answered (outermost rooted) z p m =
       let root = root_over r z rooted p in

@@ -10,6 +10,8 @@ use native.Mathlib.Decide.{ℕ_discrete}
 use native.Mathlib.Numerals.{add-one}
 use native.Mathlib.Omega.{arith}
 use lib.Dec.{T, eqb, ltb, ltb→lt, lt→ltb, eqb→eq, eqb_refl}
+use Rattle.sdtd.specs.Schema.{Step}
+use Rattle.schema.specs.Value.{up_from, step_at, steps_of}
 use Rattle.sdtd.specs.Limits.{most_types, most_states}
 use Rattle.sdtd.proofs.Basics.{cond_either}
 use Rattle.schema.specs.States.{member, insert, no_states}
@@ -238,3 +240,24 @@ where_mem true k p j q = (
   λ w. Memᴰ.head (λ i. move (w.1 i) (w.2 i)),
 )
 where_mem false k p j q = (λ w. absurd (Memᴰ.not-nil w), λ w. absurd w.0)
+
+-- the moves of each of the steps, one after another
+abbrev pub moves_of : (Step → List Move) → List Step → List Move
+moves_of f [] = []
+moves_of f (s ∷ ss) = f s ++ moves_of f ss
+
+pub moves_gathered : (f : Step → List Move) (from by to : List ℕ) (start n : ℕ)
+    → gathered (λ i. f (step_at from by to i)) start n ≡ moves_of f (steps_of from by to start n)
+unfolding gathered steps_of up_from
+moves_gathered f from by to start zero = refl
+moves_gathered f from by to start (suc n) = ap (λ (ms : List Move). f (step_at from by to start) ++ ms) (moves_gathered f from by to (suc start) n)
+
+-- a loop over steps: the first of those left is joined, and the others are left
+pub joins_first : (f : Step → List Move) (x : Least) {left rest : List Step} {s : Step} {x' y : Least} → left ≡ s ∷ rest → x' ≡ joins (f s) x
+    → joins (moves_of f left) x ≡ y → joins (moves_of f rest) x' ≡ y
+joins_first f x {left} {rest} {s} e h all =
+    rw h (sym (joins-append (f s) (moves_of f rest) x) ∙ ap (λ (ss : List Step). joins (moves_of f ss) x) (sym e) ∙ all)
+
+pub joins_none_left : (f : Step → List Move) (x : Least) {left : List Step} {y : Least} → left ≡ [] → joins (moves_of f left) x ≡ y → x ≡ y
+unfolding joins
+joins_none_left f x e all = ap (λ (ss : List Step). joins (moves_of f ss) x) (sym e) ∙ all

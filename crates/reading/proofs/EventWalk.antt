@@ -11,18 +11,14 @@ use lib.ListN.{length, drop}
 use Rattle.sdtd.specs.Schema.{Schema}
 use Rattle.sdtd.specs.Document.{Event, opening, closing, finish}
 use Rattle.sdtd.specs.Competition.{Accepted}
-use Rattle.sdtd.specs.Answer.{Answer, refused, typed, taken, Verdict}
+use Rattle.sdtd.specs.Answer.{Answer, Verdict}
 use Rattle.sdtd.specs.Reading.{NotFinished, Right}
 use Rattle.sdtd.specs.Calls.{if_taken}
 use Rattle.sdtd.proofs.Tests.{to_dec, true_means}
 use Rattle.reading.specs.declared.value.Reading.{Reading}
-use Rattle.reading.specs.declared.calls.EventAnswer.{EventAnswer}
-use Rattle.reading.specs.declared.calls.EventAnswer.TheVariants.{Typed, Taken, Refused}
-use Rattle.reading.specs.declared.calls.Next.{Next}
 use Rattle.reading.specs.declared.event_file.EventFile.{EventFile}
 use Rattle.reading.specs.Levels.{fresh}
-use Rattle.reading.specs.Questions.{answer_in, given, CallMeans}
-use Rattle.reading.specs.Calls.{answer_of}
+use Rattle.reading.specs.Questions.{gives, CallMeans, Next}
 use Rattle.events.specs.Events.{Events, events_of}
 use Rattle.reading.specs.Passage.{Passage, Passes}
 use Rattle.reading.specs.EventFile.{by_calls, verdict_with, types_with, number_of, place_of, EventsTold, EventsMean}
@@ -33,32 +29,13 @@ use Rattle.reading.proofs.OneAnswer.{call_unique}
 use Rattle.reading.proofs.AnswerExists.{call_exists}
 use Rattle.reading.proofs.Passages.{OneAnswer, SomeAnswer, passes_unique, passes_exists, Alike, passes_alike}
 
--- document 01's answer and the code's say the same
-pub answer_read : (a : Answer) → answer_of (answer_in a) ≡ a
-answer_read (refused n) = refl
-answer_read (typed j) = refl
-answer_read taken = refl
-
-answer_written : (a : EventAnswer) → answer_in (answer_of a) ≡ a
-answer_written (Typed j) = refl
-answer_written Taken = refl
-answer_written (Refused n) = refl
-
-pub next_given : (n : Next) → given (answer_of n.answer) n.reading ≡ n
-next_given n i = record { answer = answer_written n.answer i; reading = n.reading }
-
 module _ (S : Schema) where
   pub one_call : OneAnswer (by_calls S)
   one_call r x a b after later m n =
-      let same = call_unique S r x m n in (
-        sym (answer_read a) ∙ ap (λ (k : Next). answer_of k.answer) same ∙ answer_read b,
-        ap (λ (k : Next). k.reading) same,
-      )
+      let same = call_unique S r x m n in (ap (λ (k : Next). k.answer) same, ap (λ (k : Next). k.reading) same)
 
   some_call : SomeAnswer (by_calls S)
-  some_call r x =
-      let (n, m) = call_exists S r x in
-      (answer_of n.answer, n.reading, subst (CallMeans S r x) (sym (next_given n)) m)
+  some_call r x = let (n, m) = call_exists S r x in (n.answer, n.reading, m)
 
   -- one passage, for any schema and any reading
   pub passage_unique : (r : Reading) (at : ℕ) (es : Events) {p q : Passage Reading} → Passes (by_calls S) r at es p
@@ -125,13 +102,13 @@ mark_finished true e u = (
 
 module _ {S : Schema} (accepted : Accepted S) where
   -- a call on the reading after the events e gives the right answer for e
-  call_judged : (r : Reading) (e : List Event) (x : Event) (a : Answer) (after : Reading) → After S e r → CallMeans S r x (given a after)
+  call_judged : (r : Reading) (e : List Event) (x : Event) (a : Answer) (after : Reading) → After S e r → CallMeans S r x (gives a after)
       → (later : List Event) × (Right S e x a × (later ≡ e ++ if_taken a x)) × After S later after
   call_judged r e x a after k m =
       let c = call_answered accepted k x m in (
         e ++ if_taken a x,
-        (subst (Right S e x) (answer_read a) c.right, refl),
-        subst (λ (b : Answer). After S (e ++ if_taken b x) after) (answer_read a) c.next,
+        (c.right, refl),
+        c.next,
       )
 
   -- Under an accepted schema the walk from a fresh reading judges each event by demand 3's questions: it has the verdict and the calls of the

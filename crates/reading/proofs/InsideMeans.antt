@@ -16,7 +16,7 @@ use Rattle.sdtd.proofs.Bearing.{by_bears}
 use Rattle.sdtd.proofs.Basics.{cond_either, and_parts, and_both}
 use Rattle.schema.specs.States.{member, no_states}
 use Rattle.schema.specs.Ways.{opens_by}
-use Rattle.schema.specs.Value.{step_at, offset, meaning}
+use Rattle.schema.specs.Value.{step_at, steps_of, offset, meaning}
 use Rattle.schema.specs.Rows.{Counts, to_in, by_in, tag_in, ways_in, row_place, RowsMean}
 use Rattle.schema.specs.Trimming.{LiveExactly, WaysExactly}
 use Rattle.schema.specs.declared.value.Schema.{Schema}
@@ -31,7 +31,7 @@ use Rattle.reading.specs.Levels.{Within, inner_type, inner_set}
 use Rattle.reading.specs.Questions.{LeadsTo, CanOpen}
 use Rattle.reading.specs.Coming.{Least, none_yet, Move, move, joins, coming_of, coming_by, opens_in, entry_moves, row_moves, step_taken, step_moves}
 use Rattle.reading.specs.Steps.{inner_by_rows, inner_by_steps}
-use Rattle.reading.specs.Asking.{Somewhere}
+use Rattle.reading.specs.Asking.{SomeStep}
 use Rattle.reading.proofs.LevelLaws.{inner_below}
 use Rattle.reading.proofs.ComingMeans.{ComesNext, ComingMeans}
 use Rattle.reading.proofs.ComingLaws.{Smallest, smallest_same, joins_smallest, gathered-mem, where_mem}
@@ -241,18 +241,14 @@ module _ {v : Schema} {r : Reading} (fits : Fits v) (within : Within (meaning v)
     steps_mean = moves_means within.schema r κ g (inner_by_steps v live ways r κ g) inside (λ j q. (step_opens j q, opens_step j q))
 
     -- a type can be opened so under the tag exactly if one of those steps is taken
-    pub some_step : ((j : ℕ) × CanOpen (meaning v) r κ g j)
-        ↔ Somewhere (λ i. is_taken (step_at v.from v.by v.to i)) (start v r) (start v r + count v r)
-    some_step = (
-      λ c.
-          let (q, l) = c.1.some_open inside in
-          let x = step l.from c.0 q in
-          let p = (step_place x).0 l.step in
-          let t = opens_taken x l.step l.kept c.1.bears l.live c.1.tag in
-          record { place = p.place; least = p.least; most = p.most; holds = subst (λ (y : Step). T (is_taken y)) p.is t },
-      λ w.
-          let x = step_at v.from v.by v.to w.place in
-          let given = (step_place x).1 (record { place = w.place; least = w.least; most = w.most; is = refl }) in
-          let o = taken_opens x given w.holds in
-          (x.by, record { bears = o.bears; tag = o.tag; some_open = λ d. (x.to, o.leads); none_open = λ z. absurd (omega arith) }),
-    )
+    pub some_step : ((j : ℕ) × CanOpen (meaning v) r κ g j) ↔ SomeStep is_taken (steps_of v.from v.by v.to (start v r) (count v r))
+    some_step =
+        rw (← own-steps fits within.schema (inner_type r) (inner_below v r within inside)) (
+          λ c.
+              let (q, l) = c.1.some_open inside in
+              let x = step l.from c.0 q in
+              (x, l.step, opens_taken x l.step l.kept c.1.bears l.live c.1.tag),
+          λ w.
+              let o = taken_opens w.0 w.1 w.2 in
+              (w.0.by, record { bears = o.bears; tag = o.tag; some_open = λ d. (w.0.to, o.leads); none_open = λ z. absurd (omega arith) }),
+        )

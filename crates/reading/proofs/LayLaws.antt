@@ -7,26 +7,26 @@ use mathlib.Core.List.{List, [], ◌∷◌, ◌++◌, map, append_assoc, append-
 use Prim.Native.Nat.{ℕ, suc, ◌+◌, ◌≤◌, ◌<◌}
 use native.Mathlib.Decide.{dec_le}
 use native.Mathlib.Omega.{arith}
-use borrow.Author.Tests.{lt-ltb, le-ltb}
-use lib.ListN.{length, get_or, take, drop, set, length-append, length-map, length-set}
+use lib.ListN.{length, take, drop, set, length-append, length-map, length-set}
 use lib.Seq.{drop-cons, set-append_seam, take_at}
 use Rattle.sdtd.specs.Schema.{Schema as Meaning}
 use Rattle.sdtd.specs.Schema.{WithinLimits}
-use Rattle.sdtd.specs.Answer.{refused, refused_at}
+use Rattle.sdtd.specs.Answer.{refused, Verdict, refused_at}
 use Rattle.reading.specs.declared.value.Reading.{Reading}
 use Rattle.reading.specs.declared.event_file.EventFile.{EventFile}
-use Rattle.events.specs.declared.decoder.FileEvent.{FileEvent}
-use Rattle.events.specs.declared.decoder.FileEvent.TheVariants.{Open, OpenNil, Close, Finish, NoEvent}
+use Rattle.std.specs.Prelude.{Option, Some, None}
+use Rattle.events.specs.declared.decoder.Event.{Event as FileEvent}
+use Rattle.events.specs.declared.decoder.Event.TheVariants.{Open, Close, Finish}
 use Rattle.events.specs.Events.{events_of, event_at}
 use Rattle.events.proofs.EventPlaces.{Stands, event_stands}
 use Rattle.reading.specs.Levels.{fresh}
 use Rattle.reading.specs.Passage.{TakenCall, Passage, stops}
 use Rattle.reading.specs.EventFile.{GivenType, types_given, with_room, verdict_with, types_with, number_of, place_of, EventsMean}
-use Rattle.reading.specs.Turns.{Walked, outside_number}
+use Rattle.reading.specs.Turns.{outside_number}
 use Rattle.reading.proofs.EventWalk.{passage_exists}
 use Rattle.reading.proofs.RoomLaws.{types_in, given_append, room_full, laid_enough}
-use Rattle.reading.proofs.StepSound.{WholePasses, WalkSound, TurnSound}
-use Rattle.reading.proofs.TurnLaws.{first_walk, first_sound}
+use Rattle.reading.proofs.StepSound.{WholePasses, stopped_at, Going, going_at, WalkSound, TurnSound}
+use Rattle.reading.proofs.TurnLaws.{first_sound}
 
 -- the buffer has the types, a byte each, and is otherwise as it was
 pub record Written (was ts : List ℕ) (n : ℕ) (is : List ℕ) : Type 0 where
@@ -36,19 +36,19 @@ pub record Written (was ts : List ℕ) (n : ℕ) (is : List ℕ) : Type 0 where
 
 -- What is known of a walk with the buffer laid on it: it has taken the calls, and where the buffer bounds it, the types that these give stand there.
 -- The buffer keeps its length.
-pub record LaidSound (bounded : Bool) (S : Meaning) (file was : List ℕ) (w : Walked) (n : ℕ) (is : List ℕ) : Type 0 where
+pub record LaidSound (bounded : Bool) (S : Meaning) (file was : List ℕ) (w : Going) (n : ℕ) (is : List ℕ) : Type 0 where
   pub calls : List TakenCall
   pub long : length is ≡ length was
   pub written : bounded ≡ true → Written was (types_in calls) n is
   pub sound : WalkSound S file calls w
 
-pub first_laid : {bounded : Bool} {S : Meaning} → WithinLimits S → (file was : List ℕ) (n : ℕ) → LaidSound bounded S file was (first_walk n) 0 was
-first_laid within file was n =
+pub first_laid : {bounded : Bool} {S : Meaning} → WithinLimits S → (file was : List ℕ) → LaidSound bounded S file was (going_at 0 fresh) 0 was
+first_laid within file was =
     record {
       calls = [];
       long = refl;
       written = λ b. record { buffer = refl; count = refl; room = omega arith };
-      sound = first_sound within file n;
+      sound = first_sound within file;
     }
 
 -- what a passage with the buffer laid on it answers
@@ -69,14 +69,14 @@ passage_means {was = was} p f types w r number place count =
     }
 
 -- A walk that has stopped answers: each type has its byte, so the buffer changes nothing.
-pub last_means : {bounded : Bool} {S : Meaning} {file was is : List ℕ} {w : Walked} {n : ℕ} → LaidSound bounded S file was w n is → bounded ≡ true
-    → w.going ≡ false → (r : EventFile) → r.number ≡ w.number → r.place ≡ w.at → r.count ≡ n → EventsMean S file was is r
-last_means {file = file} {was} {w = w} k bounds done r number place count =
-    let s = k.sound.stopped done in
-    let p : Passage Reading = record { verdict = s.verdict; calls = k.calls; last = w.reading } in
+pub stopped_means : {bounded : Bool} {S : Meaning} {file was is : List ℕ} {w : Going} {n : ℕ} (k : LaidSound bounded S file was w n is)
+    → bounded ≡ true → (v : Verdict) (last : Reading) → WholePasses S file (stopped_at k.calls v last)
+    → (r : EventFile) → r.number ≡ number_of v → r.place ≡ place_of (length file) v → r.count ≡ n → EventsMean S file was is r
+stopped_means {file = file} {was} k bounds v last passes r number place count =
+    let p = stopped_at k.calls v last in
     let written = k.written bounds in
-    let (v, types) = laid_enough (length was) p written.room in
-    passage_means p s.passes types written r (number ∙ s.number ∙ ap number_of (sym v)) (place ∙ s.place ∙ ap (place_of (length file)) (sym v)) count
+    let (same, types) = laid_enough (length was) p written.room in
+    passage_means p passes types written r (number ∙ ap number_of (sym same)) (place ∙ ap (place_of (length file)) (sym same)) count
 
 -- one type more in the buffer
 put_type : (ts was : List ℕ) (j : ℕ) → length ts < length was
@@ -93,18 +93,13 @@ one_more {was} {ts} j f h =
     record { buffer = rw (c, f.buffer) (put_type ts was j h); count = omega arith; room = omega arith }
 
 -- the walk goes on to some passage, which has its calls first
-some_passage : {S : Meaning} {file : List ℕ} {cs : List TakenCall} {w : Walked} → WalkSound S file cs w
+some_passage : {S : Meaning} {file : List ℕ} {cs : List TakenCall} {w : Going} → WalkSound S file cs w
     → (p : Passage Reading) × WholePasses S file p × (rest : List TakenCall) × (p.calls ≡ cs ++ rest)
-some_passage {S} {file} {cs} {w} k = by w.going refl
-  where
-    by : (b : Bool) → w.going ≡ b → (p : Passage Reading) × WholePasses S file p × (rest : List TakenCall) × (p.calls ≡ cs ++ rest)
-    by true e =
-        let (p, f) = passage_exists S w.reading w.at (events_of (drop w.at file)) in
-        (_, k.goes e p f, p.calls, refl)
-    by false e = let s = k.stopped e in (_, s.passes, [], sym (append-nil cs))
+some_passage {S} {file} {cs} {w} k =
+    let (p, f) = passage_exists S w.reading w.at (events_of (drop w.at file)) in (_, k.goes p f, p.calls, refl)
 
 -- A turn at the walk w comes to the walk v, with more calls.
-module _ {bounded : Bool} {S : Meaning} {file was is : List ℕ} {w : Walked} {n : ℕ} (k : LaidSound bounded S file was w n is) {v : Walked}
+module _ {bounded : Bool} {S : Meaning} {file was is : List ℕ} {w : Going} {n : ℕ} (k : LaidSound bounded S file was w n is) {v : Going}
     (more : List TakenCall) (sound : WalkSound S file (k.calls ++ more) v) where
   types_append : types_in (k.calls ++ more) ≡ types_in k.calls ++ types_in more
   types_append =
@@ -138,51 +133,41 @@ module _ {bounded : Bool} {S : Meaning} {file was is : List ℕ} {w : Walked} {n
       ∙ take_at (types_in k.calls) (map (λ (s : GivenType). s.type) (t ∷ types_given rest)) (length was) h in
       passage_means p f types written r (number ∙ ap number_of (sym twenty)) (place ∙ ap (place_of (length file)) (sym twenty)) count
 
--- After a turn, with the type at the new level laid into the buffer.
-module _ {bounded : Bool} {S : Meaning} {file was is : List ℕ} {w v : Walked} {n : ℕ} (k : LaidSound bounded S file was w n is)
-    (turn : TurnSound S file k.calls w v) where
-  -- no level more
-  pub lay_none : v.reading.depth ≤ w.reading.depth → LaidSound bounded S file was v n is
-  lay_none l =
-      let e : types_given turn.more ≡ [] = turn.gave ∙ rw (le-ltb w.reading.depth v.reading.depth l) in
-      fits k turn.more turn.sound [] (ap (map (λ (t : GivenType). t.type)) e) n is k.long
+-- After a turn that gives no type, or one, which is laid into the buffer.
+module _ {bounded : Bool} {S : Meaning} {file was is : List ℕ} {w v : Going} {n : ℕ} (k : LaidSound bounded S file was w n is) where
+  pub lay_none : TurnSound S file k.calls [] v → LaidSound bounded S file was v n is
+  lay_none turn =
+      fits k turn.more turn.sound [] (ap (map (λ (t : GivenType). t.type)) turn.gave) n is k.long
       (λ b. subst (λ (ts : List ℕ). Written was ts n is) (sym (append-nil (types_in k.calls))) (k.written b))
 
   -- the buffer does not bound the walk
-  pub lay_past : bounded ≡ false → LaidSound bounded S file was v n is
-  lay_past e = record { calls = k.calls ++ turn.more; long = k.long; written = λ b. absurd (true≢false (sym b ∙ e)); sound = turn.sound }
+  pub lay_past : {ts : List GivenType} → TurnSound S file k.calls ts v → bounded ≡ false → LaidSound bounded S file was v n is
+  lay_past turn e =
+      record { calls = k.calls ++ turn.more; long = k.long; written = λ b. absurd (true≢false (sym b ∙ e)); sound = turn.sound }
 
-  module _ (l : w.reading.depth < v.reading.depth) where
-    -- the type at the new level
-    abbrev type_there : ℕ
-    type_there = get_or v.reading.types w.reading.depth 0
-
-    there : types_given turn.more ≡ record { place = w.at; type = type_there } ∷ []
-    there = turn.gave ∙ rw (lt-ltb w.reading.depth v.reading.depth l)
-
-    pub lay_type : n < length is → LaidSound bounded S file was v (n + 1) (set is n type_there)
+  module _ {t : GivenType} (turn : TurnSound S file k.calls (t ∷ []) v) where
+    pub lay_type : n < length is → LaidSound bounded S file was v (n + 1) (set is n t.type)
     lay_type h =
         let room : bounded ≡ true → length (types_in k.calls) < length was = λ b. omega (arith, k.long, (k.written b).count) in
-        fits k turn.more turn.sound (type_there ∷ []) (ap (map (λ (t : GivenType). t.type)) there) (n + 1) (set is n type_there)
-        (length-set is n type_there ∙ k.long) (λ b. one_more type_there (k.written b) (room b))
+        fits k turn.more turn.sound (t.type ∷ []) (ap (map (λ (t : GivenType). t.type)) turn.gave) (n + 1) (set is n t.type)
+        (length-set is n t.type ∙ k.long) (λ b. one_more t.type (k.written b) (room b))
 
-    pub full_means : bounded ≡ true → length is ≤ n → (r : EventFile) → r.number ≡ 20 → r.place ≡ w.at → r.count ≡ n
+    pub full_means : bounded ≡ true → length is ≤ n → (r : EventFile) → r.number ≡ 20 → r.place ≡ t.place → r.count ≡ n
         → EventsMean S file was is r
     full_means b h =
         let written = k.written b in
         let room : length (types_in k.calls) ≡ length was = omega (arith, k.long, written.count, written.room) in
-        full k turn.more turn.sound (record { place = w.at; type = type_there }) there written room
+        full k turn.more turn.sound t turn.gave written room
 
 -- under a schema outside the limits the first event gets 10, and stray bytes or an empty file 19
-pub outside_passes : {S : Meaning} → ¬ WithinLimits S → (file : List ℕ) (e : FileEvent) → Stands file 0 e
+pub outside_passes : {S : Meaning} → ¬ WithinLimits S → (file : List ℕ) (e : Option FileEvent) → Stands file 0 e
     → WholePasses S file (stops (refused_at (outside_number e) 0) fresh)
-outside_passes out file (Open g) stands = rw stands (refused 10, fresh, inl (λ w. out w.schema, refl), refl)
-outside_passes out file (OpenNil g) stands = rw stands (refused 10, fresh, inl (λ w. out w.schema, refl), refl)
-outside_passes out file (Close g) stands = rw stands (refused 10, fresh, inl (λ w. out w.schema, refl), refl)
-outside_passes out file Finish stands = rw stands (refused 10, fresh, inl (λ w. out w.schema, refl), refl)
-outside_passes out file NoEvent stands =
+outside_passes out file (Some (Open κ g)) stands = rw stands (refused 10, fresh, inl (λ w. out w.schema, refl), refl)
+outside_passes out file (Some (Close g)) stands = rw stands (refused 10, fresh, inl (λ w. out w.schema, refl), refl)
+outside_passes out file (Some Finish) stands = rw stands (refused 10, fresh, inl (λ w. out w.schema, refl), refl)
+outside_passes out file None stands =
     elim (dec_le (length file) 0) [
-      | yes h ↦ rw (stands.0 (omega arith)) (inl (false≢true, refl))
+      | yes h ↦ rw (stands.0 h) (inl (false≢true, refl))
       | no h ↦ rw (stands.1 (omega arith)) refl
     ]
 
@@ -191,5 +176,5 @@ pub outside_means : {S : Meaning} → ¬ WithinLimits S → (file was : List ℕ
 outside_means out file was r number place count =
     let p : Passage Reading = stops (refused_at (outside_number (event_at file 0)) 0) fresh in
     let (v, types) = laid_enough (length was) p (omega arith) in
-    passage_means p (outside_passes out file (event_at file 0) (event_stands file 0 (omega arith))) types
+    passage_means p (outside_passes out file (event_at file 0) (event_stands file 0)) types
     (record { buffer = refl; count = refl; room = omega arith }) r (number ∙ ap number_of (sym v)) (place ∙ ap (place_of (length file)) (sym v)) count

@@ -14,7 +14,6 @@ pub mod Innermost
 pub mod CallAnswers
 pub mod ListOfCalls
 pub mod OneAnswer
-pub mod DepthLaws
 pub mod StateSets
 pub mod Decisions
 pub mod AnswerExists
@@ -24,7 +23,6 @@ pub mod EventWalk
 pub mod RoomWalk
 pub mod RoomLaws
 pub mod SetsKept
-pub mod TurnWays
 pub mod StepSound
 pub mod TurnLaws
 pub mod LayLaws

@@ -9,15 +9,11 @@ use native.Mathlib.Omega.{arith}
 use Rattle.sdtd.specs.Schema.{Schema}
 use Rattle.sdtd.specs.Tree.{Kind}
 use Rattle.sdtd.specs.Document.{Event, opening, closing, finish}
-use Rattle.sdtd.specs.Answer.{Question, Ordered}
-use Rattle.sdtd.specs.declared.TypeNo.{TypeNo}
+use Rattle.sdtd.specs.Answer.{Question, Ordered, typed, taken, refused, Answer}
 use Rattle.sdtd.proofs.Answers.{ordered_unique}
 use Rattle.schema.proofs.Bits.{same_members}
 use Rattle.reading.specs.declared.value.Reading.{Reading}
-use Rattle.reading.specs.declared.calls.EventAnswer.{EventAnswer}
-use Rattle.reading.specs.declared.calls.EventAnswer.TheVariants.{Typed, Taken, Refused}
-use Rattle.reading.specs.declared.calls.Next.{Next}
-use Rattle.reading.specs.Questions.{sets_after, OpeningTaken, questions, TakenBy, CallMeans}
+use Rattle.reading.specs.Questions.{sets_after, OpeningTaken, questions, TakenBy, CallMeans, Next}
 
 -- with nothing open the set kept is not written
 sets_same : (κ : Kind) (sets : List ℕ) (n : ℕ) {k l : ℕ} → (0 < n → k ≡ l) → sets_after κ sets n k ≡ sets_after κ sets n l
@@ -48,19 +44,19 @@ HandBack r (q ∷ qs) = (q.refusal.reading ≡ r) × HandBack r qs
 
 refused_by : (P : Next → Type 0) {r : Reading} {n : Next} (qs : List (Question Next)) → HandBack r qs → (P n → n.reading ≡ r)
     → Ordered qs P n → n.reading ≡ r
-refused_by P [] h taken p = taken p
-refused_by P (q ∷ qs) h taken (inl o) = ap (λ (n : Next). n.reading) o.1 ∙ h.0
-refused_by P (q ∷ qs) h taken (inr o) = refused_by P qs h.1 taken o.1
+refused_by P [] h t p = t p
+refused_by P (q ∷ qs) h t (inl o) = ap (λ (n : Next). n.reading) o.1 ∙ h.0
+refused_by P (q ∷ qs) h t (inr o) = refused_by P qs h.1 t o.1
 
 -- an answer that is no refusal
-pub typed_refused : {A : Type 0} {a : EventAnswer} {j : TypeNo} {k : ℕ} → a ≡ Typed j → a ≡ Refused k → A
+pub typed_refused : {A : Type 0} {a : Answer} {j k : ℕ} → a ≡ typed j → a ≡ refused k → A
 typed_refused p q = absurd (let z : ◌≡◌ {A = ℕ} 0 1 = cc in omega arith)
 
-pub taken_refused : {A : Type 0} {a : EventAnswer} {k : ℕ} → a ≡ Taken → a ≡ Refused k → A
+pub taken_refused : {A : Type 0} {a : Answer} {k : ℕ} → a ≡ taken → a ≡ refused k → A
 taken_refused p q = absurd (let z : ◌≡◌ {A = ℕ} 0 1 = cc in omega arith)
 
 -- A refused call hands back the reading that it was given.
-pub refused_unchanged : (S : Schema) (r : Reading) (x : Event) {n : Next} {k : ℕ} → CallMeans S r x n → n.answer ≡ Refused k
+pub refused_unchanged : (S : Schema) (r : Reading) (x : Event) {n : Next} {k : ℕ} → CallMeans S r x n → n.answer ≡ refused k
     → n.reading ≡ r
 refused_unchanged S r (opening κ g) m e =
     refused_by (TakenBy S r (opening κ g)) (questions S r (opening κ g)) (refl, (refl, (refl, (refl, (refl, tt)))))

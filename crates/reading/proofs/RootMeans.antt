@@ -11,8 +11,6 @@ use borrow.Author.Tests.{ne_eqb, lt-ltb, le-ltb}
 use lib.Dec.{T, eqb, ltb}
 use lib.ListN.{length, get_or, set, replicate, length-set}
 use lib.Seq.{get_or-set_same, get_or-set_other}
-use Rattle.sdtd.specs.declared.TypeNo.{TypeNo}
-use Rattle.sdtd.specs.Numbered.{type_no}
 use Rattle.sdtd.specs.Limits.{most_tags, most_types}
 use Rattle.sdtd.specs.Schema.{Schema as Meaning}
 use Rattle.sdtd.specs.Schema.{WithinLimits}
@@ -28,9 +26,9 @@ use Rattle.schema.proofs.Values.{same_everywhere, types_count, tag_of_lem}
 use Rattle.schema.proofs.RootLaws.{AtRoot, roots_mem, roots_count, root_in}
 use Rattle.schema.proofs.LimitLaws.{within_room}
 use Rattle.reading.specs.declared.value.Reading.{Reading}
-use Rattle.reading.specs.declared.coming.Coming.TheVariants.{Nothing, OfType}
+use Rattle.std.specs.Prelude.{None}
 use Rattle.reading.specs.Questions.{CanOpen}
-use Rattle.reading.specs.Coming.{opens_in}
+use Rattle.reading.specs.Coming.{of_type, opens_in}
 use Rattle.reading.specs.Heads.{head_tag, head_accepting, head_nillable, head_root, set_head, opens_under, with_root, add_root, add_roots, RootsFit}
 use Rattle.reading.specs.Steps.{coming_first}
 use Rattle.reading.specs.Heads.{RootOf, OpensMeans, HeadsMean}
@@ -46,8 +44,8 @@ module _ (S : Meaning) (r : Reading) (outside : r.depth ≡ 0) (κ : Kind) (g : 
   can_open : {j : ℕ} → r.rooted ≡ false → RootOf S κ g j → CanOpen S r κ g j
   can_open f w = record { bears = w.bears; tag = w.tag; some_open = λ d. absurd (omega arith); none_open = λ z. (w.root, f) }
 
-  unrooted : r.rooted ≡ false → (b : Bool) (j : TypeNo) → OpensMeans S κ g (cond b Nothing (OfType j no_states))
-      → ComingMeans S r κ g (cond b Nothing (OfType j no_states))
+  unrooted : r.rooted ≡ false → (b : Bool) (j : ℕ) → OpensMeans S κ g (cond b None (of_type j no_states))
+      → ComingMeans S r κ g (cond b None (of_type j no_states))
   unrooted f true j m = λ k o. m k (root_of o)
   unrooted f false j m =
       record {
@@ -61,9 +59,9 @@ module _ (S : Meaning) (r : Reading) (outside : r.depth ≡ 0) (κ : Kind) (g : 
   pub root_means : (heads : List ℕ) → OpensMeans S κ g (opens_under heads κ g) → ComingMeans S r κ g (coming_first heads r.rooted κ g)
   root_means heads m = by_rooted r.rooted refl
     where
-      by_rooted : (b : Bool) → r.rooted ≡ b → ComingMeans S r κ g (cond b Nothing (opens_under heads κ g))
+      by_rooted : (b : Bool) → r.rooted ≡ b → ComingMeans S r κ g (cond b None (opens_under heads κ g))
       by_rooted true e = λ j o. not_both e (o.none_open outside).1
-      by_rooted false e = unrooted e (eqb (get_or heads (head_root κ g) 0) 0) (type_no ((get_or heads (head_root κ g) 0 - 1) % most_types)) m
+      by_rooted false e = unrooted e (eqb (get_or heads (head_root κ g) 0) 0) ((get_or heads (head_root κ g) 0 - 1) % most_types) m
 
 -- two kinds are the same or not
 kind_discrete : (κ ν : Kind) → Dec (κ ≡ ν)
@@ -344,7 +342,7 @@ heads_all v within heads w =
     by nil g l = w.opens nil g l
 
     all : (κ : Kind) (g n : ℕ) → FirstMeans v v.roots κ g n
-        → OpensMeans (meaning v) κ g (cond (eqb n 0) Nothing (OfType (type_no ((n - 1) % most_types)) no_states))
+        → OpensMeans (meaning v) κ g (cond (eqb n 0) None (of_type ((n - 1) % most_types) no_states))
     all κ g zero m = λ j o. m j ((roots_mem v.root v.roots j).0 o.root) o
     all κ g (suc a) m =
         let type_is : (suc a - 1) % most_types ≡ a = omega (arith, m.0) in

@@ -1,4 +1,5 @@
 -- Whatever call is made, the state sets of a reading have only states below `most_states`.
+use Rattle.sdtd.specs.Answer.{refused}
 use mathlib.Core.Path.{◌≡◌, sym, subst}
 use mathlib.Core.Logic.{◌⊎◌, inl, inr}
 use mathlib.Core.List.{List}
@@ -11,9 +12,7 @@ use Rattle.sdtd.specs.Tree.{Kind, plain, nil}
 use Rattle.sdtd.specs.Document.{Event, opening, closing, finish}
 use Rattle.schema.proofs.Bits.{set_below}
 use Rattle.reading.specs.declared.value.Reading.{Reading}
-use Rattle.reading.specs.declared.calls.EventAnswer.TheVariants.{Refused}
-use Rattle.reading.specs.declared.calls.Next.{Next}
-use Rattle.reading.specs.Questions.{gives, first_set, sets_after, OpeningTaken, CallMeans}
+use Rattle.reading.specs.Questions.{gives, first_set, sets_after, OpeningTaken, CallMeans, Next}
 
 abbrev pub Below : List ℕ → Type 0
 Below sets = (n : ℕ) → get_or sets n 0 < 2 ^ most_states
@@ -32,7 +31,7 @@ by_equal h e = subst (λ (m : Next). Below m.reading.sets) (sym e) h
 
 module _ {r : Reading} (b : Below r.sets) where
   -- a question that is answered no leaves the reading
-  asked : {i : ℕ} {P R : Type 0} {n : Next} → (R → Below n.reading.sets) → ((¬ P) × (n ≡ gives (Refused i) r)) ⊎ (P × R)
+  asked : {i : ℕ} {P R : Type 0} {n : Next} → (R → Below n.reading.sets) → ((¬ P) × (n ≡ gives (refused i) r)) ⊎ (P × R)
       → Below n.reading.sets
   asked next (inl o) = by_equal b o.1
   asked next (inr o) = next o.1

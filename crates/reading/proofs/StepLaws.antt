@@ -12,7 +12,7 @@ use Rattle.sdtd.specs.Limits.{most_tags, most_states, most_levels}
 use Rattle.sdtd.specs.Schema.{Schema as Meaning}
 use Rattle.sdtd.specs.Tree.{Kind}
 use Rattle.sdtd.specs.Document.{Event, opening, closing, finish}
-use Rattle.sdtd.specs.Answer.{ask, Ordered}
+use Rattle.sdtd.specs.Answer.{ask, Ordered, refused}
 use Rattle.sdtd.proofs.Basics.{cond_either, and_parts, is_true, is_false, not_both}
 use Rattle.sdtd.proofs.Tests.{itself, eq_means, and_means, or_means}
 use Rattle.schema.specs.States.{meet, no_states}
@@ -23,17 +23,15 @@ use Rattle.schema.specs.declared.value.Schema.{Schema}
 use Rattle.schema.proofs.FirstTables.{Fits}
 use Rattle.schema.proofs.WaysLaws.{nillable_of}
 use Rattle.reading.specs.declared.value.Reading.{Reading}
-use Rattle.reading.specs.declared.calls.EventAnswer.TheVariants.{Refused}
-use Rattle.reading.specs.declared.calls.Next.{Next}
-use Rattle.reading.specs.declared.coming.Coming.{Coming}
-use Rattle.reading.specs.declared.coming.Coming.TheVariants.{Nothing, OfType}
+use Rattle.std.specs.Prelude.{Some, None}
+use Rattle.reading.specs.declared.steps.Tables.{Tables}
 use Rattle.reading.specs.declared.steps.Inner.{Inner}
 use Rattle.reading.specs.Levels.{inner_type, inner_set, Within}
-use Rattle.reading.specs.Questions.{gives, refuses, questions, TakenBy, Ends, Complete, CallMeans}
+use Rattle.reading.specs.Questions.{gives, refuses, questions, TakenBy, Ends, Complete, CallMeans, Next}
 use Rattle.reading.specs.Heads.{tag_of_head, nillable_of_head, accepting_of_head}
-use Rattle.reading.specs.Coming.{Move, coming_by}
+use Rattle.reading.specs.Coming.{Coming, Move, coming_by}
 use Rattle.reading.specs.Heads.{HeadsMean}
-use Rattle.reading.specs.Steps.{StepTables, coming_at, open_by, open_step, open_by_rows, open_by_steps, inner, inner_of, complete, close_step, close_step_in}
+use Rattle.reading.specs.Steps.{coming_at, open_by, open_step, open_by_rows, open_by_steps, inner, inner_of, complete, close_step, close_step_in}
 use Rattle.reading.specs.Steps.{finish_step, Steady, InnerFits, OwnFits}
 use Rattle.reading.proofs.LevelLaws.{tags_of, inner_below, inner_most, inner_tag, ends_meets}
 use Rattle.reading.proofs.ComingMeans.{ComingMeans}
@@ -62,8 +60,8 @@ asked_yes P false f g = inl (g (λ h. h), refl)
 
 -- 13 and 14
 open_by_means : {S : Meaning} {r : Reading} {κ : Kind} {g : ℕ} (c : Coming) → ComingMeans S r κ g c → Rest S r (opening κ g) 3 (open_by κ r c)
-open_by_means Nothing m = inl (λ o. m o.0 o.1, refl)
-open_by_means {S} {r} {κ} {g} (OfType j kept) m =
+open_by_means None m = inl (λ o. m o.0 o.1, refl)
+open_by_means {S} {r} {κ} {g} (Some (j, kept)) m =
     inr (
       (j.0, m.can_open),
       asked_no (Rest S r (opening κ g) 5) (leb most_levels r.depth) (λ h d. omega (arith, leb→le most_levels r.depth h)) (λ h. (
@@ -72,7 +70,7 @@ open_by_means {S} {r} {κ} {g} (OfType j kept) m =
           type = j.0;
           can_open = m.can_open;
           smallest = m.smallest;
-          kept = kept;
+          kept = kept.0;
           kept_below = m.kept_below;
           keeps = m.keeps;
           next = refl;
@@ -101,7 +99,7 @@ pub stands_steady : (v : Schema) {r : Reading} → Within (meaning v) r → Stea
 stands_steady v {r} w = record { depth = w.reading.depth; inner = inner_most v r w }
 
 -- the tables of a schema inside the limits
-pub record TablesMean (v : Schema) (t : StepTables) : Type 0 where
+pub record TablesMean (v : Schema) (t : Tables) : Type 0 where
   pub rows : RowsMean (meaning v) t.entries t.begins
   pub heads : HeadsMean v t.heads
   pub tags : t.tags ≡ v.tags
@@ -113,7 +111,7 @@ module _ {v : Schema} {r : Reading} (fits : Fits v) (within : Within (meaning v)
   -- 10 to 12
   tag_asked : (P : Next → Type 0) (g : ℕ) {n : Next} → (g < v.tags → P n)
       → Ordered (ask (refuses r 10) (Within (meaning v) r) ∷ ask (refuses r 11) (r.finished ≡ false) ∷ ask (refuses r 12) (g < (meaning v).tags) ∷ []) P
-      (cond r.finished (gives (Refused 11) r) (cond (leb v.tags g) (gives (Refused 12) r) n))
+      (cond r.finished (gives (refused 11) r) (cond (leb v.tags g) (gives (refused 12) r) n))
   tag_asked P g next =
       inr (
         within,
@@ -143,7 +141,7 @@ module _ {v : Schema} {r : Reading} (fits : Fits v) (within : Within (meaning v)
     unfolding open_step
     open_step_means = tag_asked (Rest (meaning v) r (opening κ g) 3) g (λ m. open_by_means (coming_at heads moves r κ g) (coming_at_means m))
 
-  pub open_rows_means : {t : StepTables} → TablesMean v t → (κ : Kind) (g : ℕ) → CallMeans (meaning v) r (opening κ g) (open_by_rows t r κ g)
+  pub open_rows_means : {t : Tables} → TablesMean v t → (κ : Kind) (g : ℕ) → CallMeans (meaning v) r (opening κ g) (open_by_rows t r κ g)
   open_rows_means m κ g = rw m.tags (open_step_means m.heads κ g _ (rows_mean within.schema m.rows r κ g))
 
   pub open_steps_means : (live ways : List ℕ) {heads : List ℕ} → LiveExactly (meaning v) live → WaysExactly (meaning v) ways → HeadsMean v heads
@@ -152,7 +150,7 @@ module _ {v : Schema} {r : Reading} (fits : Fits v) (within : Within (meaning v)
       open_step_means headed κ g _ (λ inside. steps_mean fits within inside live ways table opened κ g)
 
   -- what the code of an opening asks for
-  pub stands_fit : {t : StepTables} → TablesMean v t → (t.tags ≤ most_tags) × InnerFits t.begins r
+  pub stands_fit : {t : Tables} → TablesMean v t → (t.tags ≤ most_tags) × InnerFits t.begins r
   stands_fit m = (rw m.tags tags_most, record { steady = stands_steady v within; rows = m.rows.inside })
 
   pub stands_own : (v.tags ≤ most_tags) × OwnFits v r

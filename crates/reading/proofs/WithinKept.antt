@@ -1,4 +1,5 @@
 -- Each call keeps a reading inside the limits.
+use Rattle.sdtd.specs.Answer.{refused}
 use mathlib.Core.Path.{◌≡◌, sym, subst, ◌∙◌}
 use mathlib.Core.Logic.{◌⊎◌, inl, inr}
 use mathlib.Core.List.{List}
@@ -19,10 +20,8 @@ use Rattle.sdtd.proofs.Within.{bears_within, live_within, block_within}
 use Rattle.schema.specs.States.{member}
 use Rattle.schema.proofs.Bits.{member_none, member_start}
 use Rattle.reading.specs.declared.value.Reading.{Reading}
-use Rattle.reading.specs.declared.calls.EventAnswer.TheVariants.{Refused}
-use Rattle.reading.specs.declared.calls.Next.{Next}
 use Rattle.reading.specs.Levels.{inner_type, LevelWithin, Within}
-use Rattle.reading.specs.Questions.{gives, first_set, sets_after, closed, after_finish, OpeningTaken, CallMeans}
+use Rattle.reading.specs.Questions.{gives, first_set, sets_after, closed, after_finish, OpeningTaken, CallMeans, Next}
 use Rattle.reading.proofs.Keeping.{Sized, opened_sized, closed_sized}
 
 -- a reading inside the limits, whose two lists have `most_levels` levels
@@ -110,7 +109,7 @@ module _ {S : Meaning} {r : Reading} (k : Kept S r) where
   ended_kept = (record { schema = k.0.schema; reading = record { depth = k.0.reading.depth; levels = k.0.reading.levels } }, k.1, k.2)
 
   -- a question that is answered no leaves the reading
-  asked : {i : ℕ} {P R : Type 0} {n : Next} → (P → R → Kept S n.reading) → ((¬ P) × (n ≡ gives (Refused i) r)) ⊎ (P × R)
+  asked : {i : ℕ} {P R : Type 0} {n : Next} → (P → R → Kept S n.reading) → ((¬ P) × (n ≡ gives (refused i) r)) ⊎ (P × R)
       → Kept S n.reading
   asked next (inl o) = subst (λ (m : Next). Kept S m.reading) (sym o.1) k
   asked next (inr o) = next o.0 o.1

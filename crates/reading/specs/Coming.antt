@@ -1,5 +1,5 @@
 -- What the private steps of the calls compute: the type that comes next inside an element, and the check of the open levels.
-use Rattle.std.specs.Prelude.{◌≡◌, Bool, true, false, cond, ◌&&◌, List, [], ◌∷◌, ◌++◌, ℕ, zero, suc, ◌+◌, ◌-◌, ◌*◌, ◌/◌, ◌%◌, ◌≤◌, ◌<◌, T, eqb, ltb, leb, get_or}
+use Rattle.std.specs.Prelude.{◌≡◌, Bool, false, cond, ◌&&◌, List, [], ◌∷◌, ◌++◌, ℕ, zero, suc, ◌+◌, ◌-◌, ◌*◌, ◌/◌, ◌%◌, ◌≤◌, ◌<◌, T, eqb, ltb, leb, get_or, Option, Some, None}
 use Rattle.sdtd.specs.Limits.{most_tags, most_types, most_states, most_levels}
 use Rattle.sdtd.specs.Numbered.{type_no}
 use Rattle.sdtd.specs.Schema.{Step}
@@ -10,8 +10,8 @@ use Rattle.schema.specs.Rows.{type_room, to_in, by_in, tag_in, ways_in, row_plac
 use Rattle.schema.specs.Value.{step_at, offset}
 use Rattle.schema.specs.declared.value.Schema.{Schema}
 use Rattle.reading.specs.declared.value.Reading.{Reading}
-use Rattle.reading.specs.declared.coming.Coming.{Coming}
-use Rattle.reading.specs.declared.coming.Coming.TheVariants.{Nothing, OfType}
+use Rattle.schema.specs.declared.state_set.StateSet.{StateSet}
+use Rattle.sdtd.specs.declared.TypeNo.{TypeNo}
 
 -- what came so far: the smallest type, and the states that it leads to
 pub record Least : Type 0 where
@@ -44,9 +44,16 @@ unfoldable pub joins : List Move → Least → Least
 joins [] c = c
 joins (m ∷ ms) c = joins ms (join c m.by m.to)
 
+-- what comes next for an opening, if anything does: a type, and the states that it leads to
+abbrev pub Coming : Type 0
+Coming = Option (TypeNo × StateSet)
+
+abbrev pub of_type : ℕ → ℕ → Coming
+of_type j kept = Some (type_no j, record { 0 = kept })
+
 -- what the smallest type is, if one came
 unfoldable pub coming_of : Least → Coming
-coming_of c = cond (eqb c.kept no_states) Nothing (OfType (type_no c.of) c.kept)
+coming_of c = cond (eqb c.kept no_states) None (of_type c.of c.kept)
 
 -- what comes next by the moves
 abbrev pub coming_by : List Move → Coming
@@ -60,11 +67,6 @@ gathered f i (suc n) = f i ++ gathered f (suc i) n
 -- the move by j to q where it is one, else none
 abbrev pub move_where : Bool → ℕ → ℕ → List Move
 move_where b j q = cond b (move j q ∷ []) []
-
--- by which kind an opening is: as nil, or plainly
-abbrev pub kind_by : Bool → Kind
-kind_by true = nil
-kind_by false = plain
 
 -- the table of ways says that the type j bears a tree opened so
 abbrev pub opens_in : Kind → List ℕ → ℕ → Bool
@@ -104,7 +106,7 @@ rotation nil g = type_room * (2 * most_tags - g)
 
 -- the opening for which so much is added: its kind and its tag
 abbrev pub kind_sought : ℕ → Kind
-kind_sought n = kind_by (leb n (2 * most_tags * type_room))
+kind_sought n = cond (leb n (2 * most_tags * type_room)) nil plain
 
 abbrev pub tag_sought : ℕ → ℕ
 tag_sought n = (3 * most_tags - n / type_room) % most_tags

@@ -6,13 +6,13 @@ use Rattle.reading.specs.declared.value.Reading.{Reading}
 use Rattle.reading.specs.declared.event_file.EventFile.{EventFile}
 use Rattle.events.specs.Events.{events_of}
 use Rattle.reading.specs.Levels.{fresh}
-use Rattle.reading.specs.Questions.{given, CallMeans}
+use Rattle.reading.specs.Questions.{gives, CallMeans}
 use Rattle.reading.specs.Passage.{TakenCall, Passage, Answerer, Passes}
 
 -- "gives one event after another to a fresh reading": each event is answered as its call on the reading kept, and what the call hands back
 -- is kept.
 abbrev pub by_calls : Schema → Answerer Reading
-by_calls S = record { Answers = λ r x a after. CallMeans S r x (given a after); Finished = λ r. r.finished ≡ true }
+by_calls S = record { Answers = λ r x a after. CallMeans S r x (gives a after); Finished = λ r. r.finished ≡ true }
 
 -- a type given to an opening: the place of the opening, and the type
 pub record GivenType : Type 0 where

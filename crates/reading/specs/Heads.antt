@@ -1,7 +1,6 @@
 -- The table of heads, which the private steps look at: where each number stands, what is read there, and what it means.
-use Rattle.std.specs.Prelude.{◌≡◌, Bool, false, cond, List, ℕ, zero, suc, ◌+◌, ◌-◌, ◌*◌, ◌%◌, ◌≤◌, ◌<◌, eqb, ltb, get_or, set}
+use Rattle.std.specs.Prelude.{◌≡◌, Bool, false, cond, List, ℕ, zero, suc, ◌+◌, ◌-◌, ◌*◌, ◌%◌, ◌≤◌, ◌<◌, eqb, ltb, get_or, set, Some, None}
 use Rattle.sdtd.specs.Limits.{most_tags, most_types, most_roots}
-use Rattle.sdtd.specs.Numbered.{type_no}
 use Rattle.sdtd.specs.Schema.{Schema as Meaning}
 use Rattle.sdtd.specs.Schema.{tag_of}
 use Rattle.sdtd.specs.Tree.{Kind, plain, nil, IsRoot}
@@ -9,9 +8,7 @@ use Rattle.sdtd.specs.Trim.{BearsBy}
 use Rattle.schema.specs.States.{no_states}
 use Rattle.schema.specs.Value.{meaning}
 use Rattle.schema.specs.declared.value.Schema.{Schema}
-use Rattle.reading.specs.declared.coming.Coming.{Coming}
-use Rattle.reading.specs.declared.coming.Coming.TheVariants.{Nothing, OfType}
-use Rattle.reading.specs.Coming.{opens_in}
+use Rattle.reading.specs.Coming.{Coming, of_type, opens_in}
 
 -- the numbers of the type a: its tag, its accepting states, and 1 if it is nillable
 abbrev pub head_tag : ℕ → ℕ
@@ -46,7 +43,7 @@ set_head heads a tag nillable accepting =
 -- what opens under the tag g at the outermost level: a root has no states to keep
 abbrev pub opens_under : List ℕ → Kind → ℕ → Coming
 opens_under heads κ g =
-    cond (eqb (get_or heads (head_root κ g) 0) 0) Nothing (OfType (type_no ((get_or heads (head_root κ g) 0 - 1) % most_types)) no_states)
+    cond (eqb (get_or heads (head_root κ g) 0) 0) None (of_type ((get_or heads (head_root κ g) 0 - 1) % most_types) no_states)
 
 -- what stands under a tag once the root type a is seen: the smaller one, if there is one already
 unfoldable pub with_root : ℕ → ℕ → ℕ
@@ -76,8 +73,8 @@ pub record RootOf (S : Meaning) (κ : Kind) (g j : ℕ) : Type 0 where
 
 -- the smallest of them, or that there is none
 abbrev pub OpensMeans : Meaning → Kind → ℕ → Coming → Type 0
-OpensMeans S κ g Nothing = (j : ℕ) → ¬ RootOf S κ g j
-OpensMeans S κ g (OfType j kept) = RootOf S κ g j.0 × ((k : ℕ) → RootOf S κ g k → j.0 ≤ k)
+OpensMeans S κ g None = (j : ℕ) → ¬ RootOf S κ g j
+OpensMeans S κ g (Some c) = RootOf S κ g c.0.0 × ((k : ℕ) → RootOf S κ g k → c.0.0 ≤ k)
 
 -- what the heads say of each type, and what opens under each tag
 pub record HeadsMean (v : Schema) (heads : List ℕ) : Type 0 where

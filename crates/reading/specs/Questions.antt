@@ -3,7 +3,6 @@
 use Rattle.std.specs.Prelude.{◌≡◌, true, false, ◌↔◌, ◌⊎◌, ℕ, zero, suc, pred, ◌^◌, ◌<◌, ◌≤◌, T, set}
 use mathlib.Core.List.{List, [], ◌∷◌, Memᴰ}
 use Rattle.sdtd.specs.Limits.{most_states, most_levels}
-use Rattle.sdtd.specs.Numbered.{type_no}
 use Rattle.sdtd.specs.Schema.{Schema, block_of, tag_of, Nillable}
 use Rattle.sdtd.specs.Tree.{Kind, plain, nil, IsRoot}
 use Rattle.sdtd.specs.Document.{Event, opening, closing, finish}
@@ -11,29 +10,19 @@ use Rattle.sdtd.specs.Trim.{BearsBy, Live}
 use Rattle.sdtd.specs.Answer.{Question, ask, Ordered, Answer, refused, typed, taken}
 use Rattle.schema.specs.States.{member, no_states, only_start}
 use Rattle.reading.specs.declared.value.Reading.{Reading}
-use Rattle.reading.specs.declared.calls.EventAnswer.{EventAnswer}
-use Rattle.reading.specs.declared.calls.EventAnswer.TheVariants.{Typed, Taken, Refused}
-use Rattle.reading.specs.declared.calls.Next.{Next}
 use Rattle.reading.specs.Levels.{inner_type, inner_set, Within}
 
--- the answer and the reading that follows
-abbrev pub gives : EventAnswer → Reading → Next
+-- what a call answers, and the reading that follows
+pub record Next : Type 0 where
+  pub answer : Answer
+  pub reading : Reading
+
+abbrev pub gives : Answer → Reading → Next
 gives a r = record { answer = a; reading = r }
-
--- Document 01's answer as a case of the code's: `Refused` has a refusal's number, `Typed` the type of an opening, `Taken` is a closing's and
--- a finish's.
-abbrev pub answer_in : Answer → EventAnswer
-answer_in (refused n) = Refused n
-answer_in (typed j) = Typed (type_no j)
-answer_in taken = Taken
-
--- document 01's answer, and the reading that follows
-abbrev pub given : Answer → Reading → Next
-given a r = gives (answer_in a) r
 
 -- "A refusal answers its number alone and the reading is unchanged."
 abbrev pub refuses : Reading → ℕ → Next
-refuses r n = given (refused n) r
+refuses r n = gives (refused n) r
 
 -- the type j leads from the innermost set to the live state q
 pub record LeadsTo (S : Schema) (r : Reading) (j q : ℕ) : Type 0 where
@@ -79,7 +68,7 @@ pub record OpeningTaken (S : Schema) (r : Reading) (κ : Kind) (g : ℕ) (n : Ne
   pub kept : ℕ
   pub kept_below : kept < 2 ^ most_states
   pub keeps : 0 < r.depth → (q : ℕ) → T (member q kept) ↔ LeadsTo S r type q
-  pub next : n ≡ given (typed type) (opened κ r type kept)
+  pub next : n ≡ gives (typed type) (opened κ r type kept)
 
 -- 17, "Do its children form a word of its automaton?", by the set kept: one of its states is accepting
 pub record Ends (S : Schema) (r : Reading) : Type 0 where
@@ -117,8 +106,8 @@ questions S r finish = ask (refuses r 10) (Within S r) ∷ ask (refuses r 11) (r
 -- what a call that is taken answers and hands back
 abbrev pub TakenBy : Schema → Reading → Event → Next → Type 0
 TakenBy S r (opening κ g) n = OpeningTaken S r κ g n
-TakenBy S r (closing g) n = n ≡ given taken (closed r)
-TakenBy S r finish n = n ≡ given taken (after_finish r)
+TakenBy S r (closing g) n = n ≡ gives taken (closed r)
+TakenBy S r finish n = n ≡ gives taken (after_finish r)
 
 -- What the call x answers and hands back, for any schema and any reading.
 abbrev pub CallMeans : Schema → Reading → Event → Next → Type 0

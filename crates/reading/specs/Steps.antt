@@ -1,5 +1,6 @@
 -- What the private steps over the rows and heads of a schema and lent levels compute; question 10 is asked before.
-use Rattle.std.specs.Prelude.{◌≡◌, Bool, false, cond, ◌&&◌, ◌||◌, List, ℕ, ◌+◌, ◌-◌, ◌≤◌, ◌<◌, eqb, leb, get_or}
+use Rattle.sdtd.specs.Answer.{typed, taken, refused}
+use Rattle.std.specs.Prelude.{Bool, false, cond, ◌&&◌, ◌||◌, List, ℕ, ◌+◌, ◌≤◌, ◌<◌, eqb, leb, get_or, Some, None}
 use Rattle.sdtd.specs.Limits.{most_levels, most_steps, most_types}
 use Rattle.sdtd.specs.Numbered.{tag_no}
 use Rattle.sdtd.specs.Tree.{Kind}
@@ -8,39 +9,16 @@ use Rattle.schema.specs.States.{meet, no_states}
 use Rattle.schema.specs.Value.{offset}
 use Rattle.schema.specs.declared.value.Schema.{Schema}
 use Rattle.reading.specs.declared.value.Reading.{Reading}
-use Rattle.reading.specs.declared.calls.EventAnswer.TheVariants.{Typed, Taken, Refused}
-use Rattle.reading.specs.declared.calls.Next.{Next}
-use Rattle.reading.specs.declared.coming.Coming.{Coming}
-use Rattle.reading.specs.declared.coming.Coming.TheVariants.{Nothing, OfType}
-use Rattle.reading.specs.declared.steps.Standing.{Standing}
-use Rattle.reading.specs.declared.steps.Stepped.{Stepped}
 use Rattle.reading.specs.declared.steps.Inner.{Inner}
+use Rattle.reading.specs.declared.steps.Tables.{Tables}
 use Rattle.reading.specs.Levels.{inner_type, inner_set}
-use Rattle.reading.specs.Questions.{gives, opened, closed, after_finish}
+use Rattle.reading.specs.Questions.{gives, opened, closed, after_finish, Next}
 use Rattle.reading.specs.Heads.{tag_of_head, nillable_of_head, accepting_of_head, opens_under}
-use Rattle.reading.specs.Coming.{Move, coming_by, moves_by_rows, moves_by_steps}
-
--- the reading that stands there with these levels
-abbrev pub reading_of : Standing → List ℕ → List ℕ → Reading
-reading_of s types sets = record { depth = s.depth; rooted = s.rooted; finished = s.finished; types = types; sets = sets }
-
--- what a step hands back, with these levels
-abbrev pub next_of : Stepped → List ℕ → List ℕ → Next
-next_of s types sets = gives s.answer (reading_of s.standing types sets)
-
--- the rows and heads of a schema, and its count of tags
-pub record StepTables : Type 0 where
-  pub entries : List ℕ
-  pub begins : List ℕ
-  pub heads : List ℕ
-  pub tags : ℕ
-
-abbrev pub step_tables : List ℕ → List ℕ → List ℕ → ℕ → StepTables
-step_tables entries begins heads tags = record { entries = entries; begins = begins; heads = heads; tags = tags }
+use Rattle.reading.specs.Coming.{Coming, Move, coming_by, moves_by_rows, moves_by_steps}
 
 -- what comes next under the tag g, opened so, where no element is open, and no root came or one did
 abbrev pub coming_first : List ℕ → Bool → Kind → ℕ → Coming
-coming_first heads rooted κ g = cond rooted Nothing (opens_under heads κ g)
+coming_first heads rooted κ g = cond rooted None (opens_under heads κ g)
 
 -- what comes next under the tag g, opened so: inside an element, by its moves
 unfoldable pub coming_at : List ℕ → List Move → Reading → Kind → ℕ → Coming
@@ -55,15 +33,15 @@ inner_by_steps v live ways r κ g = moves_by_steps v live ways (inner_type r) (i
 
 -- an opening, by what comes next
 abbrev pub open_by : Kind → Reading → Coming → Next
-open_by κ r Nothing = gives (Refused 13) r
-open_by κ r (OfType j kept) = cond (leb most_levels r.depth) (gives (Refused 14) r) (gives (Typed j) (opened κ r j.0 kept))
+open_by κ r None = gives (refused 13) r
+open_by κ r (Some c) = cond (leb most_levels r.depth) (gives (refused 14) r) (gives (typed c.0.0) (opened κ r c.0.0 c.1.0))
 
 -- an opening of g, of this kind, by what comes next
 unfoldable pub open_step : ℕ → Reading → Kind → ℕ → Coming → Next
-open_step tags r κ g c = cond r.finished (gives (Refused 11) r) (cond (leb tags g) (gives (Refused 12) r) (open_by κ r c))
+open_step tags r κ g c = cond r.finished (gives (refused 11) r) (cond (leb tags g) (gives (refused 12) r) (open_by κ r c))
 
 -- an opening of g, of this kind, by the rows
-abbrev pub open_by_rows : StepTables → Reading → Kind → ℕ → Next
+abbrev pub open_by_rows : Tables → Reading → Kind → ℕ → Next
 open_by_rows t r κ g = open_step t.tags r κ g (coming_at t.heads (inner_by_rows t.entries t.begins r κ g) r κ g)
 
 -- an opening of g, of this kind, by the steps of the schema's value
@@ -78,18 +56,14 @@ is_nilled own set = own.nillable && eqb set no_states
 abbrev pub complete : Inner → ℕ → Bool
 complete own set = is_nilled own set || meet set own.accepting
 
--- one level less
-abbrev pub ascended : Standing → Stepped
-ascended at = record { answer = Taken; standing = record { depth = at.depth - 1; rooted = at.rooted; finished = at.finished } }
-
 -- a closing of g, where `own` has the tag and the accepting states of the innermost element's type, and whether it is nillable
 unfoldable pub close_step : Inner → ℕ → Reading → ℕ → Next
 close_step own tags r g =
-    cond r.finished (gives (Refused 11) r)
-    (cond (leb tags g) (gives (Refused 12) r)
-    (cond (eqb r.depth 0) (gives (Refused 15) r)
-    (cond (eqb own.tag.0 g) (cond (complete own (inner_set r)) (gives Taken (closed r)) (gives (Refused 17) r))
-    (gives (Refused 16) r))))
+    cond r.finished (gives (refused 11) r)
+    (cond (leb tags g) (gives (refused 12) r)
+    (cond (eqb r.depth 0) (gives (refused 15) r)
+    (cond (eqb own.tag.0 g) (cond (complete own (inner_set r)) (gives taken (closed r)) (gives (refused 17) r))
+    (gives (refused 16) r))))
 
 abbrev pub inner : ℕ → Bool → ℕ → Inner
 inner tag nillable accepting = record { tag = tag_no tag; nillable = nillable; accepting = accepting }
@@ -114,7 +88,7 @@ close_step_in heads tags r g =
 -- a finish
 unfoldable pub finish_step : Reading → Next
 finish_step r =
-    cond r.finished (gives (Refused 11) r) (cond (r.rooted && eqb r.depth 0) (gives Taken (after_finish r)) (gives (Refused 18) r))
+    cond r.finished (gives (refused 11) r) (cond (r.rooted && eqb r.depth 0) (gives taken (after_finish r)) (gives (refused 18) r))
 
 -- the levels open are at most `most_levels`, and the innermost type is an entry of the tables
 pub record Steady (r : Reading) : Type 0 where
@@ -130,11 +104,3 @@ pub record InnerFits (begins : List ℕ) (r : Reading) : Type 0 where
 pub record OwnFits (v : Schema) (r : Reading) : Type 0 where
   pub steady : Steady r
   pub room : 0 < r.depth → offset v.steps (inner_type r) + get_or v.steps (inner_type r) 0 ≤ most_steps
-
--- what a closing does, whatever the types of the levels
-abbrev pub Closes : Inner → ℕ → List ℕ → Standing → ℕ → Stepped → Type 0
-Closes own tags sets at g r = (types : List ℕ) → next_of r types sets ≡ close_step own tags (reading_of at types sets) g
-
--- what a finish does, whatever the levels hold
-abbrev pub Finishes : Standing → Stepped → Type 0
-Finishes at r = (types sets : List ℕ) → next_of r types sets ≡ finish_step (reading_of at types sets)

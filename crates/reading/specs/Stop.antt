@@ -7,17 +7,15 @@ use Rattle.sdtd.specs.Document.{Event, opening, closing, finish}
 use Rattle.sdtd.specs.Calls.{IsTaken}
 use Rattle.events.specs.Events.{events_of}
 use Rattle.reading.specs.declared.value.Reading.{Reading}
-use Rattle.reading.specs.declared.calls.Next.{Next}
 use Rattle.reading.specs.declared.stop.Stop.{Stop}
 use Rattle.reading.specs.Levels.{fresh}
-use Rattle.reading.specs.Questions.{CallMeans}
-use Rattle.reading.specs.Calls.{answer_of}
+use Rattle.reading.specs.Questions.{CallMeans, Next}
 use Rattle.reading.specs.Passage.{Passage, Passes}
 use Rattle.reading.specs.EventFile.{by_calls, number_of, place_of}
 
 -- The call x on the reading r would be taken, "as the reading decides".
 abbrev pub WouldTake : Schema → Reading → Event → Type 0
-WouldTake S r x = (n : Next) × CallMeans S r x n × IsTaken (answer_of n.answer)
+WouldTake S r x = (n : Next) × CallMeans S r x n × IsTaken (n.answer)
 
 -- an entry for each tag says whether it has the property, and no other number has it
 pub record TellsTags (P : ℕ → Type 0) (flags : List Bool) : Type 0 where

@@ -1,27 +1,26 @@
 // Which type comes next under a tag, inside an element: the smallest that bears a tree opened so and leads from the states kept to a live state.
 ghost use Rattle.std.specs.Prelude.{◌≡◌, cond, ◌≢◌, ◌*◌, ◌/◌, ◌^◌, ◌≤◌, ◌<◌, ltb};
 ghost use Rattle.sdtd.specs.Limits.{most_tags, most_types, most_states, most_steps};
+ghost use Rattle.sdtd.specs.Tree.{plain, nil};
+ghost use Rattle.events.specs.Events.{kind_of};
 ghost use Rattle.schema.specs.States.{no_states};
 ghost use Rattle.schema.specs.Rows.{most_rows, RowsInside};
 ghost use Rattle.reading.specs.Coming.{least, joins, entry_moves, moves_up_to, row_moves, moves_by_rows, coming_of, coming_by, TypeUnder, Lowest};
-ghost use Rattle.reading.specs.Coming.{kind_by, kind_place, rotated_by, rotation, kind_sought, tag_sought, IsSought, join as joined};
+ghost use Rattle.reading.specs.Coming.{kind_place, rotated_by, rotation, kind_sought, tag_sought, IsSought, join as joined};
 
+use events::Kind;
 use schema::{BEGINS, Entry, STATES, STEPS, StateSet, TAGS, TYPE_PLACE, TYPE_ROOM, TYPES};
 use sdtd::{Tag, TypeNo};
 
 // An opening that is asked for: a tag, plainly or as nil.
 #[derive(Clone, Copy)]
 pub(crate) struct Opening {
+    pub kind: Kind,
     pub tag: Tag,
-    pub nil: bool,
 }
 
-// What comes next for an opening: nothing, or a type and the states that it leads to.
-#[derive(Clone, Copy)]
-pub(crate) enum Coming {
-    Nothing,
-    OfType(TypeNo, u32),
-}
+// What comes next for an opening, if anything does: a type, and the states that it leads to.
+pub(crate) type Coming = Option<(TypeNo, StateSet)>;
 
 // The states kept before a step by t: none where t is smaller than the type that they came by.
 fn kept_before(t: u32, was: u32, kept: u32) -> u32
@@ -57,9 +56,9 @@ pub(crate) fn coming_of(of: TypeNo, kept: u32) -> Coming
     ensures { result ≡ coming_of (least of.0 kept) }
 {
     if kept == StateSet::NONE.0 {
-        return Coming::Nothing;
+        return None;
     }
-    Coming::OfType(of, kept)
+    Some((of, StateSet(kept)))
 }
 
 // A table's entry as a place: a parameter is known to fit its type, and an element behind a reference is not.
@@ -90,17 +89,17 @@ pub(crate) struct Sought(pub u32);
 
 pub(crate) fn sought_of(o: Opening) -> Sought
     requires { o.tag.0 < most_tags }
-    ensures { result.0 ≡ rotation (kind_by o.nil) o.tag.0 }
+    ensures { result.0 ≡ rotation (kind_of o.kind) o.tag.0 }
 {
-    if o.nil {
-        return Sought(TYPE_ROOM * (2 * TAGS - o.tag.0) as u32);
+    match o.kind {
+        Kind::Nil => Sought(TYPE_ROOM * (2 * TAGS - o.tag.0) as u32),
+        Kind::Plain => Sought(TYPE_ROOM * (3 * TAGS - o.tag.0) as u32),
     }
-    Sought(TYPE_ROOM * (3 * TAGS - o.tag.0) as u32)
 }
 
 // Is it as nil?
 pub(crate) fn sought_nil(o: Sought) -> bool
-    ensures { kind_by result ≡ kind_sought o.0 }
+    ensures { cond result nil plain ≡ kind_sought o.0 }
 {
     o.0 <= 2 * TAGS as u32 * TYPE_ROOM
 }

@@ -2,13 +2,14 @@
 ghost use Rattle.std.specs.Prelude.{◌≡◌, ◌+◌, ◌*◌, ◌<◌, get_or};
 ghost use Rattle.sdtd.specs.Limits.{most_tags, most_types};
 ghost use Rattle.sdtd.specs.Schema.{WithinLimits};
-ghost use Rattle.schema.specs.Ways.{opens_by};
 ghost use Rattle.schema.specs.Value.{meaning};
 ghost use Rattle.schema.specs.Trimming.{WaysExactly};
-ghost use Rattle.reading.specs.Coming.{kind_by, kind_sought, tag_sought, IsSought, opens_in};
+ghost use Rattle.events.specs.Events.{kind_of};
+ghost use Rattle.reading.specs.Coming.{kind_sought, tag_sought, IsSought, opens_in};
 ghost use Rattle.reading.specs.Heads.{head_tag, head_accepting, head_nillable, head_root, set_head, with_root, add_root, add_roots, RootsFit, HeadsMean};
 
 use crate::coming::{Opening, Sought, sought_of};
+use events::Kind;
 use schema::{ROOTS, Schema, TAGS, TYPE_ROOM, TYPES, opens_as_nil, opens_plainly};
 use sdtd::{Tag, TypeNo};
 
@@ -47,22 +48,15 @@ pub(crate) fn head_root(o: Sought) -> usize
     2 * TYPES + (3 * TAGS as u32 - o.0 / TYPE_ROOM) as usize
 }
 
-// Do the ways say this kind?
-fn opens_by(w: u8, nil: bool) -> bool
-    ensures { result ≡ opens_by (kind_by nil) w }
-{
-    if nil {
-        return opens_as_nil(w);
-    }
-    opens_plainly(w)
-}
-
 // Does the table of ways say that the type a bears a tree opened so?
-pub(crate) fn opens_in(ways: &[u8; TYPES], a: usize, nil: bool) -> bool
+pub(crate) fn opens_in(ways: &[u8; TYPES], a: usize, kind: Kind) -> bool
     requires { a < most_types }
-    ensures { result ≡ opens_in (kind_by nil) ways.now a }
+    ensures { result ≡ opens_in (kind_of kind) ways.now a }
 {
-    opens_by(ways[a], nil)
+    match kind {
+        Kind::Plain => opens_plainly(ways[a]),
+        Kind::Nil => opens_as_nil(ways[a]),
+    }
 }
 
 // The type a, with its tag, whether it is nillable, and its accepting states.
@@ -97,18 +91,18 @@ fn add_root<'a>(
     heads: &'a mut [u32; HEADS],
     tag: &'a [u8; TYPES],
     ways: &'a [u8; TYPES],
-    nil: bool,
+    kind: Kind,
     a: TypeNo,
 )
     requires { (a.0 < most_types) × (get_or tag.now a.0 0 < most_tags) }
-    ensures { heads.new ≡ add_root heads.old tag.now ways.now (kind_by nil) a.0 }
+    ensures { heads.new ≡ add_root heads.old tag.now ways.now (kind_of kind) a.0 }
 {
     let i = a.0 as usize;
-    if !opens_in(ways, i, nil) {
+    if !opens_in(ways, i, kind) {
         return;
     }
     let tag = Tag(tag[i]);
-    let at = head_root(sought_of(Opening { tag, nil }));
+    let at = head_root(sought_of(Opening { kind, tag }));
     heads[at] = with_root(heads[at], a);
 }
 
@@ -120,36 +114,52 @@ fn lay_roots<'a>(
     roots: u8,
     tag: &'a [u8; TYPES],
     ways: &'a [u8; TYPES],
-    nil: bool,
+    kind: Kind,
 )
     requires { RootsFit root roots tag.now }
-    ensures { heads.new ≡ add_roots heads.old tag.now ways.now (kind_by nil) root roots }
+    ensures { heads.new ≡ add_roots heads.old tag.now ways.now (kind_of kind) root roots }
 {
     let n = roots as usize;
     let mut i = 0;
     while i < n {
-        add_root(heads, tag, ways, nil, TypeNo(root[i]));
+        add_root(heads, tag, ways, kind, TypeNo(root[i]));
         i += 1;
     }
 }
 
 // The heads of a schema, by a table of the ways in which its types bear a tree.
-pub(crate) fn heads(schema: Schema, ways: [u8; TYPES]) -> [u32; HEADS]
-    requires { WithinLimits (meaning schema) × WaysExactly (meaning schema) ways }
-    ensures { HeadsMean schema result }
+pub(crate) fn heads(schema: &Schema, ways: &[u8; TYPES]) -> [u32; HEADS]
+    requires { WithinLimits (meaning schema.now) × WaysExactly (meaning schema.now) ways.now }
+    ensures { HeadsMean schema.now result }
 {
     let mut all = [0u32; HEADS];
-    let tag = schema.tag;
-    let nillable = schema.nillable;
-    let accepting = schema.accepting;
-    let root = schema.root;
     let mut a = 0;
     while a < schema.types {
         let i = a as usize;
-        lay_head(&mut all, i, Tag(tag[i]), nillable[i], accepting[i]);
+        lay_head(
+            &mut all,
+            i,
+            Tag(schema.tag[i]),
+            schema.nillable[i],
+            schema.accepting[i],
+        );
         a += 1;
     }
-    lay_roots(&mut all, root, schema.roots, &tag, &ways, false);
-    lay_roots(&mut all, root, schema.roots, &tag, &ways, true);
+    lay_roots(
+        &mut all,
+        schema.root,
+        schema.roots,
+        &schema.tag,
+        ways,
+        Kind::Plain,
+    );
+    lay_roots(
+        &mut all,
+        schema.root,
+        schema.roots,
+        &schema.tag,
+        ways,
+        Kind::Nil,
+    );
     all
 }

@@ -3,48 +3,44 @@ ghost use Rattle.sdtd.specs.Tree.{plain, nil};
 ghost use Rattle.sdtd.specs.Document.{opening, closing, finish};
 ghost use Rattle.schema.specs.Value.{meaning};
 ghost use Rattle.reading.specs.Questions.{CallMeans, gives};
+ghost use Rattle.reading.specs.Calls.{typed_of, taken_of};
 
-use crate::calls::EventAnswer;
 use crate::value::Reading;
 use schema::Schema;
-use sdtd::Tag;
+use sdtd::{Refused, Tag, TypeNo};
 
 // An opening of the tag, plainly.
-pub fn open_lent(reading: &mut Reading, schema: Schema, tag: Tag) -> EventAnswer
-    ensures { CallMeans (meaning schema) reading.old (opening plain tag.0) (gives result reading.new) }
+pub fn open_lent(reading: &mut Reading, schema: &Schema, tag: Tag) -> Result<TypeNo, Refused>
+    ensures { CallMeans (meaning schema.now) reading.old (opening plain tag.0) (gives (typed_of result) reading.new) }
 {
-    let was = *reading;
-    let n = was.open(schema, tag);
-    *reading = n.reading;
-    n.answer
+    let next = reading.open(schema, tag);
+    *reading = next.reading;
+    next.answer
 }
 
 // An opening of the tag as nil.
-pub fn open_nil_lent(reading: &mut Reading, schema: Schema, tag: Tag) -> EventAnswer
-    ensures { CallMeans (meaning schema) reading.old (opening nil tag.0) (gives result reading.new) }
+pub fn open_nil_lent(reading: &mut Reading, schema: &Schema, tag: Tag) -> Result<TypeNo, Refused>
+    ensures { CallMeans (meaning schema.now) reading.old (opening nil tag.0) (gives (typed_of result) reading.new) }
 {
-    let was = *reading;
-    let n = was.open_nil(schema, tag);
-    *reading = n.reading;
-    n.answer
+    let next = reading.open_nil(schema, tag);
+    *reading = next.reading;
+    next.answer
 }
 
 // A closing of the tag.
-pub fn close_lent(reading: &mut Reading, schema: Schema, tag: Tag) -> EventAnswer
-    ensures { CallMeans (meaning schema) reading.old (closing tag.0) (gives result reading.new) }
+pub fn close_lent(reading: &mut Reading, schema: &Schema, tag: Tag) -> Result<(), Refused>
+    ensures { CallMeans (meaning schema.now) reading.old (closing tag.0) (gives (taken_of result) reading.new) }
 {
-    let was = *reading;
-    let n = was.close(schema, tag);
-    *reading = n.reading;
-    n.answer
+    let next = reading.close(schema, tag);
+    *reading = next.reading;
+    next.answer
 }
 
 // The finish.
-pub fn finish_lent(reading: &mut Reading, schema: Schema) -> EventAnswer
-    ensures { CallMeans (meaning schema) reading.old finish (gives result reading.new) }
+pub fn finish_lent(reading: &mut Reading, schema: &Schema) -> Result<(), Refused>
+    ensures { CallMeans (meaning schema.now) reading.old finish (gives (taken_of result) reading.new) }
 {
-    let was = *reading;
-    let n = was.finish(schema);
-    *reading = n.reading;
-    n.answer
+    let next = reading.finish(schema);
+    *reading = next.reading;
+    next.answer
 }

@@ -7,32 +7,31 @@ use schema::{StateSet, TYPES};
 use sdtd::TypeNo;
 
 // Is a level's type below the count, and its set below that type's states?
-fn level_within(a: TypeNo, set: u32, types: u8, states: [u8; TYPES]) -> bool
-    ensures { T result ↔ LevelFits types states a.0 set }
+fn level_within(a: TypeNo, set: StateSet, types: u8, states: &[u8; TYPES]) -> bool
+    ensures { T result ↔ LevelFits types states.now a.0 set.0 }
 {
     if types <= a.0 {
         return false;
     }
-    let own = states[a.0 as usize % TYPES];
-    StateSet(set).below(own)
+    set.below(states[usize::from(a.0) % TYPES])
 }
 
-// Are the open levels at most LEVELS, and each of them inside the counts?
-pub(crate) fn levels_within(reading: Reading, types: u8, states: [u8; TYPES]) -> bool
-    ensures { T result ↔ LevelsFit types states reading }
-{
-    let depth = reading.depth as usize;
-    if LEVELS < depth {
-        return false;
-    }
-    let of = reading.types;
-    let sets = reading.sets;
-    let mut n = 0;
-    while n < depth {
-        if !level_within(TypeNo(of[n]), sets[n], types, states) {
+impl Reading {
+    // Are the open levels at most LEVELS, and each of them inside the counts?
+    pub(crate) fn levels_within(&self, types: u8, states: &[u8; TYPES]) -> bool
+        ensures { T result ↔ LevelsFit types states.now self.now }
+    {
+        let depth = usize::from(self.depth);
+        if LEVELS < depth {
             return false;
         }
-        n += 1;
+        for n in 0..depth {
+            let a = TypeNo(self.types[n]);
+            let set = StateSet(self.sets[n]);
+            if !level_within(a, set, types, states) {
+                return false;
+            }
+        }
+        true
     }
-    true
 }

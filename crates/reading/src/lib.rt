@@ -12,7 +12,7 @@ mod steps;
 mod stop;
 mod value;
 
-pub use calls::{EventAnswer, Next};
+pub use calls::Next;
 pub use event_file::{EventFile, read_events};
 pub use lent::{close_lent, finish_lent, open_lent, open_nil_lent};
 pub use stop::{Stop, TAG_NUMBERS, pass_events};

@@ -1,27 +1,25 @@
 // Where a walk over an event file stops, and what would have been taken there.
 ghost use Rattle.std.specs.Prelude.{◌≡◌, ◌&&◌, ◌↔◌, ℕ, ◌+◌, ◌≤◌, ◌<◌, T, eqb};
-ghost use Rattle.sdtd.specs.Limits.{most_tags, most_steps};
-ghost use Rattle.sdtd.specs.Schema.{step};
+ghost use Rattle.sdtd.specs.Limits.{most_tags};
 ghost use Rattle.sdtd.specs.Tree.{plain, nil};
-ghost use Rattle.sdtd.specs.Document.{opening, closing};
-ghost use Rattle.sdtd.specs.Calls.{IsTaken};
-ghost use Rattle.schema.specs.Value.{meaning};
-ghost use Rattle.reading.specs.Levels.{Within};
-ghost use Rattle.reading.specs.Calls.{answer_of};
-ghost use Rattle.reading.specs.Coming.{kind_by, step_taken};
+ghost use Rattle.sdtd.specs.Document.{opening, closing, finish};
+ghost use Rattle.schema.specs.Value.{meaning, steps_of, SetsFit};
+ghost use Rattle.events.specs.Events.{kind_of};
+ghost use Rattle.schema.specs.Steps.{meant};
+ghost use Rattle.reading.specs.Coming.{step_taken};
 ghost use Rattle.reading.specs.Steps.{coming_first};
-ghost use Rattle.reading.specs.Asking.{comes, Marks, MarksWhere, taken_at};
-ghost use Rattle.reading.specs.Turns.{reading_at, EndTables};
+ghost use Rattle.reading.specs.Levels.{Within};
+ghost use Rattle.reading.specs.Asking.{comes, Marks, MarksSteps, taken_by};
+ghost use Rattle.reading.specs.Turns.{EndTables};
 ghost use Rattle.reading.specs.Stop.{WouldTake, TellsTags, StopMeans};
 
-use crate::calls::{EventAnswer, inner_of};
-use crate::coming::{Coming, Opening, sought_of};
-use crate::event_file::{WalkEnd, walk_file};
+use crate::coming::{Opening, sought_of};
+use crate::event_file::{Trimmed, walk_file};
 use crate::heads::{HEADS, opens_in};
-use crate::own_steps::start_of;
-use crate::steps::{coming_first, step_close, step_finish};
+use crate::steps::coming_first;
 use crate::value::{LEVELS, Reading};
-use schema::{STEPS, Schema, Span, StateSet, TAGS, TYPES};
+use events::Kind;
+use schema::{Schema, Span, StateSet, Step, TAGS, TYPES};
 use sdtd::{Tag, TypeNo};
 
 // the entries of a table by tags
@@ -40,17 +38,6 @@ pub struct Stop {
     pub finishes: bool,
 }
 
-// Is the answer no refusal?
-fn is_taken(answer: EventAnswer) -> bool
-    ensures { T result ↔ IsTaken (answer_of answer) }
-{
-    match answer {
-        EventAnswer::Typed(_) => true,
-        EventAnswer::Taken => true,
-        EventAnswer::Refused(_) => false,
-    }
-}
-
 // The tags of which an opening would be taken, plainly and as nil.
 #[derive(Clone, Copy)]
 struct Openings {
@@ -66,8 +53,8 @@ const NO_OPENINGS: Openings = Openings {
 // From which states a step is taken, and into which live states.
 #[derive(Clone, Copy)]
 struct Between {
-    pub states: u32,
-    pub own: u32,
+    pub states: StateSet,
+    pub own: StateSet,
 }
 
 // Marks the tag g, if it is to be marked and has an entry.
@@ -84,104 +71,72 @@ fn mark_tag(flags: &mut [bool; TAG_NUMBERS], g: Tag, marked: bool)
     flags[i] = true;
 }
 
-// The step from the state p by the type j to q: if it is between those states, the tag of j is marked for each kind by which j bears a tree.
+// If the step is between those states, the tag of its type is marked for each kind by which that bears a tree.
 fn mark_step<'a>(
     tag: &'a [u8; TYPES],
     ways: &'a [u8; TYPES],
     among: Between,
-    p: u8,
-    j: TypeNo,
-    q: u8,
-    opens: &'a mut [bool; TAG_NUMBERS],
-    opens_nil: &'a mut [bool; TAG_NUMBERS],
+    step: Step,
+    found: &'a mut Openings,
 )
-    ensures { Marks (λ k. step_taken tag.now ways.now among.own among.states plain k (step p j.0 q))
-        opens.old opens.new
-        × Marks (λ k. step_taken tag.now ways.now among.own among.states nil k (step p j.0 q))
-        opens_nil.old opens_nil.new }
+    ensures { Marks (λ k. step_taken tag.now ways.now among.own.0 among.states.0 plain k (meant step))
+        found.old.opens found.new.opens
+        × Marks (λ k. step_taken tag.now ways.now among.own.0 among.states.0 nil k (meant step))
+        found.old.opens_nil found.new.opens_nil }
 {
-    if !StateSet(among.states).has(p) {
+    if !among.states.has(step.from) {
         return;
     }
-    if !StateSet(among.own).has(q) {
+    if !among.own.has(step.to) {
         return;
     }
-    let a = j.0 as usize % TYPES;
+    let a = usize::from(step.by.0) % TYPES;
     let g = Tag(tag[a]);
-    mark_tag(opens, g, opens_in(ways, a, false));
-    mark_tag(opens_nil, g, opens_in(ways, a, true));
+    mark_tag(&mut found.opens, g, opens_in(ways, a, Kind::Plain));
+    mark_tag(&mut found.opens_nil, g, opens_in(ways, a, Kind::Nil));
 }
 
 // The openings by the steps of the span.
-fn openings_span<'a>(
-    from: &'a [u8; STEPS],
-    by: &'a [u8; STEPS],
-    to: &'a [u8; STEPS],
-    span: Span,
-    tag: &'a [u8; TYPES],
-    ways: &'a [u8; TYPES],
-    among: Between,
-) -> Openings
-    requires { span.start + span.n ≤ most_steps }
-    ensures { MarksWhere (taken_at from.now by.now to.now tag.now ways.now among plain)
-        span.start (span.start + span.n) result.opens
-        × MarksWhere (taken_at from.now by.now to.now tag.now ways.now among nil)
-        span.start (span.start + span.n) result.opens_nil }
+fn openings_span(schema: &Schema, ways: &[u8; TYPES], among: Between, span: Span) -> Openings
+    ensures { MarksSteps (taken_by schema.now ways.now among plain)
+        (steps_of schema.now.from schema.now.by schema.now.to span.start span.n) result.opens
+        × MarksSteps (taken_by schema.now ways.now among nil)
+        (steps_of schema.now.from schema.now.by schema.now.to span.start span.n) result.opens_nil }
 {
-    let mut opens = [false; TAG_NUMBERS];
-    let mut opens_nil = [false; TAG_NUMBERS];
-    let end = span.start + span.n;
-    let mut i = span.start;
-    while i < end {
-        mark_step(
-            tag,
-            ways,
-            among,
-            from[i],
-            TypeNo(by[i]),
-            to[i],
-            &mut opens,
-            &mut opens_nil,
-        );
-        i += 1;
+    let mut found = NO_OPENINGS;
+    for step in schema.steps_in(span) {
+        mark_step(&schema.tag, ways, among, step, &mut found);
     }
-    Openings { opens, opens_nil }
+    found
 }
 
 // Does a root come next for the opening, where no element is open?
 fn opens_first(heads: &[u32; HEADS], rooted: bool, o: Opening) -> bool
     requires { o.tag.0 < most_tags }
-    ensures { result ≡ comes (coming_first heads.now rooted (kind_by o.nil) o.tag.0) }
+    ensures { result ≡ comes (coming_first heads.now rooted (kind_of o.kind) o.tag.0) }
 {
-    let next = coming_first(heads, rooted, sought_of(o));
-    match next {
-        Coming::Nothing => false,
-        Coming::OfType(_, _) => true,
-    }
+    coming_first(heads, rooted, sought_of(o)).is_some()
 }
 
-// Of which tags does one, plainly or as nil?
-fn tags_first(heads: &[u32; HEADS], tags: u8, rooted: bool, nil: bool) -> [bool; TAG_NUMBERS]
+// Of which tags does one?
+fn tags_first(heads: &[u32; HEADS], tags: u8, rooted: bool, kind: Kind) -> [bool; TAG_NUMBERS]
     requires { tags ≤ most_tags }
-    ensures { TellsTags (λ g. (g < tags) × T (comes (coming_first heads.now rooted (kind_by nil) g))) result }
+    ensures { TellsTags (λ g. (g < tags) × T (comes (coming_first heads.now rooted (kind_of kind) g))) result }
 {
     let mut flags = [false; TAG_NUMBERS];
-    let mut g = 0;
-    while g < tags {
-        let o = Opening { tag: Tag(g), nil };
-        flags[g as usize] = opens_first(heads, rooted, o);
-        g += 1;
+    for g in 0..tags {
+        let tag = Tag(g);
+        flags[usize::from(g)] = opens_first(heads, rooted, Opening { kind, tag });
     }
     flags
 }
 
 // Of which tags would an opening be taken where the walk has ended? The steps of the innermost type are passed once.
-fn would_open(schema: Schema, end: WalkEnd) -> Openings
-    requires { EndTables schema end }
-    ensures { TellsTags (λ g. WouldTake (meaning schema) (reading_at end) (opening plain g)) result.opens
-        × TellsTags (λ g. WouldTake (meaning schema) (reading_at end) (opening nil g)) result.opens_nil }
+fn would_open(schema: &Schema, trimmed: &Trimmed, at: &Reading) -> Openings
+    requires { EndTables schema.now at.now trimmed.now }
+    ensures { TellsTags (λ g. WouldTake (meaning schema.now) at.now (opening plain g)) result.opens
+        × TellsTags (λ g. WouldTake (meaning schema.now) at.now (opening nil g)) result.opens_nil }
 {
-    let at = end.standing;
     if at.finished {
         return NO_OPENINGS;
     }
@@ -189,95 +144,57 @@ fn would_open(schema: Schema, end: WalkEnd) -> Openings
         return NO_OPENINGS;
     }
     if at.depth == 0 {
-        let opens = tags_first(&end.heads, schema.tags, at.rooted, false);
-        let opens_nil = tags_first(&end.heads, schema.tags, at.rooted, true);
+        let opens = tags_first(&trimmed.heads, schema.tags, at.rooted, Kind::Plain);
+        let opens_nil = tags_first(&trimmed.heads, schema.tags, at.rooted, Kind::Nil);
         return Openings { opens, opens_nil };
     }
-    let level = (at.depth - 1) as usize;
-    let a = end.types[level] as usize;
-    let steps = schema.steps;
-    let span = Span {
-        start: start_of(steps, a),
-        n: steps[a] as usize,
-    };
+    let level = at.depth as usize - 1;
+    let a = TypeNo(at.types[level]);
     let among = Between {
-        states: end.sets[level],
-        own: end.live[a],
+        states: StateSet(at.sets[level]),
+        own: StateSet(trimmed.found.live[usize::from(a.0)]),
     };
-    openings_span(
-        &schema.from,
-        &schema.by,
-        &schema.to,
-        span,
-        &schema.tag,
-        &end.ways,
-        among,
-    )
+    openings_span(schema, &trimmed.found.ways, among, schema.span(a))
 }
 
 // Would a closing be taken there? If one is, it is of the innermost element's tag.
-fn would_close(schema: Schema, end: WalkEnd) -> bool
-    requires { Within (meaning schema) (reading_at end) }
-    ensures { T result ↔ ((g : ℕ) × WouldTake (meaning schema) (reading_at end) (closing g)) }
+fn would_close(schema: &Schema, mut reading: Reading) -> bool
+    requires { SetsFit schema.now × Within (meaning schema.now) reading }
+    ensures { T result ↔ ((g : ℕ) × WouldTake (meaning schema.now) reading (closing g)) }
 {
-    let types = end.types;
-    let sets = end.sets;
-    let at = end.standing;
-    let own = inner_of(
-        &schema.tag,
-        &schema.nillable,
-        &schema.accepting,
-        &types,
-        &sets,
-        at,
-    );
-    let tag = own.tag;
-    let step = step_close(own, schema.tags, &sets, at, tag);
-    let answer = step.answer;
-    is_taken(answer)
+    let own = reading.inner_of(schema);
+    reading.step_close(own, schema.tags, own.tag).is_ok()
+}
+
+// Would the finish?
+fn would_finish(schema: &Schema, mut reading: Reading) -> bool
+    requires { Within (meaning schema.now) reading }
+    ensures { T result ↔ WouldTake (meaning schema.now) reading finish }
+{
+    reading.step_finish().is_ok()
 }
 
 // Walks the event file with no types' buffer, and asks where it stops.
-pub fn pass_events(schema: Schema, events: &[u8]) -> Stop
-    ensures { StopMeans (meaning schema) events.now result }
+pub fn pass_events(schema: &Schema, events: &[u8]) -> Stop
+    ensures { StopMeans (meaning schema.now) events.now result }
 {
     let mut unread = [0u8; 1];
     let end = walk_file(schema, false, events, &mut unread);
-    let at = end.standing;
-    let types = end.types;
-    let sets = end.sets;
-    let reading = Reading {
-        depth: at.depth,
-        rooted: at.rooted,
-        finished: at.finished,
-        types,
-        sets,
+    let mut stop = Stop {
+        number: end.told.number,
+        place: end.told.place,
+        reading: end.reading,
+        opens: [false; TAG_NUMBERS],
+        opens_nil: [false; TAG_NUMBERS],
+        closes: false,
+        finishes: false,
     };
-    if !end.inside {
-        return Stop {
-            number: end.number,
-            place: end.at,
-            reading,
-            opens: [false; TAG_NUMBERS],
-            opens_nil: [false; TAG_NUMBERS],
-            closes: false,
-            finishes: false,
-        };
+    if let Some(trimmed) = end.trimmed {
+        let Openings { opens, opens_nil } = would_open(schema, &trimmed, &end.reading);
+        stop.opens = opens;
+        stop.opens_nil = opens_nil;
+        stop.closes = would_close(schema, end.reading);
+        stop.finishes = would_finish(schema, end.reading);
     }
-    let told = would_open(schema, end);
-    let opens = told.opens;
-    let opens_nil = told.opens_nil;
-    let closes = would_close(schema, end);
-    let last = step_finish(at);
-    let answer = last.answer;
-    let finishes = is_taken(answer);
-    Stop {
-        number: end.number,
-        place: end.at,
-        reading,
-        opens,
-        opens_nil,
-        closes,
-        finishes,
-    }
+    stop
 }

@@ -1,93 +1,87 @@
 -- `reading::event_file::walk_file` meets its contract: each turn of the loop is sound, and lays its type or none.
-use mathlib.Core.Path.{refl, sym, ◌∙◌}
-use mathlib.Core.Bool.{true≢false}
-use Prim.Native.Nat.{ℕ}
-use native.Mathlib.Omega.{arith}
+use mathlib.Core.Path.{refl, ap, sym, ◌∙◌}
 use borrow.Author.Rules.{rules}
-use lib.ListN.{get_or}
-use mir.Syntax.{w32}
-use mir.Val.{Fits as FitsIn}
-use Rattle.schema.proofs.LimitLaws.{passed, failed}
+use Rattle.sdtd.specs.Answer.{typed, taken}
+use mathlib.Core.List.{List}
+use Prim.Native.Nat.{ℕ}
+use lib.ListN.{length}
+use Rattle.events.specs.Events.{event_at}
+use Rattle.reading.specs.Turns.{answer_of, end_number}
 use Rattle.reading.proofs.StepLaws.{stands_fit}
-use Rattle.reading.proofs.TurnLaws.{turn_sound, turn_less}
-use Rattle.reading.proofs.LayLaws.{first_laid, lay_none, lay_past, lay_type, full_means, last_means, outside_means}
-use Rattle.reading.proofs.WalkEnds.{stopped_ended, outside_ended}
+use Rattle.reading.proofs.TurnLaws.{turn_taken, turn_refused, turn_held, turns_end}
+use Rattle.reading.proofs.LayLaws.{first_laid, lay_none, lay_past, lay_type}
+use Rattle.reading.proofs.WalkEnds.{started, outside_walks, stopped_walks, full_walks}
 use Rattle.reading.proofs.event_file.walk_file.Goals as goal
 
-pub returns-then-not-found : goal.returns-then-not-found
-returns-then-not-found c =
-    let o = c.outside.ensures in
-    let live = c.live_rows-found.ensures.0 in
-    let out = failed c.live_rows-found.result.inside c.if-not-found.true live.inside in
-    rw (← c.own-schema.ensures, c.ended.ensures)
-    (record { answers = λ _. outside_means out _ _ _ o.0 o.1 o.2; ended = λ _. outside_ended live _ out o.0 o.1 refl })
+pub returns-in_default : goal.returns-in_default
+returns-in_default c =
+    rw (c.ended.ensures, c.fresh-reading.ensures) (outside_walks _ _ _ c.in_default.ensures.means.0 _ c.outside_number.ensures refl refl)
 
-pub loop-w-init : goal.loop-w-init
-loop-w-init c =
-    let below : (a : ℕ) → FitsIn w32 (get_or c.args.given.accepting a 0) = λ a. search rules in
-    let within = passed c.live_rows-found.result.inside c.if-not-found.false c.live_rows-found.ensures.0.inside in
-    record {
-      fits = rw c.own-schema.ensures (record { accepting_long = search rules; steps_long = search rules; accepting_below = λ a. (below a).fits });
-      tables = record { rows = c.live_rows-found.ensures.1.rows within; heads = c.heads-heads.ensures; tags = refl };
-      laid = first_laid within _ _ 19;
-    }
+pub loop-event-init : goal.loop-event-init
+loop-event-init c =
+    let walker = c.new-walker.ensures in
+    (rw walker.0 refl, sym walker.1, rw (walker.1, c.fresh-reading.ensures) (first_laid c.in-Some.ensures.means.0.0 _ _))
 
-pub turn-w-requires : goal.turn-w-requires
-turn-w-requires c =
-    let i = c.loop-w.invariant in
-    stands_fit i.fits i.laid.sound.reading.within i.tables
+pub turn-requires : goal.turn-requires
+turn-requires c =
+    let found = c.in-Some.ensures in
+    let s = started (search rules) found.sets found.means.0 found.means.1 c.heads-heads.ensures refl in
+    stands_fit s.fits c.loop-event.invariant.2.sound.reading.within s.tables
 
-pub bounds-types-depth : goal.bounds-types-depth
-bounds-types-depth c =
-    let i = c.loop-w.invariant in
-    let turned = turn_sound i.fits i.tables i.laid.sound c.loop-w-test.true c.turn-w.ensures in
-    omega (arith, turned.sound.reading.within.reading.depth)
-
-pub loop-w-smaller-then-count-out : goal.loop-w-smaller-then-count-out
-loop-w-smaller-then-count-out c = turn_less _ _ _ c.loop-w-test.true c.turn-w.ensures
-
-pub loop-w-preserved-then-count-out : goal.loop-w-preserved-then-count-out
-loop-w-preserved-then-count-out c =
-    let i = c.loop-w.invariant in
-    let turned = turn_sound i.fits i.tables i.laid.sound c.loop-w-test.true c.turn-w.ensures in
-    record { fits = i.fits; tables = i.tables; laid = lay_type i.laid turned c.if-depth-w.true c.if-count-out.true }
+pub returns-in-Err : goal.returns-in-Err
+returns-in-Err c =
+    let found = c.in-Some.ensures in
+    let s = started (search rules) found.sets found.means.0 found.means.1 c.heads-heads.ensures refl in
+    let i = c.loop-event.invariant in
+    let here = c.in-Some-step.ensures.2 in
+    let passes = turn_refused s.fits s.tables i.2.sound i.0 here c.turn.ensures _ (ap answer_of c.in-Err.is) in
+    rw c.ended-in-Err.ensures
+    (stopped_walks s i.2 _ _ passes (turn_held s.fits s.tables i.2.sound i.0 here c.turn.ensures) _ c.number.ensures i.1 refl)
 
 pub returns-then-bounded : goal.returns-then-bounded
 returns-then-bounded c =
-    let i = c.loop-w.invariant in
-    let turned = turn_sound i.fits i.tables i.laid.sound c.loop-w-test.true c.turn-w.ensures in
-    let e = c.no_room.ensures in
-    rw (← c.own-schema.ensures, c.ended-then-bounded.ensures)
-    (record {
-      answers = λ b. full_means i.laid turned c.if-depth-w.true b c.if-count-out.false _ e.0 e.1 e.2;
-      ended = λ b. absurd (true≢false (sym c.if-bounded.true ∙ b));
-    })
+    let found = c.in-Some.ensures in
+    let s = started (search rules) found.sets found.means.0 found.means.1 c.heads-heads.ensures refl in
+    let i = c.loop-event.invariant in
+    let e = c.in-Some-step.ensures in
+    let turned = turn_taken s.fits s.tables i.2.sound i.0 e.2 c.turn.ensures (typed c.in-Ok-Some.a.0) (rw (c.in-Ok-Some.is, c.in-Ok-Some.field-0-is) refl) tt e.3 in
+    rw c.ended-then-bounded.ensures
+    (full_walks s i.2 turned c.if-bounded.true c.if-count-out.false _ _ _ c.number-then-bounded.ensures i.1 refl)
 
-pub loop-w-smaller-else-bounded : goal.loop-w-smaller-else-bounded
-loop-w-smaller-else-bounded c = turn_less _ _ _ c.loop-w-test.true c.turn-w.ensures
+pub loop-event-preserved-then-count-out : goal.loop-event-preserved-then-count-out
+loop-event-preserved-then-count-out c =
+    let found = c.in-Some.ensures in
+    let s = started (search rules) found.sets found.means.0 found.means.1 c.heads-heads.ensures refl in
+    let i = c.loop-event.invariant in
+    let e = c.in-Some-step.ensures in
+    let turned = turn_taken s.fits s.tables i.2.sound i.0 e.2 c.turn.ensures (typed c.in-Ok-Some.a.0) (rw (c.in-Ok-Some.is, c.in-Ok-Some.field-0-is) refl) tt e.3 in
+    (rw e.1 i.0, refl, lay_type i.2 turned c.if-count-out.true)
 
-pub loop-w-preserved-else-bounded : goal.loop-w-preserved-else-bounded
-loop-w-preserved-else-bounded c =
-    let i = c.loop-w.invariant in
-    let turned = turn_sound i.fits i.tables i.laid.sound c.loop-w-test.true c.turn-w.ensures in
-    record { fits = i.fits; tables = i.tables; laid = lay_past i.laid turned c.if-bounded.false }
+pub loop-event-preserved-else-bounded : goal.loop-event-preserved-else-bounded
+loop-event-preserved-else-bounded c =
+    let found = c.in-Some.ensures in
+    let s = started (search rules) found.sets found.means.0 found.means.1 c.heads-heads.ensures refl in
+    let i = c.loop-event.invariant in
+    let e = c.in-Some-step.ensures in
+    let turned = turn_taken s.fits s.tables i.2.sound i.0 e.2 c.turn.ensures (typed c.in-Ok-Some.a.0) (rw (c.in-Ok-Some.is, c.in-Ok-Some.field-0-is) refl) tt e.3 in
+    (rw e.1 i.0, refl, lay_past i.2 turned c.if-bounded.false)
 
-pub loop-w-smaller : goal.loop-w-smaller
-loop-w-smaller c = turn_less _ _ _ c.loop-w-test.true c.turn-w.ensures
-
-pub loop-w-preserved : goal.loop-w-preserved
-loop-w-preserved c =
-    let i = c.loop-w.invariant in
-    let turned = turn_sound i.fits i.tables i.laid.sound c.loop-w-test.true c.turn-w.ensures in
-    record { fits = i.fits; tables = i.tables; laid = lay_none i.laid turned c.if-depth-w.false }
+pub loop-event-preserved : goal.loop-event-preserved
+loop-event-preserved c =
+    let found = c.in-Some.ensures in
+    let s = started (search rules) found.sets found.means.0 found.means.1 c.heads-heads.ensures refl in
+    let i = c.loop-event.invariant in
+    let e = c.in-Some-step.ensures in
+    let turned = turn_taken s.fits s.tables i.2.sound i.0 e.2 c.turn.ensures taken (rw (c.in-Ok-None.is, c.in-Ok-None.field-0-is) refl) tt e.3 in
+    (rw e.1 i.0, refl, lay_none i.2 turned)
 
 pub returns : goal.returns
 returns c =
-    let live = c.live_rows-found.ensures.0 in
-    let within = passed c.live_rows-found.result.inside c.if-not-found.false live.inside in
-    let i = c.loop-w.invariant in
-    rw (← c.own-schema.ensures, c.ended-2.ensures)
-    (record {
-      answers = λ b. last_means i.laid b c.loop-w-test.false _ refl refl refl;
-      ended = λ _. stopped_ended live _ within c.heads-heads.ensures i.laid.sound c.loop-w-test.false refl refl;
-    })
+    let found = c.in-Some.ensures in
+    let s = started (search rules) found.sets found.means.0 found.means.1 c.heads-heads.ensures refl in
+    let i = c.loop-event.invariant in
+    let none = c.in_default-step.ensures.2 ∙ ap (λ (f : List ℕ). event_at f c.loop-event.walker.at) i.0 in
+    let (v, number, place, passes) = turns_end i.2.sound none in
+    let at = ap (end_number c.loop-event.reading.finished (length c.args.events.now)) i.1 in
+    rw c.ended-2.ensures
+    (stopped_walks s i.2 v _ passes i.2.sound.reading _ (c.end_number-number.ensures ∙ at ∙ number) (i.1 ∙ place) refl)

@@ -1,20 +1,20 @@
--- `reading::own_steps::coming_span` meets its contract. The loop's invariant: the steps from i on, over what came so far, give what all of them give.
-use mathlib.Core.Path.{◌≡◌, ap, ◌∙◌}
-use Prim.Native.Nat.{◌+◌, ◌-◌}
-use native.Mathlib.Omega.{arith}
-use Rattle.reading.specs.Coming.{coming_of}
-use Rattle.reading.proofs.ComingLaws.{joins_most, joins_turn, joins_done}
+-- The moves of the steps that are left, over what came so far, give what all of them give.
+use mathlib.Core.Path.{sym, ap, ◌∙◌}
+use Rattle.reading.specs.Coming.{coming_by, coming_of}
+use Rattle.reading.proofs.ComingLaws.{joins_most, moves_gathered, joins_first, joins_none_left}
 use Rattle.reading.proofs.own_steps.coming_span.Invariants.{moves}
 use Rattle.reading.proofs.own_steps.coming_span.Goals as goal
 
-pub loop-i-preserved : goal.loop-i-preserved
-loop-i-preserved c =
+pub loop-step-preserved : goal.loop-step-preserved
+loop-step-preserved c =
     let a = c.args in
-    (omega arith, joins_most _ _ _ c.join_step.ensures c.loop-i.invariant.1, joins_turn (moves a.from.now a.by.now a.to.now a.tag.now a.ways.now a.asked) _ _ _ _ _ c.loop-i-test.true c.join_step.ensures c.loop-i.invariant.2)
+    let i = c.loop-step.invariant in
+    (joins_most _ _ _ c.join_step.ensures i.0, joins_first (moves a.schema.now.tag a.ways.now a.asked) _ c.in-Some.ensures.steps c.join_step.ensures i.1)
 
 pub returns : goal.returns
 returns c =
-    let a = c.args in
-    let e : a.span.start + a.span.n - a.span.start ≡ a.span.n = omega arith in
-    c.coming_of.ensures
-    ∙ ap coming_of (joins_done (moves a.from.now a.by.now a.to.now a.tag.now a.ways.now a.asked) _ _ _ _ c.loop-i-test.false (rw e at c.loop-i.invariant.2))
+    let v = c.args.schema.now in
+    let f = moves v.tag c.args.ways.now c.args.asked in
+    let s = c.args.span in
+    c.coming_of.ensures ∙ ap coming_of (joins_none_left f _ c.in-None.ensures.steps.0 c.loop-step.invariant.1)
+    ∙ ap coming_by (sym (moves_gathered f v.from v.by v.to s.start s.n))

@@ -1,21 +1,18 @@
--- `reading::stop::openings_span` meets its contract. The loop's invariant: the tags of the steps before i are marked.
-use native.Mathlib.Numerals.{add-one}
-use native.Mathlib.Omega.{arith}
-use Rattle.sdtd.specs.Tree.{plain, nil}
-use Rattle.reading.specs.Asking.{taken_at}
-use Rattle.reading.proofs.AskingOpens.{where_none, where_next}
+-- The tags of the steps passed are marked.
+use Rattle.reading.proofs.AskingOpens.{yet_none, yet_next, yet_all}
 use Rattle.reading.proofs.stop.openings_span.Goals as goal
 
-pub loop-i-init : goal.loop-i-init
-loop-i-init c = (omega arith, omega arith, omega arith, where_none _ _, where_none _ _)
+pub loop-step-init : goal.loop-step-init
+loop-step-init c = rw (c.into_iter-step-iterator.ensures.into_iter_gives, c.steps_in-step-items.ensures) (yet_none _ _, yet_none _ _)
 
-pub loop-i-preserved : goal.loop-i-preserved
-loop-i-preserved c =
-    let a = c.args in
-    let steps = taken_at a.from.now a.by.now a.to.now a.tag.now a.ways.now a.among in (
-      omega arith,
-      omega arith,
-      omega arith,
-      rw add-one (where_next (steps plain) _ c.loop-i.i c.loop-i.invariant.1 c.loop-i.invariant.3 c.mark_step.ensures.0),
-      rw add-one (where_next (steps nil) _ c.loop-i.i c.loop-i.invariant.1 c.loop-i.invariant.4 c.mark_step.ensures.1),
-    )
+pub loop-step-preserved : goal.loop-step-preserved
+loop-step-preserved c =
+    let i = c.loop-step.invariant in
+    let left = c.in-Some.ensures.steps in
+    (yet_next _ _ left i.0 c.mark_step.ensures.0, yet_next _ _ left i.1 c.mark_step.ensures.1)
+
+pub returns : goal.returns
+returns c =
+    let i = c.loop-step.invariant in
+    let left = c.in-None.ensures.steps.0 in
+    (yet_all _ _ left i.0, yet_all _ _ left i.1)

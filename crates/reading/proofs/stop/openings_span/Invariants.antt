@@ -1,14 +1,14 @@
--- `reading::stop::openings_span` meets its contract. The loop's invariant: the tags of the steps before i are marked.
-use Prim.Native.Nat.{◌-◌, ◌≤◌}
-use Rattle.sdtd.specs.Limits.{most_steps}
+-- The tags of the steps passed are marked.
 use Rattle.sdtd.specs.Tree.{plain, nil}
-use Rattle.reading.specs.Asking.{MarksWhere, taken_at}
+use Rattle.schema.specs.Steps.{left}
+use Rattle.schema.specs.Value.{steps_of}
+use Rattle.reading.specs.Asking.{taken_by}
+use Rattle.reading.proofs.AskingOpens.{MarksYet}
 use Rattle.reading.proofs.stop.openings_span.Given as goal
 
-abbrev pub invariant-loop-i : goal.invariant-loop-i
-invariant-loop-i l =
-    (l.end ≤ most_steps) × (l.initial.i ≤ l.i) × (l.i ≤ l.end) × MarksWhere (taken_at l.from l.by l.to l.tag l.ways l.among plain) l.initial.i l.i l.opens
-    × MarksWhere (taken_at l.from l.by l.to l.tag l.ways l.among nil) l.initial.i l.i l.opens_nil
-
-abbrev pub decreases-loop-i : goal.decreases-loop-i
-decreases-loop-i l = l.end - l.i
+abbrev pub invariant-loop-step : goal.invariant-loop-step
+invariant-loop-step l =
+    MarksYet (taken_by l.schema l.ways l.among plain) (steps_of l.schema.from l.schema.by l.schema.to l.fn.span.start l.fn.span.n)
+    (left l.step-iterator) l.found.opens
+    × MarksYet (taken_by l.schema l.ways l.among nil) (steps_of l.schema.from l.schema.by l.schema.to l.fn.span.start l.fn.span.n)
+    (left l.step-iterator) l.found.opens_nil

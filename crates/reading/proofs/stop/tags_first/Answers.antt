@@ -1,7 +1,6 @@
--- `reading::stop::tags_first` meets its contract. The loop's invariant: the tags below g are told, and no other yet.
-use native.Mathlib.Omega.{arith}
+-- Before the loop no tag is told.
 use Rattle.reading.proofs.Asking.{told_none}
 use Rattle.reading.proofs.stop.tags_first.Goals as goal
 
 pub loop-g-init : goal.loop-g-init
-loop-g-init c = (omega arith, c.requires, told_none _)
+loop-g-init c = told_none _
