@@ -154,7 +154,7 @@ is_end Repeat = false
 is_end End = true
 
 -- The expression's commands from the place i on, after what is read so far; `fuel` is more than the bytes left (so its first clause is never
--- reached).
+-- reached). What stands beside in `rest` is never reached either: a command that is none of an expression's fails a question.
 unfoldable pub content_from : ℕ → List ℕ → ℕ → SoFar → Content
 content_from zero file i r = broken 2 i
 content_from (suc fuel) file i r =

@@ -76,6 +76,14 @@ abbrev pub ending : Bool → Option Command → ℕ
 ending inside None = 2
 ending inside (Some c) = on_expression (part_ending inside) 3 c
 
+-- what holds of what is parsed, or of the refusal's number and place
+abbrev pub Outcome : {A : Type 0} → (A → Type 0) → (ℕ → ℕ → Type 0) → Result A Refusal → Type 0
+Outcome P Q (Ok x) = P x
+Outcome P Q (Err e) = Q (question_number e.why) e.place
+
+abbrev pub Ends : {A : Type 0} → Bool → Option Command → ℕ → Result A Refusal → Type 0
+Ends inside c at r = Outcome (λ x. ending inside c ≡ 0) (λ n p. (n ≡ ending inside c) × (p ≡ at)) r
+
 -- what is read, by its parts
 abbrev pub level_of : List Expression → List Expression → Level
 level_of ss fs = record { sequences = ss; factors = fs }
@@ -142,11 +150,6 @@ pub record ReadAs (n : ℕ) (e : Expression) (names : List Name) (t t' : Tables)
 -- a 34 that could follow does not
 abbrev pub NoRepeat : List ℕ → Bool → ℕ → Type 0
 NoRepeat file again i = again ≡ true → repeating (command_at file i) ≡ false
-
--- what holds of what is parsed, or of the refusal's number and place
-abbrev pub Outcome : {A : Type 0} → (A → Type 0) → (ℕ → ℕ → Type 0) → Result A Refusal → Type 0
-Outcome P Q (Ok x) = P x
-Outcome P Q (Err e) = Q (question_number e.why) e.place
 
 -- The factor e is read from the place i on, with `depth` brackets open and u uses before.
 pub record Item (file : List ℕ) (i depth u : ℕ) (e : Expression) (names : List Name) (again : Bool) (t t' : Tables) (x : Parsed) : Type 0 where

@@ -10,7 +10,6 @@ use crate::parsed::Parsed;
 use crate::parsers::choice;
 use crate::parts::ends;
 use crate::tables::{STATE_NUMBERS, Tables};
-use command::command_at;
 use schema::StateSet;
 use sdtd::Refusal;
 
@@ -69,8 +68,6 @@ pub fn read_content(file: &[u8], at: usize) -> Result<Automaton, Refusal>
         places: [0; STATE_NUMBERS],
     };
     let read = choice(file, at, 0, 0, &mut tables)?;
-    if let Err(why) = ends(command_at(file, read.at), false) {
-        return Err(why.at(read.at));
-    }
+    ends(file, read.at, false)?;
     Ok(automaton_of(read, tables))
 }

@@ -16,9 +16,7 @@ const BRACKETS: u8 = 16;
 fn closed(file: &[u8], inner: Parsed) -> Result<Parsed, Refusal>
     ensures { BracketSays (command_at file.now inner.at) inner result }
 {
-    if let Err(why) = ends_bracket(file, inner.at) {
-        return Err(why.at(inner.at));
-    }
+    ends_bracket(file, inner.at)?;
     Ok(Parsed {
         at: inner.at + 1,
         ..inner

@@ -1,12 +1,11 @@
 // The commands of an expression, as the parsers ask about them. The parsers look at the bytes themselves: by `command_at` they took up to 2.6
 // times as long.
 ghost use Rattle.std.specs.Prelude.{◌≡◌, true};
-ghost use Rattle.sdtd.specs.Answer.{number_told};
 ghost use Rattle.command.specs.Command.{command_at};
-ghost use Rattle.expression.specs.Parsing.{Opens, dividing, repeating, part_ending, ending};
+ghost use Rattle.expression.specs.Parsing.{Opens, dividing, repeating, Ends};
 
 use command::{Command, Part, command_at};
-use sdtd::{Refused, TypeNo};
+use sdtd::{Refusal, Refused, TypeNo};
 
 // What a factor begins with: a 32 with its type, or a 30.
 #[derive(Clone, Copy)]
@@ -43,35 +42,26 @@ pub(crate) fn repeats(file: &[u8], at: usize) -> bool
     matches!(file.get(at), Some(0x34))
 }
 
-// May a command of an expression stand where a choice ends? The 31 does inside a bracket, the 3F outside; any other gets 21.
-fn part_ends(part: Part, inside: bool) -> Result<(), Refused>
-    ensures { number_told result ≡ part_ending inside part }
+// May the command at a place stand where a choice ends? The 31 does inside a bracket, the 3F outside; any other of an expression gets 21.
+pub(crate) fn ends(file: &[u8], at: usize, inside: bool) -> Result<(), Refusal>
+    ensures { Ends inside (command_at file.now at) at result }
 {
-    match part {
-        Part::CloseBracket if inside => Ok(()),
-        Part::End if !inside => Ok(()),
-        _ => Err(Refused::CannotFollow),
+    match command_at(file, at) {
+        Some(Command::Expression(Part::CloseBracket)) if inside => Ok(()),
+        Some(Command::Expression(Part::End)) if !inside => Ok(()),
+        Some(Command::Expression(_)) => Err(Refused::CannotFollow.at(at)),
+        Some(_) => Err(Refused::OutOfOrder.at(at)),
+        None => Err(Refused::NoCommand.at(at)),
     }
 }
 
-// May a command stand where a choice ends?
-pub(crate) fn ends(command: Option<Command>, inside: bool) -> Result<(), Refused>
-    ensures { number_told result ≡ ending inside command }
-{
-    match command {
-        None => Err(Refused::NoCommand),
-        Some(Command::Expression(part)) => part_ends(part, inside),
-        Some(_) => Err(Refused::OutOfOrder),
-    }
-}
-
-// May the command at a place stand where the choice in a bracket ends? The 31 is asked for first: it mostly stands there.
+// The same in a bracket. The 31 is asked for first: it mostly stands there.
 #[tactic(auto, unfolding(command::specs::Command::command_of, command::specs::Command::added_command))]
-pub(crate) fn ends_bracket(file: &[u8], at: usize) -> Result<(), Refused>
-    ensures { number_told result ≡ ending true (command_at file.now at) }
+pub(crate) fn ends_bracket(file: &[u8], at: usize) -> Result<(), Refusal>
+    ensures { Ends true (command_at file.now at) at result }
 {
     if matches!(file.get(at), Some(0x31)) {
         return Ok(());
     }
-    ends(command_at(file, at), true)
+    ends(file, at, true)
 }

@@ -29,7 +29,7 @@ impl Tables {
         ensures { Linked last first self.old self.new }
     {
         for p in StateSet(last).states() {
-            self.next[p as usize] |= first;
+            self.next[usize::from(p)] |= first;
         }
     }
 
@@ -45,8 +45,8 @@ impl Tables {
             return Err(Refused::TooManyUses.at(at));
         }
         let own = uses + 1;
-        self.types[own as usize] = j.0;
-        self.places[own as usize] = at;
+        self.types[usize::from(own)] = j.0;
+        self.places[usize::from(own)] = at;
         let set = StateSet::NONE.with(own);
         Ok(Parsed {
             at: at + 2,

@@ -51,11 +51,11 @@ loop-p-init c =
 first_below : {ps : List ℕ} (p : ℕ) {qs : List ℕ} → ((q : ℕ) → T (listed q qs) → q < most_states) → qs ≡ p ∷ ps → p < most_states
 first_below {ps} p h e = h p (rw (e, eq-eqb p p refl) tt)
 
-pub bounds-self-p : goal.bounds-self-p
-bounds-self-p c = first_below c.in-Some.p c.loop-p.invariant.0 c.in-Some.ensures.steps
+pub bounds-self-from : goal.bounds-self-from
+bounds-self-from c = rw c.from.ensures (first_below c.in-Some.p c.loop-p.invariant.0 c.in-Some.ensures.steps)
 
-pub bounds-self-p-in-loop-p : goal.bounds-self-p-in-loop-p
-bounds-self-p-in-loop-p c = first_below c.in-Some.p c.loop-p.invariant.0 c.in-Some.ensures.steps
+pub bounds-self-from-in-loop-p : goal.bounds-self-from-in-loop-p
+bounds-self-from-in-loop-p c = rw c.from.ensures (first_below c.in-Some.p c.loop-p.invariant.0 c.in-Some.ensures.steps)
 
 pub loop-p-preserved : goal.loop-p-preserved
 loop-p-preserved c =
@@ -64,7 +64,8 @@ loop-p-preserved c =
     let row = bit_or (get_or l.self.next p 0) c.args.first in
     let left = members c.next.new.self.rest in
     let e : members l.p-iterator.rest ≡ p ∷ left = c.in-Some.ensures.steps in
-    let below : p < most_states = first_below p l.invariant.0 e in (
+    let below : p < most_states = first_below p l.invariant.0 e in
+    rw c.from.ensures (
       λ q t. l.invariant.0 q (rw e (later (eqb q p) (listed q left) t)),
       λ h. set_below l.self.next p row (or_lt most_states _ _ (l.invariant.1 h p) (omega (arith, c.ranges.first))) (l.invariant.1 h),
       λ k q. turn l.self.next left c.args.first p (omega arith) k q ∙ (rw e at l.invariant.2 k q),
