@@ -6,7 +6,7 @@ use Rattle.command.specs.declared.Command.TheVariants.{Tags, TypeBlock, Final, S
 use Rattle.command.specs.declared.Part.{Part}
 use Rattle.command.specs.declared.Part.TheVariants.{OpenBracket, CloseBracket, Use, Or, Repeat, End}
 
--- one of document 01's six
+-- one of the six old commands, with which a file states every type by its states and no type is nillable
 abbrev pub is_old : Command → Bool
 is_old (Tags n) = true
 is_old (TypeBlock g s) = true
@@ -59,7 +59,7 @@ operand file i k = get_or file (i + k) 0
 abbrev whole : List ℕ → ℕ → Command → Option Command
 whole file i c = cond (leb (i + size c) (length file)) (Some c) None
 
--- the command of document 02 that begins with the byte b at the place i: NIL, or one of an expression
+-- the command beyond the six old ones that begins with the byte b at the place i: NIL, or one of an expression
 unfoldable pub added_command : List ℕ → ℕ → ℕ → Option Command
 added_command file i b =
     cond (eqb b 0x15) (whole file i Nil)

@@ -99,7 +99,7 @@ module _ (e : Expression) where
       sorted_of_each ◌<◌ (end_if e) (λ q. sorted_cond ◌<◌ (accepts e q) q)
       (λ k l x y h m n. omega (arith, ((mem-cond (accepts e k) x k).0 m).1, ((mem-cond (accepts e l) y l).0 n).1)) 0 (suc (uses e))
 
--- Document 02: an expression whose types are below the limit becomes its automaton.
+-- An expression whose types are below the limit becomes its automaton.
 pub automaton_of : (tag : ℕ) (nillable : Bool) (e : Expression) → ((j : ℕ) → Memᴰ j (named e) → j < most_types)
     → AutomatonOf e (automaton tag nillable e)
 automaton_of tag nillable e few =

@@ -116,19 +116,16 @@ put_reversed f n (c ∷ cs) t =
 
 -- The automaton of the content.
 module _ (t' : Tables) (x : Parsed) (e : Expression) (names : List Name) (r : ReadAs 1 e names (tables empty empty empty) t' x)
-    (rows : length t'.next ≡ most_states) (firsts : x.first < 2 ^ most_states) (lasts : x.last < 2 ^ most_states) where
+    (rows : length t'.next ≡ most_states) (fit : (k : ℕ) → get_or t'.next k 0 < 2 ^ most_states) (firsts : x.first < 2 ^ most_states) (lasts : x.last < 2 ^ most_states) where
   follows_each : (p q : ℕ) → member q (get_or t'.next p 0) ≡ follow 1 e p q
   follows_each p q = r.follows p q ∙ rw (no_entry most_states p, member_zero q)
-
-  entry_below : (p : ℕ) → get_or t'.next p 0 < 2 ^ most_states
-  entry_below p = r.below (λ k. rw (no_entry most_states k) (omega arith)) p
 
   next_entry : (p : ℕ) → p < most_states → get_or (set t'.next 0 x.first) p 0 ≡ set_of (leads e p) most_states
   next_entry zero l =
       get_or-set_same t'.next 0 x.first 0 (omega (arith, rows)) ∙ same_set x.first (leads e 0) firsts r.firsts
   next_entry (suc p) l =
       get_or-set_other t'.next 0 (suc p) x.first 0 (λ d. omega arith)
-      ∙ same_set (get_or t'.next (suc p) 0) (leads e (suc p)) (entry_below (suc p)) (follows_each (suc p))
+      ∙ same_set (get_or t'.next (suc p) 0) (leads e (suc p)) (fit (suc p)) (follows_each (suc p))
 
   next_whole : set t'.next 0 x.first ≡ map (λ q. set_of (leads e q) most_states) (up_from 0 most_states)
   next_whole =

@@ -47,7 +47,6 @@ read_none u at t =
       empties = refl;
       firsts = member_zero;
       lasts = member_zero;
-      below = λ h. h;
       follows = λ p q. sym (or-false _);
       types_put = refl;
       places_put = refl;
@@ -69,7 +68,6 @@ read_one u j i t l =
       empties = refl;
       firsts = own;
       lasts = own;
-      below = λ h. h;
       follows = λ p q. sym (or-false _);
       types_put = ap (λ (k : ℕ). set t.types k j) z;
       places_put = ap (λ (k : ℕ). set t.places k i) z;
@@ -102,7 +100,6 @@ module _ (n : ℕ) (e f : Expression) (names more : List Name) (t t₁ t₂ : Ta
             ∙ ap₂ (λ (a b : Bool). a || b) (r.firsts q) (ap₂ (λ (a b : Bool). a && b) r.empties (firsts_behind q));
         lasts = λ q. member-beyond y.nullable q y.last x.last
             ∙ ap₂ (λ (a b : Bool). a || b) (lasts_behind q) (ap₂ (λ (a b : Bool). a && b) s.empties (r.lasts q));
-        below = λ h. k.below (s.below (r.below h));
         follows = λ p q. k.each p q
             ∙ ap₂ (λ (a b : Bool). a || b) (follows_both p q) (ap₂ (λ (a b : Bool). a && b) (r.lasts p) (firsts_behind q))
             ∙ or_most (member q (get_or t.next p 0)) (follow n e p q) (follow (n + uses e) f p q) (last n e p && first (n + uses e) f q);
@@ -119,7 +116,6 @@ module _ (n : ℕ) (e f : Expression) (names more : List Name) (t t₁ t₂ : Ta
         empties = ap₂ (λ (a b : Bool). a || b) r.empties s.empties;
         firsts = λ q. member_or q x.first y.first ∙ ap₂ (λ (a b : Bool). a || b) (r.firsts q) (firsts_behind q);
         lasts = λ q. member_or q x.last y.last ∙ ap₂ (λ (a b : Bool). a || b) (r.lasts q) (lasts_behind q);
-        below = λ h. s.below (r.below h);
         follows = λ p q. follows_both p q ∙ or_more (member q (get_or t.next p 0)) (follow n e p q) (follow (n + uses e) f p q);
         types_put = put_more (λ c. c.type) n (suc x.uses) names more _ _ _ behind r.types_put s.types_put;
         places_put = put_more (λ c. c.place) n (suc x.uses) names more _ _ _ behind r.places_put s.places_put;
@@ -135,7 +131,6 @@ module _ (n : ℕ) (e : Expression) (names : List Name) (t t₁ : Tables) (x : P
         empties = r.empties;
         firsts = r.firsts;
         lasts = r.lasts;
-        below = r.below;
         follows = r.follows;
         types_put = r.types_put;
         places_put = r.places_put;
@@ -150,7 +145,6 @@ module _ (n : ℕ) (e : Expression) (names : List Name) (t t₁ : Tables) (x : P
         empties = refl;
         firsts = r.firsts;
         lasts = r.lasts;
-        below = λ h. k.below (r.below h);
         follows = λ p q. k.each p q
             ∙ ap₂ (λ (a b : Bool). a || b) (r.follows p q) (ap₂ (λ (a b : Bool). a && b) (r.lasts p) (r.firsts q))
             ∙ or_more (member q (get_or t.next p 0)) (follow n e p q) (last n e p && first n e q);

@@ -1,4 +1,4 @@
--- What automaton an expression becomes, in document 02's words.
+-- What automaton an expression becomes.
 use Rattle.std.specs.Prelude.{◌≡◌, ◌↔◌, ◌⊎◌, ℕ, zero, suc, ◌+◌, ◌<◌, pred, get_or}
 use mathlib.Core.List.{List, [], ◌∷◌, ◌++◌, Memᴰ}
 use Rattle.sdtd.specs.Lists.{Rising}

@@ -1,4 +1,4 @@
--- Content written as an expression: document 02, Req 02. `Parsing` says what the private steps of the parsers compute; no public promise cites
+-- Content written as an expression. `Parsing` says what the private steps of the parsers compute; no public promise cites
 -- it.
 pub mod Limits
 pub mod Expression

@@ -1,4 +1,4 @@
--- Document 02's numbers for expressions, by name.
+-- The limits of an expression, by name.
 use Rattle.std.specs.Prelude.{ℕ}
 
 -- "22 for more than 31 uses of 32"

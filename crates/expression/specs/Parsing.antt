@@ -1,5 +1,5 @@
 -- What the private steps of the parsers compute. No public promise cites it.
-use Rattle.std.specs.Prelude.{◌≡◌, Bool, true, false, cond, Option, Some, None, Result, Ok, Err, OnOk, ◌&&◌, ◌||◌, List, [], ◌∷◌, ◌++◌, map, ℕ, suc, ◌+◌, ◌^◌, ◌≤◌, ◌<◌, ltb, length, replicate, get_or, set}
+use Rattle.std.specs.Prelude.{◌≡◌, Bool, true, false, cond, Option, Some, None, Result, Ok, Err, OnOk, ◌&&◌, ◌||◌, List, [], ◌∷◌, ◌++◌, map, ℕ, suc, ◌+◌, ◌≤◌, ◌<◌, ltb, length, replicate, get_or, set}
 use Rattle.std.specs.Int.Bits.{bit_or}
 use Rattle.sdtd.specs.Limits.{most_types, most_states}
 use Rattle.sdtd.specs.Answer.{question_number}
@@ -130,7 +130,6 @@ again_by x = parsed (x.at + 1) x.uses true x.first x.last
 
 -- the row of each state of `last` has the states of `first` too; the others are as before
 pub record Linked (last first : ℕ) (t t' : Tables) : Type 0 where
-  pub below : ((k : ℕ) → get_or t.next k 0 < 2 ^ most_states) → (k : ℕ) → get_or t'.next k 0 < 2 ^ most_states
   pub each : (p q : ℕ) → member q (get_or t'.next p 0) ≡ (member q (get_or t.next p 0) || (member p last && member q first))
   pub types : t'.types ≡ t.types
   pub places : t'.places ≡ t.places
@@ -142,7 +141,6 @@ pub record ReadAs (n : ℕ) (e : Expression) (names : List Name) (t t' : Tables)
   pub empties : x.nullable ≡ nullable e
   pub firsts : (q : ℕ) → member q x.first ≡ first n e q
   pub lasts : (q : ℕ) → member q x.last ≡ last n e q
-  pub below : ((k : ℕ) → get_or t.next k 0 < 2 ^ most_states) → (k : ℕ) → get_or t'.next k 0 < 2 ^ most_states
   pub follows : (p q : ℕ) → member q (get_or t'.next p 0) ≡ (member q (get_or t.next p 0) || follow n e p q)
   pub types_put : t'.types ≡ put_back n (map (λ x. x.type) names) t.types
   pub places_put : t'.places ≡ put_back n (map (λ x. x.place) names) t.places

@@ -6,14 +6,13 @@ use Prim.Native.Nat.{ℕ, ◌^◌, ◌<◌}
 use native.Mathlib.Decide.{ℕ_discrete}
 use native.Mathlib.Omega.{arith}
 use Rattle.std.proofs.Common.{rules}
-use lib.Bits.{bit_or, or_lt}
+use lib.Bits.{bit_or}
 use lib.Dec.{T, eqb}
 use borrow.Author.Tests.{eq-eqb, ne_eqb}
 use lib.ListN.{length, get_or, set}
 use lib.Seq.{get_or-set_same, get_or-set_other}
 use Rattle.sdtd.specs.Limits.{most_states}
 use Rattle.schema.specs.States.{member, members}
-use Rattle.schema.proofs.Bits.{set_below}
 use Rattle.expression.proofs.SetLaws.{member_or, listed, listed_member, listed_below}
 use Rattle.expression.proofs.tables.Tables.link.Goals as goal
 
@@ -42,7 +41,6 @@ loop-p-init c =
     let l : c.args.last < 2 ^ most_states = omega (arith, c.ranges.last) in
     rw e (
       λ q t. listed_below q c.args.last l t,
-      λ h. h,
       λ p q. rw (listed_member p c.args.last l),
       refl,
       refl,
@@ -61,16 +59,14 @@ pub loop-p-preserved : goal.loop-p-preserved
 loop-p-preserved c =
     let l = c.loop-p in
     let p = c.in-Some.p in
-    let row = bit_or (get_or l.self.next p 0) c.args.first in
     let left = members c.next.new.self.rest in
     let e : members l.p-iterator.rest ≡ p ∷ left = c.in-Some.ensures.steps in
     let below : p < most_states = first_below p l.invariant.0 e in
     rw c.from.ensures (
       λ q t. l.invariant.0 q (rw e (later (eqb q p) (listed q left) t)),
-      λ h. set_below l.self.next p row (or_lt most_states _ _ (l.invariant.1 h p) (omega (arith, c.ranges.first))) (l.invariant.1 h),
-      λ k q. turn l.self.next left c.args.first p (omega arith) k q ∙ (rw e at l.invariant.2 k q),
+      λ k q. turn l.self.next left c.args.first p (omega arith) k q ∙ (rw e at l.invariant.1 k q),
+      l.invariant.2,
       l.invariant.3,
-      l.invariant.4,
     )
   where
     later : (a b : Bool) → T b → T (a || b)
@@ -81,8 +77,7 @@ pub returns : goal.returns
 returns c =
     let l = c.loop-p in
     record {
-      below = l.invariant.1;
-      each = λ p q. sym (or-false (member q (get_or l.self.next p 0))) ∙ (rw c.in-None.ensures.steps.0 at l.invariant.2 p q);
-      types = l.invariant.3;
-      places = l.invariant.4;
+      each = λ p q. sym (or-false (member q (get_or l.self.next p 0))) ∙ (rw c.in-None.ensures.steps.0 at l.invariant.1 p q);
+      types = l.invariant.2;
+      places = l.invariant.3;
     }

@@ -1,5 +1,5 @@
 -- `link`'s loop: the rows so far, with the links of the states that are left, are the rows before with all links.
-use Rattle.std.proofs.Common.{◌≡◌, ◌<◌, ◌^◌, ℕ}
+use Rattle.std.proofs.Common.{◌≡◌, ◌<◌, ℕ}
 use mathlib.Core.Bool.{◌&&◌, ◌||◌}
 use lib.ListN.{get_or}
 use Rattle.sdtd.specs.Limits.{most_states}
@@ -12,7 +12,6 @@ use Rattle.expression.proofs.tables.Tables.link.Given as goal
 abbrev pub invariant-loop-p : goal.invariant-loop-p
 invariant-loop-p l =
     ((q : ℕ) → T (listed q (states_left l.p-iterator)) → q < most_states)
-    × (((k : ℕ) → get_or l.initial.self.next k 0 < 2 ^ most_states) → (k : ℕ) → get_or l.self.next k 0 < 2 ^ most_states)
     × ((p q : ℕ) → (member q (get_or l.self.next p 0) || (listed p (states_left l.p-iterator) && member q l.first)) ≡ (member q (get_or l.initial.self.next p 0) || (member p l.last && member q l.first)))
     × (l.self.types ≡ l.initial.self.types)
     × (l.self.places ≡ l.initial.self.places)
