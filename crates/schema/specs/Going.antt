@@ -3,7 +3,7 @@ use Rattle.std.specs.Prelude.{List, ℕ, false, get_or, set}
 use Rattle.sdtd.specs.Schema.{Step}
 use Rattle.schema.specs.States.{member}
 use Rattle.schema.specs.Value.{steps_of}
-use Rattle.schema.specs.Spread.{ways_of, ways_by}
+use Rattle.schema.specs.Spread.{spread_all, ways_of, ways_by}
 use Rattle.schema.specs.declared.value.Schema.{Schema}
 use Rattle.schema.specs.declared.spread.Way.{Way}
 use Rattle.schema.specs.declared.spread.Way.TheVariants.{Back, Forth}
@@ -27,3 +27,7 @@ tells_by Forth v ways = λ sets. ways
 abbrev pub told_anew : Way → Schema → ℕ → ℕ → List ℕ → List ℕ
 told_anew Back v a x ways = set ways a (ways_of (member 0 x) (get_or v.nillable a false))
 told_anew Forth v a x ways = ways
+
+-- one round over the types, on the way
+abbrev pub round : Way → Schema → List ℕ → List ℕ → List ℕ
+round way v ways = spread_all v.steps (steps_by way v) (tells_by way v ways) 0 0 v.types

@@ -1,6 +1,7 @@
 // Schemas as values: the state set, the schema, its limits, its trimming, and its steps in rows.
 #![tactic(auto)]
 
+mod accepted;
 mod entry;
 mod limits;
 mod reach;

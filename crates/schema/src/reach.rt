@@ -1,24 +1,25 @@
 // Types that the roots' words reach: a queue of them, each gone over once.
-ghost use Rattle.std.specs.Prelude.{◌≡◌, ◌%◌, ◌≤◌};
-ghost use Rattle.sdtd.specs.Limits.{most_types, most_steps};
-ghost use Rattle.schema.specs.Value.{steps_of, offset};
+ghost use Rattle.std.specs.Prelude.{◌≡◌, ◌%◌};
+ghost use Rattle.sdtd.specs.Limits.{most_types};
+ghost use Rattle.schema.specs.Value.{steps_of};
 ghost use Rattle.schema.specs.Steps.{meant, left};
 ghost use Rattle.schema.specs.Spread.{steps_in, reaches, join_type, join_marked, reach_steps, ReachedFrom};
 
+use crate::accepted::Accepted;
 use crate::span::Span;
 use crate::state_set::StateSet;
 use crate::steps::{Step, Steps};
 use crate::tables::LiveStates;
-use crate::value::{Schema, TYPES};
+use crate::value::TYPES;
 use crate::ways::bears_in;
 use sdtd::TypeNo;
 
 // Where the steps of a type stand; nothing for a number that is no type.
-fn span_of(schema: &Schema, a: u8) -> Span
-    requires { (schema.now.types ≤ most_types) × (offset schema.now.steps schema.now.types ≤ most_steps) }
-    ensures { steps_of schema.now.from schema.now.by schema.now.to result.start result.n
-        ≡ steps_in schema.now.steps (steps_of schema.now.from schema.now.by schema.now.to) schema.now.types a }
+fn span_of(accepted: &Accepted<'_>, a: u8) -> Span
+    ensures { steps_of accepted.now.schema.now.from accepted.now.schema.now.by accepted.now.schema.now.to result.start result.n
+        ≡ steps_in accepted.now.schema.now.steps (steps_of accepted.now.schema.now.from accepted.now.schema.now.by accepted.now.schema.now.to) accepted.now.schema.now.types a }
 {
+    let schema = accepted.schema;
     if schema.types <= a {
         return Span { start: 0, n: 0 };
     }
@@ -91,14 +92,13 @@ impl Queued {
 
 // The reached types: the marked ones, and those that the steps of each type of the queue reach, from the states that children reach.
 pub(crate) fn reached_types(
-    schema: &Schema,
+    accepted: &Accepted<'_>,
     found: &LiveStates,
     forward: &[u32; TYPES],
     roots: &[bool; TYPES],
 ) -> [bool; TYPES]
-    requires { (schema.now.types ≤ most_types) × (offset schema.now.steps schema.now.types ≤ most_steps) }
     ensures { ReachedFrom
-        (steps_in schema.now.steps (steps_of schema.now.from schema.now.by schema.now.to) schema.now.types)
+        (steps_in accepted.now.schema.now.steps (steps_of accepted.now.schema.now.from accepted.now.schema.now.by accepted.now.schema.now.to) accepted.now.schema.now.types)
         found.now.ways forward.now found.now.live roots.now result }
 {
     let mut types = Queued {
@@ -112,7 +112,7 @@ pub(crate) fn reached_types(
     while at < types.count {
         let b = types.queue[at];
         let a = usize::from(b);
-        let steps = schema.steps_in(span_of(schema, b));
+        let steps = accepted.schema.steps_in(span_of(accepted, b));
         types.join_reached(steps, &found.ways, forward[a], found.live[a]);
         at += 1;
     }

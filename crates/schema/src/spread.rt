@@ -1,11 +1,11 @@
 // Sets of states that grow along steps: each type's settles over its own steps, round after round over the types.
-ghost use Rattle.std.specs.Prelude.{◌≡◌, ◌↔◌, ◌≤◌, ◌<◌, T, fold, length};
-ghost use Rattle.sdtd.specs.Limits.{most_types, most_steps};
-ghost use Rattle.schema.specs.Value.{offset};
+ghost use Rattle.std.specs.Prelude.{◌≡◌, ◌↔◌, ◌<◌, T, fold, length};
+ghost use Rattle.sdtd.specs.Limits.{most_types};
 ghost use Rattle.schema.specs.Steps.{meant, left};
-ghost use Rattle.schema.specs.Spread.{spread_step, settle_set, spread_all, Settled};
-ghost use Rattle.schema.specs.Going.{along, steps_by, tells_by, told_anew};
+ghost use Rattle.schema.specs.Spread.{spread_step, settle_set, Settled};
+ghost use Rattle.schema.specs.Going.{along, steps_by, tells_by, told_anew, round};
 
+use crate::accepted::Accepted;
 use crate::span::Span;
 use crate::state_set::StateSet;
 use crate::steps::{Step, Steps};
@@ -85,14 +85,12 @@ fn tell_anew(schema: &Schema, way: Way, a: usize, set: u32, ways: &mut [u8; TYPE
 }
 
 // One round: the set of each type settles over the type's own steps.
-fn spread_all(schema: &Schema, way: Way, ways: &mut [u8; TYPES], sets: &mut [u32; TYPES])
-    requires { (schema.now.types ≤ most_types) × (offset schema.now.steps schema.now.types ≤ most_steps)
-        × (ways.old ≡ tells_by way schema.now ways.old sets.old) × (length sets.old ≡ most_types) }
-    ensures { (sets.new
-        ≡ spread_all schema.now.steps (steps_by way schema.now) (tells_by way schema.now ways.old) 0 0
-        schema.now.types sets.old)
-        × (ways.new ≡ tells_by way schema.now ways.old sets.new) }
+fn spread_all(accepted: &Accepted<'_>, way: Way, ways: &mut [u8; TYPES], sets: &mut [u32; TYPES])
+    requires { (ways.old ≡ tells_by way accepted.now.schema.now ways.old sets.old) × (length sets.old ≡ most_types) }
+    ensures { (sets.new ≡ round way accepted.now.schema.now ways.old sets.old)
+        × (ways.new ≡ tells_by way accepted.now.schema.now ways.old sets.new) }
 {
+    let schema = accepted.schema;
     let mut start = 0;
     for a in 0..usize::from(schema.types) {
         let n = usize::from(schema.steps[a]);
@@ -113,23 +111,20 @@ fn same_sets(x: &[u32; TYPES], y: &[u32; TYPES]) -> bool
 
 // The sets, round after round until one changes nothing; `ways` tells in which ways types bear a tree, by the sets.
 pub(crate) fn settle(
-    schema: &Schema,
+    accepted: &Accepted<'_>,
     way: Way,
     ways: &mut [u8; TYPES],
     first: [u32; TYPES],
 ) -> [u32; TYPES]
-    requires { (schema.now.types ≤ most_types) × (offset schema.now.steps schema.now.types ≤ most_steps)
-        × (ways.old ≡ tells_by way schema.now ways.old first) }
-    ensures { Settled
-        (λ t. spread_all schema.now.steps (steps_by way schema.now) (tells_by way schema.now ways.old) 0 0 schema.now.types t)
-        first result
-        × (ways.new ≡ tells_by way schema.now ways.old result) }
+    requires { ways.old ≡ tells_by way accepted.now.schema.now ways.old first }
+    ensures { Settled (round way accepted.now.schema.now ways.old) first result
+        × (ways.new ≡ tells_by way accepted.now.schema.now ways.old result) }
 {
     let mut sets = first;
     // A loop until a round changes nothing has no range to go over.
     loop {
         let before = sets;
-        spread_all(schema, way, ways, &mut sets);
+        spread_all(accepted, way, ways, &mut sets);
         if same_sets(&sets, &before) {
             return sets;
         }

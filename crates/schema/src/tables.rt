@@ -1,11 +1,12 @@
 // Trimming: which states are live, in which ways types bear a tree, which types are reached; and the rows, in tables that the caller lends.
 ghost use Rattle.std.specs.Prelude.{◌≡◌, ◌≤◌, T};
-ghost use Rattle.sdtd.specs.Limits.{most_types, most_steps};
+ghost use Rattle.sdtd.specs.Limits.{most_types};
 ghost use Rattle.sdtd.specs.Schema.{WithinLimits};
-ghost use Rattle.schema.specs.Value.{steps_of, offset, meaning, SetsFit};
+ghost use Rattle.schema.specs.Value.{steps_of, meaning, SetsFit};
 ghost use Rattle.schema.specs.Spread.{spread_all, Settled, first_sets, start_states, ways_by};
 ghost use Rattle.schema.specs.Trimming.{LiveExactly, WaysExactly, Exact, TrimMeans, LiveMeans, RowsLent};
 
+use crate::accepted::Accepted;
 use crate::limits::within;
 use crate::reach::reached_types;
 use crate::roots::root_types;
@@ -38,29 +39,28 @@ fn first_sets(sets: &[u32; TYPES], types: usize) -> [u32; TYPES]
 
 // The live states: those before a step by a tree-bearing type to a live state are added, round by round, to the accepting ones; and in which ways the
 // types bear a tree.
-fn live_states(schema: &Schema) -> LiveStates
-    requires { (schema.now.types ≤ most_types) × (offset schema.now.steps schema.now.types ≤ most_steps) }
+fn live_states(accepted: &Accepted<'_>) -> LiveStates
     ensures { Settled
-        (λ t. spread_all schema.now.steps (steps_of schema.now.from schema.now.by schema.now.to)
-        (ways_by schema.now.nillable schema.now.types) 0 0 schema.now.types t)
-        (first_sets schema.now.types schema.now.accepting) result.live
-        × (result.ways ≡ ways_by schema.now.nillable schema.now.types result.live) }
+        (λ t. spread_all accepted.now.schema.now.steps (steps_of accepted.now.schema.now.from accepted.now.schema.now.by accepted.now.schema.now.to)
+        (ways_by accepted.now.schema.now.nillable accepted.now.schema.now.types) 0 0 accepted.now.schema.now.types t)
+        (first_sets accepted.now.schema.now.types accepted.now.schema.now.accepting) result.live
+        × (result.ways ≡ ways_by accepted.now.schema.now.nillable accepted.now.schema.now.types result.live) }
 {
+    let schema = accepted.schema;
     let types = usize::from(schema.types);
     let first = first_sets(&schema.accepting, types);
     let mut ways = ways_by(&schema.nillable, types, &first);
-    let live = settle(schema, Way::Back, &mut ways, first);
+    let live = settle(accepted, Way::Back, &mut ways, first);
     LiveStates { live, ways }
 }
 
 // The states that tree-bearing types lead to from the start states, round by round.
-fn forward_states(schema: &Schema, mut ways: [u8; TYPES]) -> [u32; TYPES]
-    requires { (schema.now.types ≤ most_types) × (offset schema.now.steps schema.now.types ≤ most_steps) }
+fn forward_states(accepted: &Accepted<'_>, mut ways: [u8; TYPES]) -> [u32; TYPES]
     ensures { Settled
-        (λ t. spread_all schema.now.steps (steps_of schema.now.to schema.now.by schema.now.from) (λ _. ways) 0 0 schema.now.types t)
+        (λ t. spread_all accepted.now.schema.now.steps (steps_of accepted.now.schema.now.to accepted.now.schema.now.by accepted.now.schema.now.from) (λ _. ways) 0 0 accepted.now.schema.now.types t)
         start_states result }
 {
-    settle(schema, Way::Forth, &mut ways, [StateSet::START.0; TYPES])
+    settle(accepted, Way::Forth, &mut ways, [StateSet::START.0; TYPES])
 }
 
 // The live states of each type as a set, and by which kinds of opening it bears a tree.
@@ -78,7 +78,8 @@ pub fn live(schema: &Schema) -> Option<LiveStates>
     if !within(schema) {
         return None;
     }
-    Some(live_states(schema))
+    let accepted = Accepted { schema };
+    Some(live_states(&accepted))
 }
 
 // The same of a schema inside the limits; its steps that count go in rows to the lent tables: their entries, and where each row begins. For
@@ -103,9 +104,10 @@ pub(crate) fn trim_inside(schema: &Schema, found: &LiveStates) -> Trimming
         × WaysExactly (meaning schema.now) found.now.ways }
     ensures { T result.inside × Exact (meaning schema.now) result }
 {
-    let forward = forward_states(schema, found.ways);
+    let accepted = Accepted { schema };
+    let forward = forward_states(&accepted, found.ways);
     let roots = root_types(schema.root, schema.roots);
-    let reached = reached_types(schema, found, &forward, &roots);
+    let reached = reached_types(&accepted, found, &forward, &roots);
     Trimming {
         inside: true,
         live: found.live,

@@ -8,7 +8,7 @@ use Rattle.schema.proofs.reach.reached_types.Given as goal
 
 abbrev pub invariant-loop-at : goal.invariant-loop-at
 invariant-loop-at l =
-    Visited (steps_in l.schema.steps (steps_of l.schema.from l.schema.by l.schema.to) l.schema.types) l.found.ways l.forward l.found.live l.roots l.at l.types
+    Visited (steps_in l.accepted.schema.now.steps (steps_of l.accepted.schema.now.from l.accepted.schema.now.by l.accepted.schema.now.to) l.accepted.schema.now.types) l.found.ways l.forward l.found.live l.roots l.at l.types
 
 abbrev pub decreases-loop-at : goal.decreases-loop-at
 decreases-loop-at l = most_types - l.at

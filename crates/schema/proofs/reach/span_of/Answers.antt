@@ -9,8 +9,8 @@ use Rattle.schema.proofs.reach.span_of.Goals as goal
 
 pub returns : goal.returns
 returns c =
-    let v = c.args.schema.now in
+    let v = c.args.accepted.now.schema.now in
     let fit = steps_fit v.steps c.args.a v.types (omega arith) in
-    let start : c.span.result.start ≡ offset v.steps c.args.a = omega (arith, c.requires.1, fit, c.span.ensures.start) in
-    let n : c.span.result.n ≡ get_or v.steps c.args.a 0 = omega (arith, c.requires.1, fit, start, c.span.ensures.n) in
+    let start : c.span.result.start ≡ offset v.steps c.args.a = omega (arith, c.args.accepted.now.steps, fit, c.span.ensures.start) in
+    let n : c.span.result.n ≡ get_or v.steps c.args.a 0 = omega (arith, c.args.accepted.now.steps, fit, start, c.span.ensures.n) in
     rw (lt-ltb c.args.a v.types (omega arith), start, n)

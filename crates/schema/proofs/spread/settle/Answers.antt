@@ -15,25 +15,25 @@ use Rattle.schema.proofs.spread.settle.Goals as goal
 pub loop-way-init : goal.loop-way-init
 loop-way-init c =
     let below : (a : ℕ) → Fits w32 (get_or c.args.first a 0) = λ a. search rules in
-    (turn_first _ _ _ (record { long = search rules; below = λ a. (below a).fits }), c.requires.2)
+    (turn_first _ _ _ (record { long = search rules; below = λ a. (below a).fits }), c.requires)
 
 pub spread_all-requires : goal.spread_all-requires
 spread_all-requires c =
     let i = c.loop-way.invariant in
-    let told = told_same c.args.way c.args.schema.now _ _ _ i.1 in
-    (c.requires.0, c.requires.1, i.1 ∙ sym (ap (λ (f : List ℕ → List ℕ). f c.loop-way.sets) told), i.0.good.long)
+    let told = told_same c.args.way c.args.accepted.now.schema.now _ _ _ i.1 in
+    (i.1 ∙ sym (ap (λ (f : List ℕ → List ℕ). f c.loop-way.sets) told), i.0.good.long)
 
 pub returns-then-same_sets : goal.returns-then-same_sets
 returns-then-same_sets c =
     let i = c.loop-way.invariant in
-    let told = told_same c.args.way c.args.schema.now _ _ _ i.1 in
+    let told = told_same c.args.way c.args.accepted.now.schema.now _ _ _ i.1 in
     let round = rw told at c.spread_all.ensures in
     (turn_last _ _ _ _ _ round.0 i.0 (c.same_sets.ensures.0 (rw c.if-same_sets.true tt)), round.1)
 
 pub loop-way-smaller : goal.loop-way-smaller
 loop-way-smaller c =
     let i = c.loop-way.invariant in
-    let told = told_same c.args.way c.args.schema.now _ _ _ i.1 in
+    let told = told_same c.args.way c.args.accepted.now.schema.now _ _ _ i.1 in
     let round = rw told at c.spread_all.ensures in
     turn_less _ _ absent_in (λ t h d. growth_falls t _ h (all_growth _ _ _ _ 0 0 t h) d)
     _ _ _ round.0 i.0 (λ q. rw c.if-same_sets.false at (c.same_sets.ensures.1 q))
@@ -41,6 +41,6 @@ loop-way-smaller c =
 pub loop-way-preserved : goal.loop-way-preserved
 loop-way-preserved c =
     let i = c.loop-way.invariant in
-    let told = told_same c.args.way c.args.schema.now _ _ _ i.1 in
+    let told = told_same c.args.way c.args.accepted.now.schema.now _ _ _ i.1 in
     let round = rw told at c.spread_all.ensures in
     (turn_again _ _ (λ t h. (all_growth _ _ _ _ 0 0 t h).sets) _ _ _ round.0 i.0, round.1)

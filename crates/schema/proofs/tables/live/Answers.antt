@@ -9,10 +9,10 @@ use Rattle.schema.proofs.tables.live.Goals as goal
 pub returns-then-not-within-clause-means : goal.returns-then-not-within-clause-means
 returns-then-not-within-clause-means c = failed c.within.result c.if-not-within.true-raw c.within.ensures.limits
 
-pub live_states-requires : goal.live_states-requires
-live_states-requires c =
+pub invariant_of-accepted : goal.invariant_of-accepted
+invariant_of-accepted c =
     let room = within_room _ (passed c.within.result c.if-not-within.false-raw c.within.ensures.limits) in
-    (room.types, room.steps)
+    record { types = room.types; steps = room.steps }
 
 pub returns-clause-means : goal.returns-clause-means
 returns-clause-means c =

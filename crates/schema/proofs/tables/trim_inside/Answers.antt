@@ -5,15 +5,10 @@ use Rattle.schema.proofs.FirstTables.{Fits}
 use Rattle.schema.proofs.TablesExact.{tables_exact}
 use Rattle.schema.proofs.tables.trim_inside.Goals as goal
 
-pub forward_states-forward-requires : goal.forward_states-forward-requires
-forward_states-forward-requires c =
+pub invariant_of-accepted : goal.invariant_of-accepted
+invariant_of-accepted c =
     let room = within_room c.args.schema.now c.requires.1 in
-    (room.types, room.steps)
-
-pub reached_types-reached-requires : goal.reached_types-reached-requires
-reached_types-reached-requires c =
-    let room = within_room c.args.schema.now c.requires.1 in
-    (room.types, room.steps)
+    record { types = room.types; steps = room.steps }
 
 pub returns : goal.returns
 returns c =
