@@ -26,9 +26,8 @@ use Rattle.sdtd.proofs.Within.{within_tags}
 use Rattle.sdtd.proofs.Calls.{Sound, call_meets, nothing_taken, sound_next}
 use Rattle.events.specs.Events.{events_of}
 use Rattle.reading.specs.declared.value.Reading.{Reading}
-use Rattle.reading.specs.declared.calls.Next.{Next}
+use Rattle.reading.specs.Questions.{Next}
 use Rattle.reading.specs.Questions.{CallMeans}
-use Rattle.reading.specs.Calls.{answer_of}
 use Rattle.reading.specs.Passage.{Passage, Passes}
 use Rattle.reading.specs.EventMeaning.{by_documents}
 use Rattle.reading.specs.Stop.{WouldTake}
@@ -95,14 +94,14 @@ module _ {S : Schema} (accepted : Accepted S) where
       [] 0 (events_of file) q f (nothing_taken S)
 
   module _ {e : List Event} {r : Reading} (k : After S e r) (s : Sound S e) where
-    call_judged : (x : Event) (n : Next) → CallMeans S r x n → CallMeets S e x (answer_of n.answer)
-    call_judged x n m = meets e s x (answer_of n.answer) (call_answered accepted k x m).right
+    call_judged : (x : Event) (n : Next) → CallMeans S r x n → CallMeets S e x n.answer
+    call_judged x n m = meets e s x n.answer (call_answered accepted k x m).right
 
     -- A call would be taken exactly when P holds, if an answer that meets demand 3 is taken exactly then.
     would_take : (x : Event) {P : Type 0} → ((a : Answer) → CallMeets S e x a → IsTaken a ↔ P) → WouldTake S r x ↔ P
     would_take x exactly = (
-      λ w. (exactly (answer_of w.0.answer) (call_judged x w.0 w.1)).0 w.2,
-      λ h. let (n, m) = call_exists S r x in (n, m, (exactly (answer_of n.answer) (call_judged x n m)).1 h),
+      λ w. (exactly w.0.answer (call_judged x w.0 w.1)).0 w.2,
+      λ h. let (n, m) = call_exists S r x in (n, m, (exactly n.answer (call_judged x n m)).1 h),
     )
 
     -- "the events taken before it, with this one, begin a valid document of any depth and do not open a 65th level"

@@ -14,10 +14,8 @@ use Rattle.sdtd.specs.Document.{Event, opening, closing, finish}
 use Rattle.sdtd.specs.Answer.{refused, typed, taken, fine}
 use Rattle.events.specs.Events.{Events, events_of}
 use Rattle.reading.specs.declared.value.Reading.{Reading}
-use Rattle.reading.specs.declared.calls.EventAnswer.TheVariants.{Refused}
-use Rattle.reading.specs.declared.calls.Next.{Next}
 use Rattle.reading.specs.Levels.{fresh}
-use Rattle.reading.specs.Questions.{given, refuses, opened, closed, after_finish, RootOver, CallMeans}
+use Rattle.reading.specs.Questions.{Next, gives, refuses, opened, closed, after_finish, RootOver, CallMeans}
 use Rattle.reading.specs.Passage.{Passage, Passes}
 use Rattle.reading.specs.EventFile.{by_calls, number_of}
 use Rattle.reading.proofs.OneAnswer.{typed_refused, taken_refused}
@@ -27,9 +25,9 @@ use Rattle.reading.proofs.Keeping.{Sized, opened_sized, closed_sized}
 -- What holds of each refusal, with 10 to 18, and of what each call that is taken gets holds of every answer.
 module _ (r : Reading) (Q : Event → Next → Type 0) (refuse : (x : Event) (i : ℕ) → 10 ≤ i → i ≤ 18 → Q x (refuses r i))
     (opens : (κ : Kind) (g j kept : ℕ) → r.finished ≡ false → r.depth < most_levels
-    → Q (opening κ g) (given (typed j) (opened κ r j kept)))
-    (closes : (g : ℕ) → r.finished ≡ false → Q (closing g) (given taken (closed r)))
-    (ends : RootOver r → Q finish (given taken (after_finish r))) where
+    → Q (opening κ g) (gives (typed j) (opened κ r j kept)))
+    (closes : (g : ℕ) → r.finished ≡ false → Q (closing g) (gives taken (closed r)))
+    (ends : RootOver r → Q finish (gives taken (after_finish r))) where
   asked : {x : Event} {i : ℕ} {P R : Type 0} {n : Next} → 10 ≤ i → i ≤ 18 → (P → R → Q x n) → ((¬ P) × (n ≡ refuses r i)) ⊎ (P × R) → Q x n
   asked {x} {i} l m next (inl o) = subst (Q x) (sym o.1) (refuse x i l m)
   asked l m next (inr o) = next o.0 o.1
@@ -58,9 +56,9 @@ module _ (r : Reading) (Q : Event → Next → Type 0) (refuse : (x : Event) (i 
       (λ w. asked (omega arith) (omega arith) (λ u. asked (omega arith) (omega arith) (λ d o. subst (Q finish) (sym o) (ends d))))
 
 -- no call is refused with 0
-never_0 : (S : Schema) (r : Reading) (x : Event) (after : Reading) → ¬ CallMeans S r x (given (refused 0) after)
+never_0 : (S : Schema) (r : Reading) (x : Event) (after : Reading) → ¬ CallMeans S r x (gives (refused 0) after)
 never_0 S r x after m =
-    each_answer r (λ y n. n.answer ≢ Refused 0) (λ y i l h e. let same : i ≡ 0 = cc in omega arith) (λ κ g j kept u l. typed_refused refl)
+    each_answer r (λ y n. n.answer ≢ refused 0) (λ y i l h e. let same : i ≡ 0 = cc in omega arith) (λ κ g j kept u l. typed_refused refl)
     (λ g u. taken_refused refl) (λ o. taken_refused refl) S x m refl
 
 -- a walk has the number 0 only if all is fine, after a finish
@@ -69,7 +67,7 @@ pub zero_finished : (S : Schema) (r : Reading) (at : ℕ) (es : Events) (p : Pas
 zero_finished S =
     passes_each (by_calls S) (λ r at es p. number_of p.verdict ≡ 0 → (p.verdict ≡ fine) × (p.last.finished ≡ true))
     (λ r at h z. (refl, h)) (λ r at n z. absurd (omega arith)) (λ r at z. absurd (omega arith))
-    (λ r at x es n after m z. absurd (never_0 S r x after (subst (λ (i : ℕ). CallMeans S r x (given (refused i) after)) z m)))
+    (λ r at x es n after m z. absurd (never_0 S r x after (subst (λ (i : ℕ). CallMeans S r x (gives (refused i) after)) z m)))
     (λ r at x es a after q t m later. later)
 
 -- What holds after each call that is taken, where it held before it, holds where the walk stops if it held where it began.

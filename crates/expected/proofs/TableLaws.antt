@@ -1,10 +1,12 @@
 -- The tables of an answer: how many of their entries count, and that the others are 0.
 use mathlib.Core.Path.{◌≡◌, refl, sym, ap, subst, ◌∙◌}
 use mathlib.Core.Bool.{false}
-use mathlib.Core.List.{List, map}
+use mathlib.Core.List.{List, ◌++◌, map}
 use Prim.Native.Nat.{ℕ, ◌-◌, ◌≤◌}
-use lib.ListN.{length, length-map, drop, replicate}
+use lib.ListN.{length, length-map, take, drop, replicate}
 use lib.Seq.{drop_at}
+use native.Mathlib.Omega.{arith}
+use Rattle.std.proofs.lemmas.List.{drop-replicate, length-take-le}
 use Rattle.sdtd.specs.Limits.{most_levels}
 use Rattle.sdtd.specs.Schema.{Schema}
 use Rattle.expected.specs.declared.Expected.{Expected}
@@ -40,3 +42,9 @@ expected_tables {file = file} m =
     subst Tables (sym m.laid_out)
     (laid_tables (length file) m.answered (subst (λ (e : Expected). e.depth ≤ most_levels) m.laid_out (depth_most m))
     (subst (λ (e : Expected). e.count ≤ most_openings) m.laid_out (count_most m)))
+
+-- the first entries over a table of zeros
+pub kept_padded : (types : List ℕ) (depth : ℕ) → length types ≡ most_levels → depth ≤ most_levels
+    → take depth types ++ drop depth (replicate most_levels 0) ≡ padded most_levels 0 (take depth types)
+kept_padded types depth long inside =
+    rw (drop-replicate {X = ℕ} depth most_levels 0, length-take-le depth types (omega (arith, long))) refl

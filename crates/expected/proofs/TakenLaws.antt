@@ -12,7 +12,6 @@ use Rattle.sdtd.specs.Calls.{IsTaken}
 use Rattle.sdtd.proofs.Tests.{Decision, decision, means_iff}
 use Rattle.reading.specs.declared.value.Reading.{Reading}
 use Rattle.reading.specs.Levels.{inner_type}
-use Rattle.reading.specs.Calls.{answer_of}
 use Rattle.reading.specs.Stop.{WouldTake}
 use Rattle.reading.proofs.AnswerExists.{call_exists}
 use Rattle.reading.proofs.Asking.{taken_told, would_hold}
@@ -37,7 +36,7 @@ module _ (S : Schema) (r : Reading) where
   would_decided x =
       let (n, m) = call_exists S r x in
       let told = taken_told S r x n m in
-      decision (means_iff (taken_decided (answer_of n.answer)).1 (told.1, told.0))
+      decision (means_iff (taken_decided n.answer).1 (told.1, told.0))
 
   -- only a closing of the innermost element's tag
   pub closes_decided : Decision ((g : ℕ) × WouldTake S r (closing g))

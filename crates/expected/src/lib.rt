@@ -53,17 +53,13 @@ pub fn nothing_expected(number: u8, place: usize) -> Expected
 }
 
 // What would have been taken where the event file is refused.
-pub fn expect_next(schema: Schema, events: &[u8]) -> Expected
-    ensures { ExpectedMeans (meaning schema) events.now result }
+pub fn expect_next(schema: &Schema, events: &[u8]) -> Expected
+    ensures { ExpectedMeans (meaning schema.now) events.now result }
 {
     let stop = pass_events(schema, events);
-    let reading = stop.reading;
-    let depth = reading.depth as usize;
-    let open = reading.types;
-    let types = open_types(open, depth);
-    let opens = stop.opens;
-    let opens_nil = stop.opens_nil;
-    let list = list_openings(opens, opens_nil);
+    let depth = usize::from(stop.reading.depth);
+    let types = open_types(&stop.reading.types, depth);
+    let list = list_openings(&stop.opens, &stop.opens_nil);
     let tags = list.tags;
     let nils = list.nils;
     Expected {

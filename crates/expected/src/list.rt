@@ -1,9 +1,11 @@
 // The openings that would have been taken, listed: rising by tag, plain before nil.
 ghost use Rattle.std.specs.Prelude.{◌≡◌, ◌<◌};
-ghost use Rattle.expected.specs.Expected.{most_openings};
+ghost use Rattle.events.specs.Events.{kind_of};
+ghost use Rattle.expected.specs.Expected.{as_nil, most_openings};
 ghost use Rattle.expected.specs.Listing.{listed_by, flags_in, listing, with_opening};
 
 use crate::OPENINGS;
+use events::Kind;
 use reading::TAG_NUMBERS;
 use sdtd::Tag;
 
@@ -15,41 +17,34 @@ pub(crate) struct Listing {
     pub nils: [bool; OPENINGS],
 }
 
-// The list with the opening at its end, if the flag says so.
-fn with_opening(list: Listing, on: bool, tag: Tag, nil: bool) -> Listing
-    requires { list.count < most_openings }
-    ensures { result ≡ with_opening list on tag.0 nil }
-{
-    if !on {
-        return list;
-    }
-    let at = list.count;
-    let mut tags = list.tags;
-    let mut nils = list.nils;
-    tags[at] = tag.0;
-    nils[at] = nil;
-    Listing {
-        count: at + 1,
-        tags,
-        nils,
+impl Listing {
+    // Puts the opening at the list's end, if the flag says so.
+    fn add(&mut self, on: bool, kind: Kind, tag: Tag)
+        requires { self.old.count < most_openings }
+        ensures { self.new ≡ with_opening self.old on tag.0 (as_nil (kind_of kind)) }
+    {
+        if !on {
+            return;
+        }
+        self.tags[self.count] = tag.0;
+        self.nils[self.count] = matches!(kind, Kind::Nil);
+        self.count += 1;
     }
 }
 
 // The openings that the flags allow: an entry for each tag, opened plainly and as nil.
-pub(crate) fn list_openings(opens: [bool; TAG_NUMBERS], nils: [bool; TAG_NUMBERS]) -> Listing
-    ensures { result ≡ listing (listed_by (flags_in opens nils)) }
+pub(crate) fn list_openings(opens: &[bool; TAG_NUMBERS], nils: &[bool; TAG_NUMBERS]) -> Listing
+    ensures { result ≡ listing (listed_by (flags_in opens.now nils.now)) }
 {
     let mut list = Listing {
         count: 0,
         tags: [0; OPENINGS],
         nils: [false; OPENINGS],
     };
-    let mut g = 0;
-    while g < TAG_NUMBERS {
+    for g in 0..TAG_NUMBERS {
         let tag = Tag(g as u8);
-        let plain = with_opening(list, opens[g], tag, false);
-        list = with_opening(plain, nils[g], tag, true);
-        g += 1;
+        list.add(opens[g], Kind::Plain, tag);
+        list.add(nils[g], Kind::Nil, tag);
     }
     list
 }

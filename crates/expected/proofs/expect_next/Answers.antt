@@ -98,8 +98,9 @@ module _ {S : Schema} {file : List ℕ} {s : Stop} (m : StopMeans S file s) wher
       }
 
 pub open_types-types-requires : goal.open_types-types-requires
-open_types-types-requires c = (sized c.pass_events-stop.ensures).depth
+open_types-types-requires c = rw c.from-depth.ensures (sized c.pass_events-stop.ensures).depth
 
 pub returns : goal.returns
 returns c =
-    answer_means c.pass_events-stop.ensures c.open_types-types.ensures c.list_openings-list.ensures
+    rw c.from-depth.ensures
+    (answer_means c.pass_events-stop.ensures (rw c.from-depth.ensures at c.open_types-types.ensures) c.list_openings-list.ensures)

@@ -1,4 +1,4 @@
--- `expected::list::list_openings` meets its contract. The loop's invariant: the openings of the tags below g are listed.
+-- The openings of the tags below g are listed.
 use mathlib.Core.Path.{◌≡◌, refl, ◌∙◌}
 use mathlib.Core.Bool.{Bool, true, false}
 use mathlib.Core.List.{List, ◌++◌}
@@ -38,17 +38,15 @@ module _ (on : Kind → ℕ → Bool) (g : ℕ) (l : g < most_tags) {list : List
 
 pub loop-g-init : goal.loop-g-init
 unfolding of_each
-loop-g-init c = (omega arith, refl)
+loop-g-init c = refl
+
+pub add-requires : goal.add-requires
+add-requires c = room (flags_in c.args.opens.now c.args.nils.now) c.loop-g.g (omega arith) c.loop-g.invariant
+
+pub add-requires-in-loop-g : goal.add-requires-in-loop-g
+add-requires-in-loop-g c =
+    more_room (flags_in c.args.opens.now c.args.nils.now) c.loop-g.g (omega arith) c.loop-g.invariant c.add.ensures
 
 pub loop-g-preserved : goal.loop-g-preserved
 loop-g-preserved c =
-    let listed = after_nil (flags_in c.args.opens c.args.nils) c.loop-g.g (omega arith) c.loop-g.invariant.1 c.with_opening-plain.ensures in
-    (omega arith, listed c.with_opening-list.ensures)
-
-pub with_opening-plain-requires : goal.with_opening-plain-requires
-with_opening-plain-requires c =
-    room (flags_in c.args.opens c.args.nils) c.loop-g.g (omega arith) c.loop-g.invariant.1
-
-pub with_opening-list-requires : goal.with_opening-list-requires
-with_opening-list-requires c =
-    more_room (flags_in c.args.opens c.args.nils) c.loop-g.g (omega arith) c.loop-g.invariant.1 c.with_opening-plain.ensures
+    after_nil (flags_in c.args.opens.now c.args.nils.now) c.loop-g.g (omega arith) c.loop-g.invariant c.add.ensures c.add-in-loop-g.ensures
