@@ -93,6 +93,8 @@ abbrev pub bytes_left : Walker → Count
 bytes_left w = at_most (length w.events.now - w.at)
 
 -- A walker gives the event at its place, the first of those left, and then stands past it, over the same bytes.
-abbrev pub Steps : Walker → Option FileEvent → Walker → Type 0
-Steps w r v =
-    YieldsFirst events_left w r v × (v.events ≡ w.events) × (r ≡ event_at w.events.now w.at) × (v.at ≡ place_after w.events.now w.at)
+pub record Steps (w : Walker) (r : Option FileEvent) (v : Walker) : Type 0 where
+  pub yields : YieldsFirst events_left w r v
+  pub events : v.events ≡ w.events
+  pub event : r ≡ event_at w.events.now w.at
+  pub place : v.at ≡ place_after w.events.now w.at

@@ -11,6 +11,7 @@ pub enum Kind {
     Nil,
 }
 
+// An event with its tag; a finish has none.
 #[derive(Clone, Copy)]
 pub enum Event {
     Open(Kind, Tag),

@@ -5,16 +5,16 @@ use Rattle.events.proofs.outline.next_opening.Goals as goal
 pub returns-in-Open : goal.returns-in-Open
 returns-in-Open c =
     let e = c.in-Some.ensures in
-    rw c.saturating_add.ensures (passed c.args.events.now c.loop-event.level c.loop-event.walker.at c.loop-event.invariant e.2 e.3 c.in-Open.is)
+    rw c.saturating_add.ensures (passed c.args.events.now c.loop-event.level c.loop-event.walker.at c.loop-event.invariant e.event e.place c.in-Open.is)
 
 pub loop-event-preserved-in-Close : goal.loop-event-preserved-in-Close
 loop-event-preserved-in-Close c =
     let i = c.loop-event.invariant in
     let e = c.in-Some.ensures in
-    (rw e.1 i.0, rw c.saturating_sub-level.ensures (passed c.args.events.now c.loop-event.level c.loop-event.walker.at i e.2 e.3 c.in-Close.is))
+    (rw e.events i.0, rw c.saturating_sub-level.ensures (passed c.args.events.now c.loop-event.level c.loop-event.walker.at i e.event e.place c.in-Close.is))
 
 pub loop-event-preserved : goal.loop-event-preserved
 loop-event-preserved c =
     let i = c.loop-event.invariant in
     let e = c.in-Some.ensures in
-    (rw e.1 i.0, passed c.args.events.now c.loop-event.level c.loop-event.walker.at i e.2 e.3 c.in-Finish.is)
+    (rw e.events i.0, passed c.args.events.now c.loop-event.level c.loop-event.walker.at i e.event e.place c.in-Finish.is)

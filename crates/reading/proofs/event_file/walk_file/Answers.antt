@@ -33,7 +33,7 @@ returns-in-Err c =
     let found = c.in-Some.ensures in
     let s = started (search rules) found.sets found.means.0 found.means.1 c.heads-heads.ensures refl in
     let i = c.loop-event.invariant in
-    let here = c.in-Some-step.ensures.2 in
+    let here = c.in-Some-step.ensures.event in
     let passes = turn_refused s.fits s.tables i.2.sound i.0 here c.turn.ensures _ (ap answer_of c.in-Err.is) in
     rw c.ended-in-Err.ensures
     (stopped_walks s i.2 _ _ passes (turn_held s.fits s.tables i.2.sound i.0 here c.turn.ensures) _ c.number.ensures i.1 refl)
@@ -44,7 +44,7 @@ returns-then-bounded c =
     let s = started (search rules) found.sets found.means.0 found.means.1 c.heads-heads.ensures refl in
     let i = c.loop-event.invariant in
     let e = c.in-Some-step.ensures in
-    let turned = turn_taken s.fits s.tables i.2.sound i.0 e.2 c.turn.ensures (typed c.in-Ok-Some.a.0) (rw (c.in-Ok-Some.is, c.in-Ok-Some.field-0-is) refl) tt e.3 in
+    let turned = turn_taken s.fits s.tables i.2.sound i.0 e.event c.turn.ensures (typed c.in-Ok-Some.a.0) (rw (c.in-Ok-Some.is, c.in-Ok-Some.field-0-is) refl) tt e.place in
     rw c.ended-then-bounded.ensures
     (full_walks s i.2 turned c.if-bounded.true c.if-count-out.false _ _ _ c.number-then-bounded.ensures i.1 refl)
 
@@ -54,8 +54,8 @@ loop-event-preserved-then-count-out c =
     let s = started (search rules) found.sets found.means.0 found.means.1 c.heads-heads.ensures refl in
     let i = c.loop-event.invariant in
     let e = c.in-Some-step.ensures in
-    let turned = turn_taken s.fits s.tables i.2.sound i.0 e.2 c.turn.ensures (typed c.in-Ok-Some.a.0) (rw (c.in-Ok-Some.is, c.in-Ok-Some.field-0-is) refl) tt e.3 in
-    (rw e.1 i.0, refl, lay_type i.2 turned c.if-count-out.true)
+    let turned = turn_taken s.fits s.tables i.2.sound i.0 e.event c.turn.ensures (typed c.in-Ok-Some.a.0) (rw (c.in-Ok-Some.is, c.in-Ok-Some.field-0-is) refl) tt e.place in
+    (rw e.events i.0, refl, lay_type i.2 turned c.if-count-out.true)
 
 pub loop-event-preserved-else-bounded : goal.loop-event-preserved-else-bounded
 loop-event-preserved-else-bounded c =
@@ -63,8 +63,8 @@ loop-event-preserved-else-bounded c =
     let s = started (search rules) found.sets found.means.0 found.means.1 c.heads-heads.ensures refl in
     let i = c.loop-event.invariant in
     let e = c.in-Some-step.ensures in
-    let turned = turn_taken s.fits s.tables i.2.sound i.0 e.2 c.turn.ensures (typed c.in-Ok-Some.a.0) (rw (c.in-Ok-Some.is, c.in-Ok-Some.field-0-is) refl) tt e.3 in
-    (rw e.1 i.0, refl, lay_past i.2 turned c.if-bounded.false)
+    let turned = turn_taken s.fits s.tables i.2.sound i.0 e.event c.turn.ensures (typed c.in-Ok-Some.a.0) (rw (c.in-Ok-Some.is, c.in-Ok-Some.field-0-is) refl) tt e.place in
+    (rw e.events i.0, refl, lay_past i.2 turned c.if-bounded.false)
 
 pub loop-event-preserved : goal.loop-event-preserved
 loop-event-preserved c =
@@ -72,15 +72,15 @@ loop-event-preserved c =
     let s = started (search rules) found.sets found.means.0 found.means.1 c.heads-heads.ensures refl in
     let i = c.loop-event.invariant in
     let e = c.in-Some-step.ensures in
-    let turned = turn_taken s.fits s.tables i.2.sound i.0 e.2 c.turn.ensures taken (rw (c.in-Ok-None.is, c.in-Ok-None.field-0-is) refl) tt e.3 in
-    (rw e.1 i.0, refl, lay_none i.2 turned)
+    let turned = turn_taken s.fits s.tables i.2.sound i.0 e.event c.turn.ensures taken (rw (c.in-Ok-None.is, c.in-Ok-None.field-0-is) refl) tt e.place in
+    (rw e.events i.0, refl, lay_none i.2 turned)
 
 pub returns : goal.returns
 returns c =
     let found = c.in-Some.ensures in
     let s = started (search rules) found.sets found.means.0 found.means.1 c.heads-heads.ensures refl in
     let i = c.loop-event.invariant in
-    let none = c.in_default-step.ensures.2 ∙ ap (λ (f : List ℕ). event_at f c.loop-event.walker.at) i.0 in
+    let none = c.in_default-step.ensures.event ∙ ap (λ (f : List ℕ). event_at f c.loop-event.walker.at) i.0 in
     let (v, number, place, passes) = turns_end i.2.sound none in
     let at = ap (end_number c.loop-event.reading.finished (length c.args.events.now)) i.1 in
     rw c.ended-2.ensures
