@@ -116,37 +116,37 @@ put_reversed f n (c ∷ cs) t =
 
 -- The automaton of the content.
 module _ (t' : Tables) (x : Parsed) (e : Expression) (names : List Name) (r : ReadAs 1 e names (tables empty empty empty) t' x)
-    (rows : length t'.next ≡ most_states) (fit : (k : ℕ) → get_or t'.next k 0 < 2 ^ most_states) (firsts : x.first < 2 ^ most_states) (lasts : x.last < 2 ^ most_states) where
+    (rows : length t'.next ≡ most_states) (fit : (k : ℕ) → get_or t'.next k 0 < 2 ^ most_states) (firsts : x.first.0 < 2 ^ most_states) (lasts : x.last.0 < 2 ^ most_states) where
   follows_each : (p q : ℕ) → member q (get_or t'.next p 0) ≡ follow 1 e p q
   follows_each p q = r.follows p q ∙ rw (no_entry most_states p, member_zero q)
 
-  next_entry : (p : ℕ) → p < most_states → get_or (set t'.next 0 x.first) p 0 ≡ set_of (leads e p) most_states
+  next_entry : (p : ℕ) → p < most_states → get_or (set t'.next 0 x.first.0) p 0 ≡ set_of (leads e p) most_states
   next_entry zero l =
-      get_or-set_same t'.next 0 x.first 0 (omega (arith, rows)) ∙ same_set x.first (leads e 0) firsts r.firsts
+      get_or-set_same t'.next 0 x.first.0 0 (omega (arith, rows)) ∙ same_set x.first.0 (leads e 0) firsts r.firsts
   next_entry (suc p) l =
-      get_or-set_other t'.next 0 (suc p) x.first 0 (λ d. omega arith)
+      get_or-set_other t'.next 0 (suc p) x.first.0 0 (λ d. omega arith)
       ∙ same_set (get_or t'.next (suc p) 0) (leads e (suc p)) (fit (suc p)) (follows_each (suc p))
 
-  next_whole : set t'.next 0 x.first ≡ map (λ q. set_of (leads e q) most_states) (up_from 0 most_states)
+  next_whole : set t'.next 0 x.first.0 ≡ map (λ q. set_of (leads e q) most_states) (up_from 0 most_states)
   next_whole =
-      let long : length (set t'.next 0 x.first) ≡ most_states = length-set t'.next 0 x.first ∙ rows in
+      let long : length (set t'.next 0 x.first.0) ≡ most_states = length-set t'.next 0 x.first.0 ∙ rows in
       let entry : ℕ → ℕ = λ q. set_of (leads e q) most_states in
       ext_get_or 0 _ _ (long ∙ sym (length-map (up_from 0 most_states) entry ∙ up_count 0 most_states))
       (λ p l. next_entry p (rw long at l) ∙ sym (map_up entry 0 0 most_states p (rw long at l) ∙ ap entry (zero-add p)))
 
-  accepting_whole : cond x.nullable (insert 0 x.last) x.last ≡ set_of (accepts e) most_states
+  accepting_whole : cond x.nullable (insert 0 x.last.0) x.last.0 ≡ set_of (accepts e) most_states
   accepting_whole =
-      same_set (cond x.nullable (insert 0 x.last) x.last) (accepts e)
-      (cond_both (λ (y : ℕ). y < 2 ^ most_states) x.nullable _ _ (insert_below 0 x.last lasts) lasts)
-      (accepts_each e x.last lasts r.lasts x.nullable r.empties)
+      same_set (cond x.nullable (insert 0 x.last.0) x.last.0) (accepts e)
+      (cond_both (λ (y : ℕ). y < 2 ^ most_states) x.nullable _ _ (insert_below 0 x.last.0 lasts) lasts)
+      (accepts_each e x.last.0 lasts r.lasts x.nullable r.empties)
 
-  pub automaton_whole : (a : StateSet) → a.0 ≡ cond x.nullable (insert 0 x.last) x.last
+  pub automaton_whole : (a : StateSet) → a.0 ≡ cond x.nullable (insert 0 x.last.0) x.last.0
       → ◌≡◌ {A = Automaton}
       (record {
         end = x.at;
         uses = x.uses;
         accepting = a;
-        next = set t'.next 0 x.first;
+        next = set t'.next 0 x.first.0;
         types = t'.types;
         places = t'.places;
       })

@@ -133,7 +133,7 @@ module _ (file : List ℕ) (i depth u : ℕ) (c : command_at file i ≡ Some (An
 
 -- A factor, and its 34.
 module _ (file : List ℕ) (i depth u : ℕ) (t t' t'' : Tables) (x : Parsed) (k : ItemTaken file i depth u t t' x) where
-  repeat_item : repeating (command_at file x.at) ≡ true → Linked x.last x.first t' t'' → FactorTaken file i depth u t t'' (again_by x)
+  repeat_item : repeating (command_at file x.at) ≡ true → Linked x.last.0 x.first.0 t' t'' → FactorTaken file i depth u t t'' (again_by x)
   unfolding after_part
   repeat_item e l =
       record {
@@ -175,7 +175,7 @@ module _ (file : List ℕ) (i depth u : ℕ) (t : Tables) where
     counted before lb = omega (arith, length-append k.names before, k.read.named, k.read.count)
 
     pub sequence_turn : (t₂ t₃ : Tables) (y : Parsed) → FactorTaken file x.at depth x.uses t₁ t₂ y
-        → Linked x.last y.first t₂ t₃ → SequenceTaken file i depth u t t₃ (then_by x y)
+        → Linked x.last.0 y.first.0 t₂ t₃ → SequenceTaken file i depth u t t₃ (then_by x y)
     sequence_turn t₂ t₃ y f l =
         record {
           items = f.item ∷ k.items;
@@ -201,8 +201,8 @@ either_none : (i u : ℕ) (y : Parsed) → or_by (parsed i u false 0 0) y ≡ y
 either_none i u y k =
     record {
       at = y.at;
-      first = or_zero_l y.first k;
-      last = or_zero_l y.last k;
+      first = record { 0 = or_zero_l y.first.0 k };
+      last = record { 0 = or_zero_l y.last.0 k };
       uses = y.uses;
       nullable = y.nullable;
     }

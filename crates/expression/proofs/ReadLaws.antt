@@ -78,10 +78,10 @@ module _ (n : ℕ) (e f : Expression) (names more : List Name) (t t₁ t₂ : Ta
   behind : suc x.uses ≡ n + length names
   behind = omega (arith, r.count, r.named)
 
-  firsts_behind : (q : ℕ) → member q y.first ≡ first (n + uses e) f q
+  firsts_behind : (q : ℕ) → member q y.first.0 ≡ first (n + uses e) f q
   firsts_behind q = s.firsts q ∙ ap (λ (k : ℕ). first k f q) r.count
 
-  lasts_behind : (q : ℕ) → member q y.last ≡ last (n + uses e) f q
+  lasts_behind : (q : ℕ) → member q y.last.0 ≡ last (n + uses e) f q
   lasts_behind q = s.lasts q ∙ ap (λ (k : ℕ). last k f q) r.count
 
   follows_both : (p q : ℕ) → member q (get_or t₂.next p 0)
@@ -90,15 +90,15 @@ module _ (n : ℕ) (e f : Expression) (names more : List Name) (t t₁ t₂ : Ta
       s.follows p q ∙ ap₂ (λ (a b : Bool). a || b) (r.follows p q) (ap (λ (k : ℕ). follow k f p q) r.count)
 
   -- one factor more, linked with what comes before
-  pub read_then : (t₃ : Tables) → Linked x.last y.first t₂ t₃ → ReadAs n (sequence e f) (more ++ names) t t₃ (then_by x y)
+  pub read_then : (t₃ : Tables) → Linked x.last.0 y.first.0 t₂ t₃ → ReadAs n (sequence e f) (more ++ names) t t₃ (then_by x y)
   read_then t₃ k =
       record {
         count = omega (arith, r.count, s.count);
         named = omega (arith, length-append more names, r.named, s.named);
         empties = ap₂ (λ (a b : Bool). a && b) r.empties s.empties;
-        firsts = λ q. member-beyond x.nullable q x.first y.first
+        firsts = λ q. member-beyond x.nullable q x.first.0 y.first.0
             ∙ ap₂ (λ (a b : Bool). a || b) (r.firsts q) (ap₂ (λ (a b : Bool). a && b) r.empties (firsts_behind q));
-        lasts = λ q. member-beyond y.nullable q y.last x.last
+        lasts = λ q. member-beyond y.nullable q y.last.0 x.last.0
             ∙ ap₂ (λ (a b : Bool). a || b) (lasts_behind q) (ap₂ (λ (a b : Bool). a && b) s.empties (r.lasts q));
         follows = λ p q. k.each p q
             ∙ ap₂ (λ (a b : Bool). a || b) (follows_both p q) (ap₂ (λ (a b : Bool). a && b) (r.lasts p) (firsts_behind q))
@@ -114,8 +114,8 @@ module _ (n : ℕ) (e f : Expression) (names more : List Name) (t t₁ t₂ : Ta
         count = omega (arith, r.count, s.count);
         named = omega (arith, length-append more names, r.named, s.named);
         empties = ap₂ (λ (a b : Bool). a || b) r.empties s.empties;
-        firsts = λ q. member_or q x.first y.first ∙ ap₂ (λ (a b : Bool). a || b) (r.firsts q) (firsts_behind q);
-        lasts = λ q. member_or q x.last y.last ∙ ap₂ (λ (a b : Bool). a || b) (r.lasts q) (lasts_behind q);
+        firsts = λ q. member_or q x.first.0 y.first.0 ∙ ap₂ (λ (a b : Bool). a || b) (r.firsts q) (firsts_behind q);
+        lasts = λ q. member_or q x.last.0 y.last.0 ∙ ap₂ (λ (a b : Bool). a || b) (r.lasts q) (lasts_behind q);
         follows = λ p q. follows_both p q ∙ or_more (member q (get_or t.next p 0)) (follow n e p q) (follow (n + uses e) f p q);
         types_put = put_more (λ c. c.type) n (suc x.uses) names more _ _ _ behind r.types_put s.types_put;
         places_put = put_more (λ c. c.place) n (suc x.uses) names more _ _ _ behind r.places_put s.places_put;
@@ -137,7 +137,7 @@ module _ (n : ℕ) (e : Expression) (names : List Name) (t t₁ : Tables) (x : P
       }
 
   -- a repeat, linked with itself
-  pub read_again : (t₂ : Tables) → Linked x.last x.first t₁ t₂ → ReadAs n (repeat e) names t t₂ (again_by x)
+  pub read_again : (t₂ : Tables) → Linked x.last.0 x.first.0 t₁ t₂ → ReadAs n (repeat e) names t t₂ (again_by x)
   read_again t₂ k =
       record {
         count = r.count;

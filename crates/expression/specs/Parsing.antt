@@ -108,7 +108,8 @@ abbrev pub no_tables : Tables
 no_tables = let zeros : List ℕ = replicate most_states 0 in tables zeros zeros zeros
 
 abbrev pub parsed : ℕ → ℕ → Bool → ℕ → ℕ → Parsed
-parsed at uses nullable first last = record { at = at; first = first; last = last; uses = uses; nullable = nullable }
+parsed at uses nullable first last =
+    record { at = at; first = record { 0 = first }; last = record { 0 = last }; uses = uses; nullable = nullable }
 
 -- the set, where the part is nullable with what lies beyond it
 abbrev pub beyond : Bool → ℕ → ℕ → ℕ
@@ -117,16 +118,16 @@ beyond b x y = cond b (bit_or x y) x
 -- one more factor; one of two; the choice in a bracket; a factor with its 34
 abbrev pub then_by : Parsed → Parsed → Parsed
 then_by x y =
-    parsed y.at y.uses (x.nullable && y.nullable) (beyond x.nullable x.first y.first) (beyond y.nullable y.last x.last)
+    parsed y.at y.uses (x.nullable && y.nullable) (beyond x.nullable x.first.0 y.first.0) (beyond y.nullable y.last.0 x.last.0)
 
 abbrev pub or_by : Parsed → Parsed → Parsed
-or_by x y = parsed y.at y.uses (x.nullable || y.nullable) (bit_or x.first y.first) (bit_or x.last y.last)
+or_by x y = parsed y.at y.uses (x.nullable || y.nullable) (bit_or x.first.0 y.first.0) (bit_or x.last.0 y.last.0)
 
 abbrev pub closed_by : Parsed → Parsed
-closed_by x = parsed (x.at + 1) x.uses x.nullable x.first x.last
+closed_by x = parsed (x.at + 1) x.uses x.nullable x.first.0 x.last.0
 
 abbrev pub again_by : Parsed → Parsed
-again_by x = parsed (x.at + 1) x.uses true x.first x.last
+again_by x = parsed (x.at + 1) x.uses true x.first.0 x.last.0
 
 -- the row of each state of `last` has the states of `first` too; the others are as before
 pub record Linked (last first : ℕ) (t t' : Tables) : Type 0 where
@@ -139,8 +140,8 @@ pub record ReadAs (n : ℕ) (e : Expression) (names : List Name) (t t' : Tables)
   pub count : suc x.uses ≡ n + uses e
   pub named : length names ≡ uses e
   pub empties : x.nullable ≡ nullable e
-  pub firsts : (q : ℕ) → member q x.first ≡ first n e q
-  pub lasts : (q : ℕ) → member q x.last ≡ last n e q
+  pub firsts : (q : ℕ) → member q x.first.0 ≡ first n e q
+  pub lasts : (q : ℕ) → member q x.last.0 ≡ last n e q
   pub follows : (p q : ℕ) → member q (get_or t'.next p 0) ≡ (member q (get_or t.next p 0) || follow n e p q)
   pub types_put : t'.types ≡ put_back n (map (λ x. x.type) names) t.types
   pub places_put : t'.places ≡ put_back n (map (λ x. x.place) names) t.places
@@ -251,5 +252,5 @@ BracketSays c x (Err e) = (question_number e.why ≡ ending true c) × (e.place 
 
 -- a factor, and its 34 if the command behind it is one
 pub data RepeatSays (file : List ℕ) (x : Parsed) (t t' : Tables) (y : Parsed) : Type 0 where
-  repeats_it : repeating (command_at file x.at) ≡ true → y ≡ again_by x → Linked x.last x.first t t' → RepeatSays file x t t' y
+  repeats_it : repeating (command_at file x.at) ≡ true → y ≡ again_by x → Linked x.last.0 x.first.0 t t' → RepeatSays file x t t' y
   stays_so : repeating (command_at file x.at) ≡ false → y ≡ x → t' ≡ t → RepeatSays file x t t' y

@@ -28,13 +28,10 @@ pub struct Automaton {
 }
 
 // The set, with state 0 where the empty word is accepted.
-fn accepting_of(nullable: bool, last: u32) -> StateSet
-    ensures { result.0 ≡ cond nullable (insert 0 last) last }
+fn accepting_of(nullable: bool, last: StateSet) -> StateSet
+    ensures { result.0 ≡ cond nullable (insert 0 last.0) last.0 }
 {
-    if nullable {
-        return StateSet(last).with(0);
-    }
-    StateSet(last)
+    if nullable { last.with(0) } else { last }
 }
 
 // The automaton of an expression that is read whole.
@@ -47,7 +44,7 @@ fn automaton_of(read: Parsed, tables: Tables) -> Automaton
         types,
         places,
     } = tables;
-    next[0] = read.first;
+    next[0] = read.first.0;
     Automaton {
         end: read.at,
         uses: read.uses,

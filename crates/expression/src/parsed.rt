@@ -1,5 +1,5 @@
 // What is read of a part of an expression.
-ghost use Rattle.std.specs.Prelude.{◌≡◌};
+ghost use Rattle.std.specs.Prelude.{◌≡◌, bit_or};
 ghost use Rattle.expression.specs.Parsing.{parsed, beyond, then_by, or_by};
 
 use schema::StateSet;
@@ -9,17 +9,23 @@ use schema::StateSet;
 #[derive(Clone, Copy)]
 pub(crate) struct Parsed {
     pub at: usize,
-    pub first: u32,
-    pub last: u32,
+    pub first: StateSet,
+    pub last: StateSet,
     pub uses: u8,
     pub nullable: bool,
 }
 
-// The set, with the other where the flag says so.
-fn also(on: bool, set: u32, other: u32) -> u32
-    ensures { result ≡ beyond on set other }
+fn union(set: StateSet, other: StateSet) -> StateSet
+    ensures { result.0 ≡ bit_or set.0 other.0 }
 {
-    if on { set | other } else { set }
+    StateSet(set.0 | other.0)
+}
+
+// The set, with the other where the flag says so.
+fn also(on: bool, set: StateSet, other: StateSet) -> StateSet
+    ensures { result.0 ≡ beyond on set.0 other.0 }
+{
+    if on { union(set, other) } else { set }
 }
 
 impl Parsed {
@@ -29,8 +35,8 @@ impl Parsed {
     {
         Parsed {
             at,
-            first: StateSet::NONE.0,
-            last: StateSet::NONE.0,
+            first: StateSet::NONE,
+            last: StateSet::NONE,
             uses,
             nullable,
         }
@@ -55,8 +61,8 @@ impl Parsed {
     {
         Parsed {
             at: sequence.at,
-            first: self.first | sequence.first,
-            last: self.last | sequence.last,
+            first: union(self.first, sequence.first),
+            last: union(self.last, sequence.last),
             uses: sequence.uses,
             nullable: self.nullable | sequence.nullable,
         }

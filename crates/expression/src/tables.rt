@@ -25,11 +25,11 @@ pub(crate) struct Tables {
 
 impl Tables {
     // Lets each use that can come last be followed by each that can come first.
-    pub(crate) fn link(&mut self, last: u32, first: u32)
-        ensures { Linked last first self.old self.new }
+    pub(crate) fn link(&mut self, last: StateSet, first: StateSet)
+        ensures { Linked last.0 first.0 self.old self.new }
     {
-        for p in StateSet(last).states() {
-            self.next[usize::from(p)] |= first;
+        for p in last.states() {
+            self.next[usize::from(p)] |= first.0;
         }
     }
 
@@ -50,8 +50,8 @@ impl Tables {
         let set = StateSet::NONE.with(own);
         Ok(Parsed {
             at: at + 2,
-            first: set.0,
-            last: set.0,
+            first: set,
+            last: set,
             uses: own,
             nullable: false,
         })

@@ -37,11 +37,11 @@ turn next ps first p l k q = elim (ℕ_discrete k p) [
 
 pub loop-p-init : goal.loop-p-init
 loop-p-init c =
-    let e : members c.into_iter-p-iterator.result.rest ≡ members c.args.last = search rules in
-    let l : c.args.last < 2 ^ most_states = omega (arith, c.ranges.last) in
+    let e : members c.into_iter-p-iterator.result.rest ≡ members c.args.last.0 = search rules in
+    let l : c.args.last.0 < 2 ^ most_states = omega arith in
     rw e (
-      λ q t. listed_below q c.args.last l t,
-      λ p q. rw (listed_member p c.args.last l),
+      λ q t. listed_below q c.args.last.0 l t,
+      λ p q. rw (listed_member p c.args.last.0 l),
       refl,
       refl,
     )
@@ -64,7 +64,7 @@ loop-p-preserved c =
     let below : p < most_states = first_below p l.invariant.0 e in
     rw c.from.ensures (
       λ q t. l.invariant.0 q (rw e (later (eqb q p) (listed q left) t)),
-      λ k q. turn l.self.next left c.args.first p (omega arith) k q ∙ (rw e at l.invariant.1 k q),
+      λ k q. turn l.self.next left c.args.first.0 p (omega arith) k q ∙ (rw e at l.invariant.1 k q),
       l.invariant.2,
       l.invariant.3,
     )

@@ -12,6 +12,6 @@ use Rattle.expression.proofs.tables.Tables.link.Given as goal
 abbrev pub invariant-loop-p : goal.invariant-loop-p
 invariant-loop-p l =
     ((q : ℕ) → T (listed q (states_left l.p-iterator)) → q < most_states)
-    × ((p q : ℕ) → (member q (get_or l.self.next p 0) || (listed p (states_left l.p-iterator) && member q l.first)) ≡ (member q (get_or l.initial.self.next p 0) || (member p l.last && member q l.first)))
+    × ((p q : ℕ) → (member q (get_or l.self.next p 0) || (listed p (states_left l.p-iterator) && member q l.first.0)) ≡ (member q (get_or l.initial.self.next p 0) || (member p l.fn.last.0 && member q l.first.0)))
     × (l.self.types ≡ l.initial.self.types)
     × (l.self.places ≡ l.initial.self.places)
