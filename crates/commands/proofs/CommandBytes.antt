@@ -15,7 +15,7 @@ use Rattle.command.specs.declared.Command.TheVariants.{Tags, TypeBlock, Final, S
 use Rattle.command.specs.declared.Part.TheVariants.{OpenBracket, CloseBracket, Use, Or, Repeat, End}
 
 -- the list from a place inside it on
-drop_more : {A : Type 0} (l : List A) (i : ℕ) (d : A) → i < length l → drop i l ≡ get_or l i d ∷ drop (i + 1) l
+pub drop_more : {A : Type 0} (l : List A) (i : ℕ) (d : A) → i < length l → drop i l ≡ get_or l i d ∷ drop (i + 1) l
 drop_more [] i d l = absurd (omega arith)
 drop_more (x ∷ xs) zero d l = refl
 drop_more (x ∷ xs) (suc i) d l =

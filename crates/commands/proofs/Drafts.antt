@@ -4,10 +4,9 @@ use mathlib.Core.Logic.{◌≢◌}
 use mathlib.Core.Bool.{Bool, true, false, cond, ◌||◌}
 use mathlib.Core.List.{List, ◌∷◌, map}
 use Rattle.std.specs.Prelude.{Option, Some, None}
-use Prim.Native.Nat.{ℕ, zero, suc, ◌+◌, ◌-◌, ◌%◌, ◌≤◌, ◌<◌}
+use Prim.Native.Nat.{ℕ, zero, suc, ◌+◌, ◌-◌, ◌%◌, ◌≤◌, ◌<◌, min}
 use native.Mathlib.Decide.{dec_lt}
 use native.Mathlib.Omega.{arith}
-use borrow.Author.Tests.{le-leb}
 use lib.Dec.{T, eqb, leb, eqb→eq}
 use lib.ListN.{length, get_or, set, replicate, length-replicate, get_or-replicate, get_or-eq_default}
 use Rattle.sdtd.specs.Limits.{most_types, most_roots, most_steps}
@@ -29,7 +28,7 @@ use Rattle.commands.specs.Questions.{rank, same_phase, failed}
 use Rattle.commands.specs.File.{Stated, nothing_stated, current, step_count, has_step, has_root, seen_of, with_final, with_step, with_nil}
 use Rattle.commands.specs.File.{after, with_automaton, after_expression, Commands, stopped, states, by_content, by_command, commands_from, schema_by}
 use Rattle.commands.specs.Value.{EmptyFrom, StatedValue}
-use Rattle.commands.specs.Building.{nothing_built, given_last, root_among, last_type, seen_by, built}
+use Rattle.commands.specs.Building.{nothing_built, step_given, root_among, last_type, seen_by, built}
 use Rattle.commands.proofs.SchemaTables.{tables_of}
 use Rattle.commands.specs.declared.phase.Phase.{Phase}
 use Rattle.commands.specs.declared.phase.Phase.TheVariants.{BeforeTags, BeforeTypes, InBlock, InExpression, AfterExpression, AfterRoot, AfterDone}
@@ -39,7 +38,8 @@ use Rattle.commands.proofs.Holding.{DraftHolds, EmptyPast, Holds}
 use Rattle.commands.proofs.RootTables.{RootTable, roots_back, given_back, root_more, no_roots}
 use Rattle.commands.proofs.Standing.{none_stands}
 use Rattle.commands.proofs.NilTables.{flags_count, nil_same, nil_type, current_nil, nil_more}
-use Rattle.commands.proofs.TableLaws.{current_holds, current_count, same_count, same_steps, given_holds, type_sized, type_blocks, type_empty}
+use Rattle.commands.proofs.StepTables.{given_holds}
+use Rattle.commands.proofs.TableLaws.{current_holds, current_count, same_count, same_steps, type_sized, type_blocks, type_empty}
 use Rattle.commands.proofs.TableLaws.{accepting_sized, final_blocks, accepting_empty, nil_blocks}
 use Rattle.commands.proofs.TableLaws.{step_sized, step_blocks, step_steps, step_empty}
 use Rattle.commands.proofs.ExpressionTables.{built_from, automaton_sized, automaton_blocks, automaton_empty, automaton_total}
@@ -87,14 +87,11 @@ module _ {g : Stated} {s : Builder} (h : Holds g s) where
   own_holds = rw h.steps (current_holds g.blocks h.types h.types_most h.empty h.blocks)
 
   -- whether the STEP is given already is whether that block has it
-  given_step : (p j q : ℕ)
-      → given_last s.schema.from s.schema.by s.schema.to s.steps (get_or s.schema.steps (last_type s.schema.types) 0) p j q
-      ≡ has_step p j q (current g.blocks).steps
+  given_step : (p j q : ℕ) → step_given s p j q ≡ has_step p j q (current g.blocks).steps
   given_step p j q =
       let n = length (current g.blocks).steps in
-      let l : n ≤ s.steps = omega (arith, h.steps, current_count g.blocks) in
-      rw (own_holds.count, le-leb n s.steps l, le-leb s.steps most_steps h.steps_most)
-      (given_holds (tables_of s.schema) p j q (current g.blocks).steps (s.steps - n) own_holds.steps)
+      let all : min n (most_steps - (s.steps - n)) ≡ n = omega (arith, h.steps, h.steps_most, current_count g.blocks) in
+      rw (own_holds.count, all) (given_holds p j q (tables_of s.schema) (current g.blocks).steps (s.steps - n) own_holds.steps)
 
   -- whether the ROOT is given already is whether it is one of the roots
   given_root : (a : ℕ) → root_among s.schema.root s.schema.roots a ≡ has_root a g.roots

@@ -1,6 +1,5 @@
 -- One turn over an expression: the refusal, or what is read after it.
 use mathlib.Core.Path.{◌≡◌, refl, sym, ap, subst, ◌∙◌}
-use mathlib.Core.Bool.{true}
 use mathlib.Core.List.{List}
 use Prim.Native.Nat.{ℕ, suc, ◌+◌, ◌≤◌, ◌<◌}
 use native.Mathlib.Omega.{arith}
@@ -17,7 +16,6 @@ use Rattle.expression.specs.Content.{content_at}
 use Rattle.expression.specs.Answer.{set_of, ContentMeans}
 use Rattle.expression.specs.declared.content.Automaton.{Automaton}
 use Rattle.expression.proofs.WholeContents.{rise_most, whole_content}
-use Rattle.commands.specs.Questions.{same_phase}
 use Rattle.commands.specs.File.{stopped, commands}
 use Rattle.commands.specs.Building.{Added, built_with, built_by}
 use Rattle.commands.specs.Laying.{laid_steps, names_from}
@@ -27,7 +25,7 @@ use Rattle.commands.proofs.ExpressionReads.{Found, found, not_found, uses_few, n
 use Rattle.commands.proofs.OneByOne.{Reads, reads_broken, reads_too_many, reads_after}
 
 -- an expression is next
-module _ {file : List ℕ} {i : ℕ} {s : Builder} (r : Reads file i s) (inside : same_phase s.phase InExpression ≡ true) where
+module _ {file : List ℕ} {i : ℕ} {s : Builder} (r : Reads file i s) (inside : s.phase ≡ InExpression) where
   -- and is refused
   pub turn_refused : (e : Refusal) → ContentMeans (content_at file i) (Err e) → commands file ≡ stopped (question_number e.why) e.place
   turn_refused e m = reads_broken r inside (not_found file i e m)

@@ -23,7 +23,8 @@ use Rattle.expression.specs.Automaton.{uses, type_of_use}
 use Rattle.sdtd.specs.Lists.{of_each}
 use Rattle.expression.specs.Tests.{leads, steps_by, steps_from, all_steps}
 use Rattle.expression.specs.Answer.{set_of}
-use Rattle.expression.proofs.SetLaws.{member_or, without_own, without_other}
+use Rattle.schema.proofs.LowestState.{without_own, without_other}
+use Rattle.expression.proofs.SetLaws.{member_or}
 use Rattle.expression.proofs.TestLaws.{leads_below}
 use Rattle.expression.proofs.TestSets.{member_set}
 use Rattle.commands.specs.Laying.{Grouped, of_members, laid_by, laid_from, laid_steps}

@@ -1,7 +1,7 @@
 -- Laws of numbers put into a table one after another, and of what is made of the members of a set.
 use mathlib.Core.Path.{◌≡◌, refl, sym, ap, ◌∙◌}
-use mathlib.Core.Bool.{cond}
-use mathlib.Core.List.{List, [], ◌∷◌, ◌++◌, map-append}
+use mathlib.Core.Bool.{Bool, true, false, cond}
+use mathlib.Core.List.{List, [], ◌∷◌, ◌++◌, map, map-append}
 use Prim.Native.Nat.{ℕ, zero, suc, ◌+◌, ◌-◌, ◌^◌, ◌≤◌, ◌<◌}
 use native.Mathlib.Decide.{ℕ_discrete}
 use native.Mathlib.Numerals.{add-one}
@@ -9,17 +9,18 @@ use native.Mathlib.Omega.{arith}
 use lib.Bits.{bit_and}
 use lib.Count.{count_trailing_zeros}
 use lib.ListN.{length, length-append, get_or, set}
-use Rattle.sdtd.specs.Limits.{most_steps}
-use Rattle.sdtd.specs.Schema.{Step}
+use Rattle.sdtd.specs.Limits.{most_states, most_steps}
+use Rattle.sdtd.specs.Schema.{Step, step}
 use Rattle.sdtd.proofs.Basics.{is_true}
-use Rattle.schema.specs.States.{member}
+use Rattle.schema.specs.States.{member, members, members_below}
 use Rattle.schema.specs.Putting.{put_all}
 use Rattle.schema.proofs.PuttingLaws.{put_append}
 use Rattle.sdtd.specs.Lists.{of_each}
-use Rattle.sdtd.proofs.EachLaws.{each_none, each_same}
-use Rattle.expression.proofs.SetLaws.{member_zero, smallest_member, none_smaller, smallest_out, without_own, without_other}
+use Rattle.sdtd.proofs.EachLaws.{each_none, each_last, each_same}
+use Rattle.schema.proofs.LowestState.{smallest_member, none_smaller, smallest_out, without_own, without_other}
+use Rattle.expression.proofs.SetLaws.{member_zero}
 use Rattle.commands.specs.declared.builder.Builder.{Builder}
-use Rattle.commands.specs.Laying.{of_members, PutAs, LaidAs, names_from}
+use Rattle.commands.specs.Laying.{of_members, laid_by, PutAs, LaidAs, names_from}
 use Rattle.commands.specs.Building.{places_with, bound_with, named, all_named}
 
 -- nothing is put
@@ -96,6 +97,23 @@ members_next k f x l b =
     (each_first (λ q. cond (member q x) (f q) []) (λ q. cond (member q (x - 2 ^ p)) (f q) []) p 0 k (omega arith) (omega (arith, s.0))
     (λ q m. rw (none_smaller k x l b q m)) out (λ q n. rw (without_other p x s.1 q n))
     ∙ ap (λ (h : List _). h ++ of_members k f (x - 2 ^ p)) own)
+
+-- the steps to the members of a set, one after another
+laid_below : (p j x n : ℕ) → of_members n (λ q. step p j q ∷ []) x ≡ map (step p j) (members_below n x)
+unfolding of_each members_below
+laid_below p j x zero = refl
+laid_below p j x (suc n) =
+    let k : 0 + n ≡ n = omega arith in
+    each_last (λ q. cond (member q x) (step p j q ∷ []) []) 0 n
+    ∙ rw (k, laid_below p j x n, map-append)
+    (ap (λ (l : List Step). map (step p j) (members_below n x) ++ l) (own (member n x)))
+  where
+    own : (b : Bool) → cond b (step p j n ∷ []) [] ≡ map (step p j) (cond b (n ∷ []) [])
+    own true = refl
+    own false = refl
+
+pub laid_members : (p j x : ℕ) → laid_by p j x ≡ map (step p j) (members x)
+laid_members p j x = laid_below p j x most_states
 
 -- one use, and those after it
 module _ (n q : ℕ) (more : q ≤ n) where

@@ -11,6 +11,7 @@ pub mod Holding
 pub mod TableLaws
 pub mod ExpressionTables
 pub mod StatedLaws
+pub mod StepTables
 pub mod Drafts
 pub mod Places
 pub mod ExpressionReads

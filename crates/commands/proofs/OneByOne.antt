@@ -1,14 +1,17 @@
 -- Reading the commands one by one: a command that passes its questions ends inside the file, what is left of the file then decides, and the
 -- answer at the end.
 use mathlib.Core.Path.{◌≡◌, refl, sym, ap, subst, ◌∙◌}
-use mathlib.Core.Bool.{true, false}
-use mathlib.Core.Logic.{inl, inr}
+use mathlib.Core.Bool.{Bool, true, false, cond}
+use mathlib.Core.Logic.{◌≢◌, inl, inr}
 use Rattle.std.specs.Prelude.{Some, None, Result, Ok, Err, MatchResult}
 use mathlib.Core.List.{List, reverse_aux-eq}
-use Prim.Native.Nat.{ℕ, suc, ◌+◌, ◌-◌, ◌≤◌, ◌<◌}
+use Prim.Native.Nat.{ℕ, suc, ◌+◌, ◌-◌, ◌≤◌, ◌<◌, min}
 use native.Mathlib.Omega.{arith}
-use borrow.Author.Tests.{le-leb, lt-leb, eqb-true, ne_eqb}
-use lib.ListN.{length}
+use borrow.Author.Tests.{le-leb, lt-leb, eqb-true, ne_eqb, ltb-true, ltb-false}
+use lib.Dec.{ltb}
+use Rattle.commands.proofs.Phases.{own_phase, other_phase}
+use lib.ListN.{length, take, drop}
+use Rattle.std.specs.List.{fold}
 use Rattle.sdtd.specs.Limits.{most_steps}
 use Rattle.sdtd.specs.Answer.{refused_at, question_number, number_told, verdict_of}
 use Rattle.sdtd.specs.declared.Refused.{Refused}
@@ -27,7 +30,7 @@ use Rattle.commands.specs.Questions.{rank, same_phase, failed}
 use Rattle.commands.specs.File.{Stated, nothing_stated, step_count, seen_of, after, after_expression}
 use Rattle.commands.specs.File.{Commands, stopped, states, by_content, by_command, commands_from, commands}
 use Rattle.commands.specs.Answer.{CommandsBy}
-use Rattle.commands.specs.Building.{nothing_built, failed_by, built, least_from}
+use Rattle.commands.specs.Building.{nothing_built, failed_by, built, unknown}
 use Rattle.schema.specs.declared.value.Schema.{Schema}
 use Rattle.commands.specs.declared.phase.Phase.{Phase}
 use Rattle.commands.specs.declared.phase.Phase.TheVariants.{InExpression, AfterDone}
@@ -36,7 +39,7 @@ use Rattle.commands.proofs.Passing.{passed as passed_by}
 use Rattle.commands.proofs.Holding.{Holds}
 use Rattle.commands.proofs.Drafts.{first_holds, seen_holds, after_holds, expression_holds, stated_value, fuel_enough}
 use Rattle.commands.proofs.ExpressionTables.{built_from}
-use Rattle.commands.proofs.Places.{PlacesHold, first_places, built_places, places_with_lem, first_named, none_named}
+use Rattle.commands.proofs.Places.{least_from, least_folded, PlacesHold, first_places, built_places, places_with_lem, first_named, none_named}
 
 -- one command, and what is left of the file
 module _ (fuel : ℕ) (file : List ℕ) (i : ℕ) (g : Stated) where
@@ -90,6 +93,15 @@ reads_first file =
       within = omega arith;
     }
 
+-- whether there is a first place
+some_first : (b : Bool) (first p : ℕ) → cond b (Some first) None ≡ Some p → (b ≡ true) × (first ≡ p)
+some_first true first p e = let s : first ≡ p = cc in (refl, s)
+some_first false first p e = absurd (let z : ◌≡◌ {A = ℕ} 0 1 = cc in omega arith)
+
+no_first : (b : Bool) (first : ℕ) → cond b (Some first) None ≡ None → b ≡ false
+no_first true first e = absurd (let z : ◌≡◌ {A = ℕ} 0 1 = cc in omega arith)
+no_first false first e = refl
+
 -- a refusal by questions 2 to 6 or 21 to 23
 pub answer_stopped : (file : List ℕ) (r : Result Schema Refusal) {n p : ℕ} → commands file ≡ stopped n p → verdict_of r ≡ refused_at n p
     → CommandsBy (commands file) r
@@ -97,12 +109,12 @@ answer_stopped file r e s = subst (λ (k : Commands). CommandsBy k r) (sym e) s
 
 module _ {file : List ℕ} {i : ℕ} {s : Builder} (r : Reads file i s) where
   -- before DONE, outside an expression
-  module _ (more : same_phase s.phase AfterDone ≡ false) (outside : same_phase s.phase InExpression ≡ false) where
+  module _ (more : s.phase ≢ AfterDone) (outside : s.phase ≢ InExpression) where
     not_done : same_phase r.stated.phase AfterDone ≡ false
-    not_done = rw (← r.holds.phase) more
+    not_done = rw (← r.holds.phase) (other_phase s.phase AfterDone more)
 
     not_inside : same_phase r.stated.phase InExpression ≡ false
-    not_inside = rw (← r.holds.phase) outside
+    not_inside = rw (← r.holds.phase) (other_phase s.phase InExpression outside)
 
     -- no command stands there
     pub reads_missing : command_at file i ≡ None → commands file ≡ stopped 2 i
@@ -144,9 +156,9 @@ module _ {file : List ℕ} {i : ℕ} {s : Builder} (r : Reads file i s) where
           }
 
   -- where an expression is next
-  module _ (inside : same_phase s.phase InExpression ≡ true) where
+  module _ (inside : s.phase ≡ InExpression) where
     is_inside : same_phase r.stated.phase InExpression ≡ true
-    is_inside = rw (← r.holds.phase) inside
+    is_inside = rw (← r.holds.phase) (own_phase s.phase InExpression inside)
 
     by_content_lem : by_content r.stated (commands_from (length file - i) file) (content_at file i) ≡ commands file
     by_content_lem = sym (reads_expression (length file - i) file i r.stated is_inside) ∙ r.rest
@@ -185,9 +197,9 @@ module _ {file : List ℕ} {i : ℕ} {s : Builder} (r : Reads file i s) where
           }
 
   -- after DONE
-  module _ (done : same_phase s.phase AfterDone ≡ true) where
+  module _ (done : s.phase ≡ AfterDone) where
     is_done : same_phase r.stated.phase AfterDone ≡ true
-    is_done = rw (← r.holds.phase) done
+    is_done = rw (← r.holds.phase) (own_phase s.phase AfterDone done)
 
     pub reads_over : i < length file → commands file ≡ stopped 3 i
     reads_over l = sym r.rest ∙ over (length file - i) file i r.stated is_done l
@@ -197,16 +209,23 @@ module _ {file : List ℕ} {i : ℕ} {s : Builder} (r : Reads file i s) where
       answered a k = subst (λ (c : Commands). CommandsBy c a) (sym (ends (length file - i) file i r.stated is_done end) ∙ r.rest) k
 
       -- question 7, by the least place of the types not given
-      module _ {p : ℕ} (least : p ≡ least_from s.places (length file) s.schema.types (s.bound - s.schema.types)) where
-        least_stated : let n = length r.stated.blocks in p ≡ least_from s.places (length file) n (s.bound - n)
-        least_stated = rw (← r.holds.types) least
+      abbrev least : ℕ
+      least = fold (λ first place. min first place) (length file) (take (s.bound - s.schema.types) (drop s.schema.types s.places))
 
-        pub answer_unknown : p < length file → CommandsBy (commands file) (Err (record { why = UnknownType; place = p }))
-        answer_unknown l =
-            let f = first_named r.named (length r.stated.blocks) least_stated l in
-            answered (Err (record { why = UnknownType; place = p })) (inl (f.0, ap (refused_at 7) f.1), tt)
+      least_stated : let n = length r.stated.blocks in least ≡ least_from s.places (length file) n (s.bound - n)
+      least_stated =
+          rw (← r.holds.types)
+          (least_folded s.places (length file) s.schema.types (s.bound - s.schema.types)
+          (omega (arith, r.named.sized, r.named.bound_most, r.holds.types_most)))
 
-        pub answer_known : length file ≤ p → CommandsBy (commands file) (Ok s.schema)
-        answer_known l =
-            let none = none_named r.named (length r.stated.blocks) least_stated r.within l in
-            answered (Ok s.schema) (inr (none, refl), stated_value r.holds)
+      pub answer_unknown : (p : ℕ) → unknown s (length file) ≡ Some p → CommandsBy (commands file) (Err (record { why = UnknownType; place = p }))
+      answer_unknown p e =
+          let k = some_first (ltb least (length file)) least p e in
+          let f = first_named r.named (length r.stated.blocks) least_stated (ltb-true least (length file) k.0) in
+          answered (Err (record { why = UnknownType; place = p })) (inl (f.0, ap (refused_at 7) (sym k.1 ∙ f.1)), tt)
+
+      pub answer_known : unknown s (length file) ≡ None → CommandsBy (commands file) (Ok s.schema)
+      answer_known e =
+          let l : length file ≤ least = ltb-false least (length file) (no_first (ltb least (length file)) least e) in
+          let none = none_named r.named (length r.stated.blocks) least_stated r.within l in
+          answered (Ok s.schema) (inr (none, refl), stated_value r.holds)

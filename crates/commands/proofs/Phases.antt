@@ -1,10 +1,9 @@
 -- Two phases are one exactly where their ranks are.
+use mathlib.Core.Bool.{true, false}
 use mathlib.Core.Path.{◌≡◌, refl, sym, ap, ◌∙◌}
-use mathlib.Core.Bool.{Bool}
 use Prim.Native.Nat.{ℕ, zero, suc}
-use borrow.Author.Tests.{eqb-true, eq-eqb}
-use Rattle.std.specs.Prelude.{IsTrue, ◌↔◌}
-use Rattle.sdtd.proofs.Basics.{is_true, same_test}
+use mathlib.Core.Logic.{◌≢◌}
+use borrow.Author.Tests.{eq-eqb, ne_eqb}
 use Rattle.commands.specs.Questions.{rank, same_phase}
 use Rattle.commands.specs.declared.phase.Phase.{Phase}
 use Rattle.commands.specs.declared.phase.Phase.TheVariants.{BeforeTags, BeforeTypes, InBlock, InExpression, AfterExpression, AfterRoot, AfterDone}
@@ -30,7 +29,8 @@ ranked AfterRoot = refl
 ranked AfterDone = refl
 
 -- the test by ranks
-pub phase_says : (p q : Phase) (b : Bool) → IsTrue b ↔ (p ≡ q) → b ≡ same_phase p q
-phase_says p q b says =
-    same_test b (same_phase p q) (λ t. rw (eq-eqb (rank p) (rank q) (ap rank (says.0 (is_true b t)))) tt)
-    (λ t. rw (says.1 (sym (ranked p) ∙ ap phase_at (eqb-true (rank p) (rank q) (is_true (same_phase p q) t)) ∙ ranked q)) tt)
+pub own_phase : (p q : Phase) → p ≡ q → same_phase p q ≡ true
+own_phase p q e = eq-eqb (rank p) (rank q) (ap rank e)
+
+pub other_phase : (p q : Phase) → p ≢ q → same_phase p q ≡ false
+other_phase p q n = ne_eqb (rank p) (rank q) (λ e. n (sym (ranked p) ∙ ap phase_at e ∙ ranked q))

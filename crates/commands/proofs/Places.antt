@@ -8,23 +8,45 @@ use native.Mathlib.Decide.{dec_lt}
 use native.Mathlib.Nat.{suc-add}
 use native.Mathlib.Omega.{arith}
 use borrow.Author.Tests.{lt-ltb, le-ltb}
-use lib.ListN.{length, get_or, set, length-set, replicate, length-replicate, get_or-replicate}
+use lib.ListN.{length, get_or, take, drop, set, length-set, replicate, length-replicate, get_or-replicate}
 use lib.Seq.{get_or-set_same, get_or-set_other}
+use Rattle.std.specs.List.{fold}
 use Rattle.sdtd.specs.Limits.{most_types}
 use Rattle.command.specs.declared.Command.{Command}
 use Rattle.command.specs.declared.Command.TheVariants.{Tags, TypeBlock, Final, Step, Root, Nil, Done, Expression}
 use Rattle.expression.specs.Content.{Name}
 use Rattle.expression.proofs.WholeContents.{Rise, rise_most, TypesBelow}
 use Rattle.commands.specs.File.{Stated, after, unknown_in}
-use Rattle.commands.specs.Building.{place_named, bound_named, built, places_with, bound_with, least_from}
+use Rattle.commands.specs.Building.{place_named, bound_named, built, places_with, bound_with}
 use Rattle.commands.specs.declared.builder.Builder.{Builder}
 use Rattle.commands.proofs.Passing.{Passed}
+use Rattle.commands.proofs.CommandBytes.{drop_more}
+
+-- the least of `none` and the places of the n types from k on
+unfoldable pub least_from : List ℕ → ℕ → ℕ → ℕ → ℕ
+least_from places none k zero = none
+least_from places none k (suc n) = min (get_or places k 0) (least_from places none (suc k) n)
 
 -- `least_from` is at most `none`
 pub least_most : (l : List ℕ) (none k n : ℕ) → least_from l none k n ≤ none
 unfolding least_from
 least_most l none k zero = omega arith
 least_most l none k (suc n) = omega (arith, least_most l none (suc k) n)
+
+-- with an earlier place beside them
+least_beside : (l : List ℕ) (none p k n : ℕ) → least_from l (min none p) k n ≡ min p (least_from l none k n)
+unfolding least_from
+least_beside l none p k zero = omega arith
+least_beside l none p k (suc n) = omega (arith, least_beside l none p (suc k) n)
+
+-- the same by going over those places
+pub least_folded : (l : List ℕ) (none k n : ℕ) → k + n ≤ length l → fold (λ least place. min least place) none (take n (drop k l)) ≡ least_from l none k n
+unfolding least_from
+least_folded l none k zero h = refl
+least_folded l none k (suc n) h =
+    let next : drop k l ≡ get_or l k 0 ∷ drop (k + 1) l = drop_more l k 0 (omega arith) in
+    let s : k + 1 ≡ suc k = omega arith in
+    rw (next, s) (least_folded l (min none (get_or l k 0)) (suc k) n (omega arith) ∙ least_beside l none (get_or l k 0) (suc k) n)
 
 module _ (l : List ℕ) (none : ℕ) where
   -- where every place is `none`, so is the least

@@ -25,7 +25,7 @@ pub map-reverse : {A B : Type 0} (f : A → B) (x : A) (xs : List A) → map f (
 map-reverse f x xs = ap (map f) (reverse-cons x xs) ∙ map_last f (reverse xs) x
 
 -- the steps at a block's places are its steps in file order
-steps_back : (t : SchemaTables) (xs : List Step) (s : ℕ) → StepsHold t xs s
+pub steps_back : (t : SchemaTables) (xs : List Step) (s : ℕ) → StepsHold t xs s
     → steps_of t.from t.by t.to s (length xs) ≡ reverse xs
 unfolding steps_of up_from
 steps_back t [] s h = refl

@@ -1,8 +1,8 @@
 -- What the tables hold of the blocks, and how they grow.
-use mathlib.Core.Path.{◌≡◌, refl, sym, ap, ◌∙◌}
-use mathlib.Core.Bool.{Bool, false, ◌||◌, or_assoc, or_comm}
+use mathlib.Core.Path.{◌≡◌, refl, ap, ◌∙◌}
+use mathlib.Core.Bool.{false}
 use mathlib.Core.List.{List, [], ◌∷◌}
-use Prim.Native.Nat.{ℕ, zero, suc, ◌+◌, ◌-◌, ◌%◌, ◌≤◌, ◌<◌}
+use Prim.Native.Nat.{ℕ, suc, ◌+◌, ◌-◌, ◌%◌, ◌≤◌, ◌<◌}
 use native.Mathlib.Omega.{arith}
 use lib.ListN.{length, get_or, set, length-set}
 use lib.Seq.{get_or-set_same, get_or-set_other}
@@ -10,9 +10,9 @@ use Rattle.sdtd.specs.Schema.{Step, step}
 use Rattle.sdtd.specs.Limits.{most_types, most_steps}
 use Rattle.schema.specs.States.{insert, no_states}
 use Rattle.schema.specs.Value.{step_at}
-use Rattle.commands.specs.File.{same_step, has_step, Draft, current, step_count, with_final, with_step, with_nil, in_current}
+use Rattle.commands.specs.File.{Draft, current, step_count, with_final, with_step, with_nil, in_current}
 use Rattle.commands.specs.Value.{EmptyFrom}
-use Rattle.commands.specs.Building.{last_type, given_in}
+use Rattle.commands.specs.Building.{last_type}
 use Rattle.commands.proofs.SchemaTables.{SchemaTables}
 use Rattle.commands.proofs.Holding.{StepsHold, DraftHolds, BlocksHold, Sized, EmptyPast}
 
@@ -90,32 +90,6 @@ same_steps f (d ∷ ds) e = rw (e d)
 pub step_steps : (x : Step) (bs : List Draft) → 0 < length bs → step_count (in_current (with_step x) bs) ≡ step_count bs + 1
 step_steps x [] l = absurd (omega arith)
 step_steps x (d ∷ ds) l = omega arith
-
-module _ (from by to : List ℕ) (p j q : ℕ) where
-  -- the step after n steps
-  given_last : (i n : ℕ)
-      → given_in from by to p j q i (suc n) ≡ (same_step p j q (step_at from by to (i + n)) || given_in from by to p j q i n)
-  unfolding given_in
-  given_last i zero = rw (let e : i + 0 ≡ i = omega arith in e)
-  given_last i (suc n) =
-      let e : i + suc n ≡ suc i + n = omega arith in
-      let a = same_step p j q (step_at from by to i) in
-      let b = same_step p j q (step_at from by to (suc i + n)) in
-      let c = given_in from by to p j q (suc i) n in
-      rw e
-      (ap (λ (x : Bool). a || x) (given_last (suc i) n)
-      ∙ sym (or_assoc a b c)
-      ∙ ap (λ (x : Bool). x || c) (or_comm a b)
-      ∙ or_assoc b a c)
-
--- the steps of a block are those at its places
-pub given_holds : (t : SchemaTables) (p j q : ℕ) (xs : List Step) (s : ℕ) → StepsHold t xs s
-    → given_in t.from t.by t.to p j q s (length xs) ≡ has_step p j q xs
-unfolding given_in
-given_holds t p j q [] s h = refl
-given_holds t p j q (x ∷ xs) s h =
-    given_last t.from t.by t.to p j q s (length xs)
-    ∙ (λ i. same_step p j q (h.0 i) || given_holds t p j q xs s h.1 i)
 
 -- the tables agree on the types below a and on the steps below n
 pub record Below (t u : SchemaTables) (a n : ℕ) : Type 0 where

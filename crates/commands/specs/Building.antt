@@ -1,11 +1,12 @@
 -- What the private steps over the commands compute: what is built after each command, and what is read from it.
-use Rattle.std.specs.Prelude.{◌≡◌, Result, Bool, true, false, cond, ◌&&◌, ◌||◌, List, [], ◌∷◌, map, ℕ, zero, suc, ◌+◌, ◌-◌, ◌%◌, ◌≤◌, min, max, eqb, leb, ltb, length, get_or, set, replicate}
+use Rattle.std.specs.Prelude.{◌≡◌, Option, Some, None, Result, Bool, true, false, cond, ◌&&◌, ◌||◌, List, [], ◌∷◌, map, ℕ, suc, ◌+◌, ◌-◌, ◌%◌, ◌≤◌, min, max, eqb, ltb, length, get_or, set, replicate, take, drop}
+use Rattle.std.specs.List.{fold}
 use Rattle.sdtd.specs.Answer.{Ordered, ask, fine, refused_at, verdict_of}
 use Rattle.sdtd.specs.declared.Refusal.{Refusal}
 use Rattle.sdtd.specs.Limits.{most_types, most_roots, most_steps}
 use Rattle.sdtd.specs.Schema.{Step as StepOf}
 use Rattle.schema.specs.States.{insert}
-use Rattle.schema.specs.Value.{step_at, roots_of}
+use Rattle.schema.specs.Value.{steps_of, roots_of}
 use Rattle.schema.specs.Putting.{put_all}
 use Rattle.schema.specs.declared.value.Schema.{Schema}
 use Rattle.command.specs.Cases.{on_step, on_root, on_nil}
@@ -29,14 +30,17 @@ nothing_built n = record { schema = no_schema; phase = BeforeTags; steps = 0; pl
 abbrev pub last_type : ℕ → ℕ
 last_type types = (types % most_types + (most_types - 1)) % most_types
 
--- one of the n steps from the place i on is p, j, q
-unfoldable pub given_in : List ℕ → List ℕ → List ℕ → ℕ → ℕ → ℕ → ℕ → ℕ → Bool
-given_in from by to p j q i zero = false
-given_in from by to p j q i (suc n) = same_step p j q (step_at from by to i) || given_in from by to p j q (suc i) n
+-- found already, or one of the steps is p, j, q
+abbrev pub found_in : ℕ → ℕ → ℕ → Bool → List StepOf → Bool
+found_in p j q found xs = fold (λ found x. found || same_step p j q x) found xs
 
--- one of the last n steps of the count is p, j, q
-abbrev pub given_last : List ℕ → List ℕ → List ℕ → ℕ → ℕ → ℕ → ℕ → ℕ → Bool
-given_last from by to count n p j q = cond (leb n count && leb count most_steps) (given_in from by to p j q (count - n) n) false
+-- one of the steps of the block that the file is in, which are the last, is p, j, q
+abbrev pub step_given : Builder → ℕ → ℕ → ℕ → Bool
+step_given s p j q =
+    let v = s.schema in
+    let n = get_or v.steps (last_type v.types) 0 in
+    let i = s.steps - n in
+    found_in p j q false (steps_of v.from v.by v.to i (min n (most_steps - i)))
 
 -- the type a is one of the first n roots of the table, if it is below `most_types`
 abbrev pub root_among : List ℕ → ℕ → ℕ → Bool
@@ -47,7 +51,7 @@ abbrev pub given : Builder → Command → Bool
 given s c =
     let v = s.schema in
     let a = last_type v.types in
-    on_step (given_last v.from v.by v.to s.steps (get_or v.steps a 0)) false c
+    on_step (step_given s) false c
     || (on_root (root_among v.root v.roots) false c || on_nil (get_or v.nillable a false) false c)
 
 -- what is seen of the file where the command is asked
@@ -156,10 +160,11 @@ abbrev pub built_by : Builder → Automaton → Builder
 built_by s a =
     built_with s (suc a.uses) a.accepting.0 (laid_steps a.next a.types a.uses) (names_from a.types a.places 1 a.uses)
 
--- the least of `none` and the places of the n types from k on
-unfoldable pub least_from : List ℕ → ℕ → ℕ → ℕ → ℕ
-least_from places none k zero = none
-least_from places none k (suc n) = min (get_or places k 0) (least_from places none (suc k) n)
+-- the least place at which a type that was not given is named, in a file of n bytes, if there is one
+abbrev pub unknown : Builder → ℕ → Option ℕ
+unknown s n =
+    let first = fold (λ first place. min first place) n (take (s.bound - s.schema.types) (drop s.schema.types s.places)) in
+    cond (ltb first n) (Some first) None
 
 -- the names of an expression are added; the rest stays
 abbrev pub all_named : Builder → List Name → Builder

@@ -1,13 +1,15 @@
 // The schema that the commands state, command by command.
-ghost use Rattle.std.specs.Prelude.{◌≡◌, ◌+◌, ◌-◌, ◌≤◌};
-ghost use Rattle.sdtd.specs.Limits.{most_steps};
+ghost use Rattle.std.specs.Prelude.{◌≡◌, false, ◌≤◌, min};
+ghost use Rattle.std.specs.List.{fold};
+ghost use Rattle.sdtd.specs.Limits.{most_types};
 ghost use Rattle.sdtd.specs.Answer.{number_told};
-ghost use Rattle.commands.specs.Building.{nothing_built, last_type, given_in, given_last, root_among, given, seen_by, failed_by, built, named, least_from};
+ghost use Rattle.schema.specs.Steps.{left};
+ghost use Rattle.commands.specs.Building.{nothing_built, last_type, found_in, step_given, root_among, given, seen_by, failed_by, built, named, unknown};
 
 use crate::phase::Phase;
-use crate::questions::{Seen, failed_by};
+use crate::questions::Seen;
 use command::Command;
-use schema::{ROOTS, STEPS, Schema, StateSet, TYPES, root_types};
+use schema::{ROOTS, STEPS, Schema, StateSet, Step, Steps, TYPES, root_types};
 use sdtd::{Refused, TypeNo};
 
 // the most types and the most roots, as bytes; the most steps, as a type's count of them
@@ -52,34 +54,15 @@ impl Builder {
         ((self.schema.types % TYPE_NUMBERS + LAST_TYPE) % TYPE_NUMBERS) as usize
     }
 
-    // Is one of the n steps from start on this one? All of them are compared, with no branch.
-    fn has_step(&self, start: usize, n: usize, p: u8, j: TypeNo, q: u8) -> bool
-        requires { start + n ≤ most_steps }
-        ensures { result ≡ given_in self.now.schema.from self.now.schema.by self.now.schema.to p j.0 q start n }
+    // Has the block that the file is in this step? Its steps are the last.
+    fn has_step(&self, step: Step) -> bool
+        ensures { result ≡ step_given self.now step.from step.by.0 step.to }
     {
-        let end = start + n;
-        let mut found = false;
-        let mut i = start;
-        while i < end {
-            let same = (self.schema.from[i] == p)
-                & ((self.schema.by[i] == j.0) & (self.schema.to[i] == q));
-            found = found | same;
-            i += 1;
-        }
-        found
-    }
-
-    // Is one of the last n steps this one?
-    fn has_last(&self, n: usize, p: u8, j: TypeNo, q: u8) -> bool
-        ensures { result ≡ given_last self.now.schema.from self.now.schema.by self.now.schema.to self.now.steps n p j.0 q }
-    {
-        if self.steps < n {
-            return false;
-        }
-        if STEPS < self.steps {
-            return false;
-        }
-        self.has_step(self.steps - n, n, p, j, q)
+        let n = usize::from(self.schema.steps[self.last_type()]);
+        among(
+            self.schema.steps_from(self.steps.saturating_sub(n), n),
+            step,
+        )
     }
 
     // Is the type one of the roots?
@@ -99,11 +82,10 @@ impl Builder {
     fn has(&self, command: Command) -> bool
         ensures { result ≡ given self.now command }
     {
-        let last = self.last_type();
         match command {
-            Command::Step(p, j, q) => self.has_last(self.schema.steps[last] as usize, p, j, q),
+            Command::Step(from, by, to) => self.has_step(Step { from, by, to }),
             Command::Root(a) => self.has_root(a),
-            Command::Nil => self.schema.nillable[last],
+            Command::Nil => self.schema.nillable[self.last_type()],
             _ => false,
         }
     }
@@ -130,7 +112,7 @@ impl Builder {
     pub fn ask(&self, command: Command) -> Result<(), Refused>
         ensures { number_told result ≡ failed_by self.now command }
     {
-        failed_by(self.seen(command), command)
+        self.seen(command).ask(command)
     }
 
     // Adds the command, which passed its questions, and stands at this place.
@@ -184,4 +166,36 @@ impl Builder {
         self.places[named] = first.min(at);
         self.bound = self.bound.max(named + 1);
     }
+
+    // The first place at which a type that was not given is named, if there is one: `end` lies behind every place.
+    pub fn unknown(&self, end: usize) -> Option<usize>
+        requires { self.now.bound ≤ most_types }
+        ensures { result ≡ unknown self.now end }
+    {
+        let types = usize::from(self.schema.types);
+        if self.bound <= types {
+            return None;
+        }
+        let first = least(&self.places[types..self.bound], end);
+        (first < end).then_some(first)
+    }
+}
+
+// The least of the places and the end.
+fn least(places: &[usize], end: usize) -> usize
+    ensures { result ≡ fold (λ first place. min first place) end places.now }
+{
+    places.iter().fold(end, |first, place| first.min(*place))
+}
+
+// Is the step among these? All parts of all of them are compared, with no branch: `==` branches, and a block of 1,024 steps takes five times as
+// long to read with it.
+fn among(steps: Steps<'_>, step: Step) -> bool
+    ensures { result ≡ found_in step.from step.by.0 step.to false (left steps.entry) }
+{
+    let mut found = false;
+    for other in steps {
+        found |= (other.from == step.from) & ((other.by.0 == step.by.0) & (other.to == step.to));
+    }
+    found
 }

@@ -75,11 +75,8 @@ impl Builder {
         requires { self.old.steps ≤ most_steps + 1 }
         ensures { LaidAs (laid_by p j set) self.old self.new }
     {
-        let mut rest = set;
-        while rest != 0 {
-            let q = u32::trailing_zeros(rest) as u8;
+        for q in StateSet(set).states() {
             self.put_step(p, j, q);
-            rest = rest & (rest - 1);
         }
     }
 
@@ -110,12 +107,10 @@ impl Builder {
         requires { (read.now.uses < most_states) × (self.old.steps ≤ most_steps) }
         ensures { LaidAs (laid_steps read.now.next read.now.types read.now.uses) self.old self.new }
     {
-        let uses = read.uses;
         let mut sets = [StateSet::NONE.0; TYPES];
-        let mut p = 0u8;
-        while p <= uses {
-            self.lay_from(read.next[p as usize], p, &read.types, &mut sets);
-            p += 1;
+        let states = read.uses + 1;
+        for p in 0..states {
+            self.lay_from(read.next[usize::from(p)], p, &read.types, &mut sets);
         }
     }
 
@@ -124,12 +119,9 @@ impl Builder {
         requires { (read.now.uses < most_states) × (self.old.bound ≤ most_types) }
         ensures { self.new ≡ all_named self.old (names_from read.now.types read.now.places 1 read.now.uses) }
     {
-        let uses = read.uses;
-        let mut q = 1u8;
-        while q <= uses {
-            let at = q as usize;
-            self.name(TypeNo(read.types[at]), read.places[at]);
-            q += 1;
+        let states = usize::from(read.uses) + 1;
+        for q in 1..states {
+            self.name(TypeNo(read.types[q]), read.places[q]);
         }
     }
 }

@@ -1,6 +1,5 @@
 // How far a file is read.
 ghost use Rattle.std.specs.Prelude.{◌≡◌, cond, eqb};
-ghost use Rattle.commands.specs.Questions.{same_phase};
 ghost use Rattle.commands.specs.declared.phase.Phase.TheVariants.{InBlock, InExpression};
 
 // Where the file stands: before TAGS, before the first TYPE, in a block by states, in an expression, after its 3F, after a ROOT, after DONE.
@@ -16,14 +15,6 @@ pub(crate) enum Phase {
 }
 
 impl Phase {
-    // Is it this one?
-    #[tactic(auto, using(crate::proofs::Phases::phase_says))]
-    pub fn is(self, other: Phase) -> bool
-        ensures { result ≡ same_phase self other }
-    {
-        self == other
-    }
-
     // The phase after a TYPE: with state count 0 an expression follows.
     pub fn of_block(states: u8) -> Phase
         ensures { result ≡ cond (eqb states 0) InExpression InBlock }

@@ -1,7 +1,7 @@
 // What each command outside an expression is asked, questions 3 to 6.
 ghost use Rattle.std.specs.Prelude.{◌≡◌};
 ghost use Rattle.sdtd.specs.Answer.{number_told};
-ghost use Rattle.commands.specs.Questions.{in_type_block, in_order, in_range, within_counts, not_given, failed};
+ghost use Rattle.commands.specs.Questions.{in_order, in_range, within_counts, not_given, failed};
 
 use crate::builder::{MOST_ROOTS, TYPE_NUMBERS};
 use crate::phase::Phase;
@@ -23,94 +23,87 @@ pub(crate) struct Seen {
     pub given: bool,
 }
 
-// Is the file in a type's block, by states or after an expression?
-fn in_type_block(phase: Phase) -> bool
-    ensures { result ≡ in_type_block phase }
-{
-    phase.is(Phase::InBlock) | phase.is(Phase::AfterExpression)
-}
+impl Seen {
+    // The questions 3 to 6, in order.
+    pub fn ask(self, command: Command) -> Result<(), Refused>
+        ensures { number_told result ≡ failed self command }
+    {
+        if !self.in_order(command) {
+            return Err(Refused::OutOfOrder);
+        }
+        if !self.in_range(command) {
+            return Err(Refused::OutOfRange);
+        }
+        if !self.within_counts(command) {
+            return Err(Refused::TooMany);
+        }
+        if !self.not_given(command) {
+            return Err(Refused::Repeated);
+        }
+        Ok(())
+    }
 
-// Does it stand in its order?
-fn in_order(seen: Seen, command: Command) -> bool
-    ensures { result ≡ in_order seen command }
-{
-    let phase = seen.phase;
-    match command {
-        Command::Tags(_) => phase.is(Phase::BeforeTags),
-        Command::TypeBlock(_, _) => phase.is(Phase::BeforeTypes) | in_type_block(phase),
-        Command::Final(_) => phase.is(Phase::InBlock),
-        Command::Step(_, _, _) => phase.is(Phase::InBlock),
-        Command::Root(_) => phase.is(Phase::AfterRoot) | in_type_block(phase),
-        Command::Nil => in_type_block(phase),
-        Command::Done => phase.is(Phase::AfterRoot),
-        Command::Expression(_) => false,
+    // Does it stand in its order?
+    fn in_order(self, command: Command) -> bool
+        ensures { result ≡ in_order self command }
+    {
+        match command {
+            Command::Tags(_) => matches!(self.phase, Phase::BeforeTags),
+            Command::TypeBlock(_, _) => {
+                matches!(
+                    self.phase,
+                    Phase::BeforeTypes | Phase::InBlock | Phase::AfterExpression
+                )
+            }
+            Command::Final(_) | Command::Step(_, _, _) => matches!(self.phase, Phase::InBlock),
+            Command::Root(_) => {
+                matches!(
+                    self.phase,
+                    Phase::InBlock | Phase::AfterExpression | Phase::AfterRoot
+                )
+            }
+            Command::Nil => matches!(self.phase, Phase::InBlock | Phase::AfterExpression),
+            Command::Done => matches!(self.phase, Phase::AfterRoot),
+            Command::Expression(_) => false,
+        }
     }
-}
 
-// Are the operands in range?
-fn in_range(seen: Seen, command: Command) -> bool
-    ensures { result ≡ in_range seen command }
-{
-    match command {
-        Command::Tags(n) => (1 <= n) & (n <= TAGS),
-        Command::TypeBlock(g, k) => (g.0 < seen.tags) & (k <= STATES),
-        Command::Final(q) => q < seen.states,
-        Command::Step(p, j, q) => { (p < seen.states) & ((j.0 < TYPE_NUMBERS) & (q < seen.states)) }
-        Command::Root(a) => a.0 < seen.types,
-        Command::Nil => true,
-        Command::Done => true,
-        Command::Expression(_) => true,
+    // Are the operands in range?
+    fn in_range(self, command: Command) -> bool
+        ensures { result ≡ in_range self command }
+    {
+        match command {
+            Command::Tags(count) => 1 <= count && count <= TAGS,
+            Command::TypeBlock(tag, states) => tag.0 < self.tags && states <= STATES,
+            Command::Final(state) => state < self.states,
+            Command::Step(from, by, to) => {
+                from < self.states && by.0 < TYPE_NUMBERS && to < self.states
+            }
+            Command::Root(root) => root.0 < self.types,
+            Command::Nil | Command::Done | Command::Expression(_) => true,
+        }
     }
-}
 
-// Is it within the types, roots and steps that a schema may have?
-fn within_counts(seen: Seen, command: Command) -> bool
-    ensures { result ≡ within_counts seen command }
-{
-    match command {
-        Command::Tags(_) => true,
-        Command::TypeBlock(_, _) => seen.types < TYPE_NUMBERS,
-        Command::Final(_) => true,
-        Command::Step(_, _, _) => seen.steps < STEPS,
-        Command::Root(_) => seen.roots < MOST_ROOTS,
-        Command::Nil => true,
-        Command::Done => true,
-        Command::Expression(_) => true,
+    // Is it within the types, roots and steps that a schema may have?
+    fn within_counts(self, command: Command) -> bool
+        ensures { result ≡ within_counts self command }
+    {
+        match command {
+            Command::TypeBlock(_, _) => self.types < TYPE_NUMBERS,
+            Command::Step(_, _, _) => self.steps < STEPS,
+            Command::Root(_) => self.roots < MOST_ROOTS,
+            _ => true,
+        }
     }
-}
 
-// Is this FINAL, STEP or NIL not yet given in its block, and this ROOT not yet in the file?
-fn not_given(seen: Seen, command: Command) -> bool
-    ensures { result ≡ not_given seen command }
-{
-    let accepting = seen.accepting;
-    match command {
-        Command::Tags(_) => true,
-        Command::TypeBlock(_, _) => true,
-        Command::Final(q) => !accepting.has(q),
-        Command::Step(_, _, _) => !seen.given,
-        Command::Root(_) => !seen.given,
-        Command::Nil => !seen.given,
-        Command::Done => true,
-        Command::Expression(_) => true,
+    // Is this FINAL, STEP or NIL not yet given in its block, and this ROOT not yet in the file?
+    fn not_given(self, command: Command) -> bool
+        ensures { result ≡ not_given self command }
+    {
+        match command {
+            Command::Final(state) => !self.accepting.has(state),
+            Command::Step(_, _, _) | Command::Root(_) | Command::Nil => !self.given,
+            _ => true,
+        }
     }
-}
-
-// The questions 3 to 6, in order.
-pub(crate) fn failed_by(seen: Seen, command: Command) -> Result<(), Refused>
-    ensures { number_told result ≡ failed seen command }
-{
-    if !in_order(seen, command) {
-        return Err(Refused::OutOfOrder);
-    }
-    if !in_range(seen, command) {
-        return Err(Refused::OutOfRange);
-    }
-    if !within_counts(seen, command) {
-        return Err(Refused::TooMany);
-    }
-    if !not_given(seen, command) {
-        return Err(Refused::Repeated);
-    }
-    Ok(())
 }

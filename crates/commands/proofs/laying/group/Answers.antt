@@ -10,7 +10,7 @@ use lib.Pow.{pow-lt}
 use Rattle.sdtd.specs.Limits.{most_types, most_states}
 use Rattle.schema.specs.States.{member, insert}
 use Rattle.schema.proofs.Bits.{insert_below, set_below}
-use Rattle.expression.proofs.SetLaws.{smallest_member, smallest_out}
+use Rattle.schema.proofs.LowestState.{smallest_member, smallest_out}
 use Rattle.commands.proofs.GroupLaws.{group_turn, named_turn}
 use Rattle.commands.proofs.laying.group.Goals as goal
 

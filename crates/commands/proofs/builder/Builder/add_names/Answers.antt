@@ -11,11 +11,11 @@ pub loop-q-preserved : goal.loop-q-preserved
 loop-q-preserved c =
     let l = c.loop-q in
     let r = c.args.read.now in
-    (omega arith, omega arith, rw c.name.ensures (names_next r.uses l.q (omega arith) r.types r.places l.self ∙ l.invariant.2))
+    rw c.name.ensures (names_next r.uses l.q (omega arith) r.types r.places l.self ∙ l.invariant)
 
 pub returns : goal.returns
 unfolding places_with bound_with names_from
 returns c =
     let l = c.loop-q in
     let e : c.args.read.now.uses + 1 - l.q ≡ 0 = omega arith in
-    rw e at l.invariant.2
+    rw e at l.invariant

@@ -8,7 +8,8 @@ use lib.Dec.{T}
 use lib.ListN.{get_or, length-set}
 use Rattle.sdtd.specs.Limits.{most_types}
 use Rattle.schema.specs.States.{member}
-use Rattle.expression.proofs.SetLaws.{member_zero, smallest_member, smallest_out}
+use Rattle.schema.proofs.LowestState.{smallest_member, smallest_out}
+use Rattle.expression.proofs.SetLaws.{member_zero}
 use Rattle.commands.specs.Laying.{laid_by}
 use Rattle.commands.proofs.LayingLaws.{members_none, members_next, laid_nothing, laid_both, laid_most}
 use Rattle.commands.proofs.GroupLaws.{grouped_laid, left_same, done_empty}

@@ -11,9 +11,9 @@ use Rattle.commands.proofs.builder.Builder.lay_steps.Goals as goal
 
 pub loop-p-init : goal.loop-p-init
 unfolding of_each
-loop-p-init c = (omega arith, laid_nothing _ (omega arith), refl, λ k. zeros_empty most_types k (omega arith))
+loop-p-init c = (laid_nothing _ (omega arith), refl, λ k. zeros_empty most_types k (omega arith))
 
 pub loop-p-preserved : goal.loop-p-preserved
 loop-p-preserved c =
-    let e = c.lay_from.ensures in
-    (omega arith, rw (each_more (λ k. laid_from c.args.read.now.types k (get_or c.args.read.now.next k 0)) c.loop-p.p) (laid_both _ _ c.loop-p.invariant.1 e.0), e.1, e.2)
+    let e = rw c.from.ensures at c.lay_from.ensures in
+    (rw (each_more (λ k. laid_from c.args.read.now.types k (get_or c.args.read.now.next k 0)) c.loop-p.p) (laid_both _ _ c.loop-p.invariant.0 e.0), e.1, e.2)

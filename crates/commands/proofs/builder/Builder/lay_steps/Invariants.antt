@@ -1,5 +1,5 @@
 use mathlib.Core.Path.{◌≡◌}
-use Prim.Native.Nat.{ℕ, ◌+◌, ◌-◌, ◌≤◌}
+use Prim.Native.Nat.{ℕ}
 use lib.ListN.{length, get_or}
 use Rattle.sdtd.specs.Limits.{most_types}
 use Rattle.sdtd.specs.Lists.{of_each}
@@ -8,10 +8,6 @@ use Rattle.commands.proofs.builder.Builder.lay_steps.Given as goal
 
 abbrev pub invariant-loop-p : goal.invariant-loop-p
 invariant-loop-p l =
-    (l.p ≤ l.uses + 1)
-    × LaidAs (of_each (λ k. laid_from l.read.types k (get_or l.read.next k 0)) 0 l.p) l.initial.self l.self
+    LaidAs (of_each (λ k. laid_from l.read.types k (get_or l.read.next k 0)) 0 l.p) l.initial.self l.self
     × (length l.sets ≡ most_types)
     × ((k : ℕ) → get_or l.sets k 0 ≡ 0)
-
-abbrev pub decreases-loop-p : goal.decreases-loop-p
-decreases-loop-p l = l.uses + 1 - l.p
