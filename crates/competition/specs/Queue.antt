@@ -1,16 +1,14 @@
 -- What the private search answers. Of one type: a queue of pairs found, each from an earlier one, in the order of those, with rivals at the
 -- last and none before; or a set of pairs that is closed and has no rivals.
-use Rattle.std.specs.Prelude.{◌≡◌, Bool, true, false, ◌&&◌, List, ℕ, ◌<◌, ◌≤◌, T, get_or, Option, Some, None}
-use Rattle.sdtd.specs.Limits.{most_pairs}
+use Rattle.std.specs.Prelude.{◌≡◌, Bool, true, false, List, ℕ, ◌<◌, ◌≤◌, T, get_or, Option, Some, None}
+use Rattle.sdtd.specs.Limits.{most_types, most_pairs}
 use Rattle.sdtd.specs.Schema.{Schema}
 use Rattle.sdtd.specs.Competition.{pair_number, Competition}
-use Rattle.schema.specs.Ways.{bears_in}
 use Rattle.competition.specs.Rows.{Leading}
 use Rattle.competition.specs.Found.{found_at, Linked}
 use Rattle.competition.specs.Rivals.{AreRivals}
 use Rattle.competition.specs.Search.{Written}
 use Rattle.competition.specs.declared.queue.Found.{Found}
-use Rattle.competition.specs.declared.search.TypeTables.{TypeTables}
 use Rattle.competition.specs.declared.search.Pair.{Pair}
 use Rattle.competition.specs.declared.search.Competing.{Competing}
 
@@ -62,30 +60,25 @@ abbrev pub PairMeans : (ℕ → List ℕ) → List Found → Option Pair → Typ
 PairMeans rows queue (Some p) = TrailToRivals rows queue p.at p.rivals.first.0 p.rivals.second.0
 PairMeans rows queue None = (reached : List Bool) × ClosedPairs rows reached
 
--- the type a is reached and bears a tree, by the tables
-abbrev pub is_useful : TypeTables → ℕ → Bool
-is_useful t a = get_or t.reached a false && bears_in t.ways a
-
--- two types compete in the type a, by its rows and the queue
-pub record CompetingIn (rows : ℕ → List ℕ) (t : TypeTables) (a : ℕ) (queue : List Found) (at j k : ℕ) : Type 0 where
-  pub useful : T (is_useful t a)
+-- two types compete in the type a, which the table marks as used, by its rows and the queue
+pub record CompetingIn (rows : ℕ → List ℕ) (used : List Bool) (a : ℕ) (queue : List Found) (at j k : ℕ) : Type 0 where
+  pub used_there : T (get_or used a false)
   pub to_rivals : TrailToRivals rows queue at j k
 
--- no two types compete in the type a, by its rows
-abbrev pub RestrainedIn : (ℕ → List ℕ) → TypeTables → ℕ → Type 0
-RestrainedIn rows t a = T (is_useful t a) → (reached : List Bool) × ClosedPairs rows reached
+-- no two types compete in the type a, if it is marked, by its rows
+abbrev pub RestrainedIn : (ℕ → List ℕ) → List Bool → ℕ → Type 0
+RestrainedIn rows used a = T (get_or used a false) → (reached : List Bool) × ClosedPairs rows reached
 
-abbrev pub SearchedAt : (ℕ → List ℕ) → TypeTables → ℕ → List Found → Option Pair → Type 0
-SearchedAt rows t a queue (Some p) = CompetingIn rows t a queue p.at p.rivals.first.0 p.rivals.second.0
-SearchedAt rows t a queue None = RestrainedIn rows t a
+abbrev pub SearchedAt : (ℕ → List ℕ) → List Bool → ℕ → List Found → Option Pair → Type 0
+SearchedAt rows used a queue (Some p) = CompetingIn rows used a queue p.at p.rivals.first.0 p.rivals.second.0
+SearchedAt rows used a queue None = RestrainedIn rows used a
 
--- the smallest type in which two compete, by the tables and the rows of each type; or none
-abbrev pub CompetingMeans : (ℕ → ℕ → List ℕ) → TypeTables → List Found → Option Competing → Type 0
-CompetingMeans rows t queue (Some x) =
-    (x.of.0 < t.types)
-    × CompetingIn (rows x.of.0) t x.of.0 queue x.pair.at x.pair.rivals.first.0 x.pair.rivals.second.0
-    × ((c : ℕ) → c < x.of.0 → RestrainedIn (rows c) t c)
-CompetingMeans rows t queue None = (c : ℕ) → c < t.types → RestrainedIn (rows c) t c
+-- the smallest type in which two compete, by the table of those used and the rows of each type; or none
+abbrev pub CompetingMeans : (ℕ → ℕ → List ℕ) → List Bool → List Found → Option Competing → Type 0
+CompetingMeans rows used queue (Some x) =
+    CompetingIn (rows x.of.0) used x.of.0 queue x.pair.at x.pair.rivals.first.0 x.pair.rivals.second.0
+    × ((c : ℕ) → c < x.of.0 → RestrainedIn (rows c) used c)
+CompetingMeans rows used queue None = (c : ℕ) → c < most_types → RestrainedIn (rows c) used c
 
 -- the whole search: two types compete, and the buffer has a witness; or there is no competition, and the buffer is as it was
 abbrev pub CompetesMeans : Schema → List ℕ → List ℕ → Bool → Type 0

@@ -20,7 +20,7 @@ use crate::roots::{opening_types, rival_roots};
 use crate::trimmed::trimmed;
 use crate::witness::{LEAST_WITNESS, NO_PARENT, WitnessHead, write_head, write_witness};
 use pairs::{PAIRS, pair_numbers};
-use schema::{BEGINS, Rows, STEPS, Schema, TYPES, Trimming, opens};
+use schema::{BEGINS, Rows, STEPS, Schema, TYPES, Trimming, used_in};
 use sdtd::{Refused, TypeNo};
 
 // A pair with rivals, by its place in the queue.
@@ -28,14 +28,6 @@ use sdtd::{Refused, TypeNo};
 pub(crate) struct Pair {
     pub at: usize,
     pub rivals: Rivals,
-}
-
-// Of each type whether it is reached and by which kinds of opening it bears a tree; and how many types there are.
-#[derive(Clone, Copy)]
-pub(crate) struct TypeTables {
-    pub reached: [bool; TYPES],
-    pub ways: [u8; TYPES],
-    pub types: u8,
 }
 
 // The search of the type a: the first pair found with rivals, with the queue that leads to it.
@@ -64,22 +56,18 @@ fn search_type(numbers: &Numbers<'_>, rows: &Rows<'_>, a: TypeNo, queue: &mut Qu
     None
 }
 
-// The search of the type a, if it is reached and bears a tree.
+// The search of the type a, if it is used.
 fn search_at(
     numbers: &Numbers<'_>,
     rows: &Rows<'_>,
-    useful: &TypeTables,
+    used: &[bool; TYPES],
     a: TypeNo,
     queue: &mut Queue,
 ) -> Option<Pair>
     requires { a.0 < most_types }
-    ensures { SearchedAt (row_of rows.now.entries.now rows.now.begins.now a.0) useful.now a.0 queue.new.found result }
+    ensures { SearchedAt (row_of rows.now.entries.now rows.now.begins.now a.0) used.now a.0 queue.new.found result }
 {
-    let i = usize::from(a.0);
-    if !useful.reached[i] {
-        return None;
-    }
-    if !opens(useful.ways[i]) {
+    if !used[usize::from(a.0)] {
         return None;
     }
     search_type(numbers, rows, a, queue)
@@ -96,15 +84,14 @@ pub(crate) struct Competing {
 fn first_competing(
     numbers: &Numbers<'_>,
     rows: &Rows<'_>,
-    useful: &TypeTables,
+    used: &[bool; TYPES],
     queue: &mut Queue,
 ) -> Option<Competing>
-    requires { useful.now.types ≤ most_types }
-    ensures { CompetingMeans (row_of rows.now.entries.now rows.now.begins.now) useful.now queue.new.found result }
+    ensures { CompetingMeans (row_of rows.now.entries.now rows.now.begins.now) used.now queue.new.found result }
 {
-    for i in 0..useful.types {
-        let of = TypeNo(i);
-        if let Some(pair) = search_at(numbers, rows, useful, of, queue) {
+    for i in 0..TYPES {
+        let of = TypeNo(i as u8);
+        if let Some(pair) = search_at(numbers, rows, used, of, queue) {
             return Some(Competing { of, pair });
         }
     }
@@ -137,15 +124,11 @@ fn types_compete(schema: &Schema, trimming: &Trimming, rows: &Rows<'_>, witness:
         × (¬ CompeteOutside (meaning schema.now)) × (least_witness ≤ length witness.old) }
     ensures { CompetesMeans (meaning schema.now) witness.old witness.new result }
 {
-    let useful = TypeTables {
-        reached: trimming.reached,
-        ways: trimming.ways,
-        types: schema.types,
-    };
+    let used = used_in(*trimming);
     let mut queue = Queue::new();
     let table = pair_numbers();
     let numbers = Numbers { table: &table };
-    if let Some(competing) = first_competing(&numbers, rows, &useful, &mut queue) {
+    if let Some(competing) = first_competing(&numbers, rows, &used, &mut queue) {
         let pair = competing.pair;
         write_witness(witness, competing.of, pair.rivals, &queue, pair.at);
         return true;

@@ -5,4 +5,4 @@ use Rattle.competition.specs.Queue.{RestrainedIn}
 use Rattle.competition.proofs.search.first_competing.Given as goal
 
 abbrev pub invariant-loop-i : goal.invariant-loop-i
-invariant-loop-i l = (c : ℕ) → c < l.i → RestrainedIn (row_of l.rows.entries.now l.rows.begins.now c) l.useful c
+invariant-loop-i l = (c : ℕ) → c < l.i → RestrainedIn (row_of l.rows.entries.now l.rows.begins.now c) l.used c
