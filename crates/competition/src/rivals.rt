@@ -24,22 +24,15 @@ pub(crate) fn alike(w: u8, v: u8) -> bool
 fn is_other(e: Entry, f: Entry) -> bool
     ensures { IsTrue result ↔ IsOther e.0 f.0 }
 {
-    if e.tag() != f.tag() || e.by() == f.by() {
-        return false;
-    }
-    alike(e.ways(), f.ways())
+    e.tag() == f.tag() && e.by() != f.by() && alike(e.ways(), f.ways())
 }
 
 // Another type of e's tag, where both bear trees opened alike, by an entry of the row.
 fn rival_in(row: &[u32], e: u32) -> Option<TypeNo>
     ensures { RivalMeans row.now e result }
 {
-    for f in row {
-        if is_other(Entry(e), Entry(*f)) {
-            return Some(Entry(*f).by());
-        }
-    }
-    None
+    let other = row.iter().find(|f| is_other(Entry(e), Entry(**f)))?;
+    Some(Entry(*other).by())
 }
 
 // Rival steps from two states, by their rows.

@@ -49,10 +49,8 @@ fn rival_after(opening: &[u8; TYPES], tag: &[u8; TYPES], j: TypeNo) -> Option<Ty
     }
     let shared = Tag(tag[first]);
     for k in first + 1..TYPES {
-        if Tag(tag[k]) == shared {
-            if alike(ways, opening[k]) {
-                return Some(TypeNo(k as u8));
-            }
+        if Tag(tag[k]) == shared && alike(ways, opening[k]) {
+            return Some(TypeNo(k as u8));
         }
     }
     None
