@@ -39,6 +39,7 @@ fn search_type(numbers: &Numbers<'_>, rows: &Rows<'_>, a: TypeNo, queue: &mut Qu
     reached[0] = true;
     queue.restart();
     let mut at = 0;
+    // no `for`: the queue grows while the search goes over it
     while at < queue.count {
         let found = queue.found[at];
         let left = rows.row(a, found.first);

@@ -28,7 +28,7 @@ pub struct WitnessHead {
     pub word: usize,
 }
 
-// How many types the word to the pair at the place `at` has. The way back goes from a pair to the one it was found from.
+// How many types the word to the pair at the place `at` has. No `for`: the way back goes from a pair to the one it was found from.
 fn word_length(queue: &[Found; PAIRS], at: usize) -> usize
     requires { (at < most_pairs) × Linked queue.now at }
     ensures { (result ≡ length (word_to at queue.now at)) × (result ≤ at) }
@@ -42,7 +42,7 @@ fn word_length(queue: &[Found; PAIRS], at: usize) -> usize
     n
 }
 
-// The word of n types to the pair at the place `at`, from the end of the word back to its beginning.
+// The word of n types to the pair at the place `at`, from the end of the word back to its beginning; no `for`, as for its length.
 fn fill_word(out: &mut [u8], queue: &[Found; PAIRS], at: usize, n: usize)
     requires { (at < most_pairs) × Linked queue.now at × (n ≡ length (word_to at queue.now at)) × (n ≤ length out.old) }
     ensures { out.new ≡ word_to at queue.now at ++ drop n out.old }
