@@ -1,5 +1,4 @@
--- Document 02, request 03: "a constant table of 1,024 numbers, one for each ordered pair of states: its pair's number by document 01, whichever
--- state comes first".
+-- A constant table of 1,024 numbers, one for each ordered pair of states: its pair's number, whichever state comes first.
 use Rattle.std.specs.Prelude.{◌≡◌, List, ℕ, ◌+◌, ◌*◌, ◌<◌, length, get_or}
 use Rattle.sdtd.specs.Limits.{most_states}
 use Rattle.sdtd.specs.Competition.{pair_number}

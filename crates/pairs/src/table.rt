@@ -1,5 +1,5 @@
-// The table of pair numbers, "one for each ordered pair of states: its pair's number by document 01, whichever state comes first". It rises by
-// first state, then second: the numbers of the pairs (0, 0) to (0, 31), of (1, 0) to (1, 31), and so on.
+// The table of pair numbers: for each ordered pair of states its pair's number, whichever state comes first. It rises by first state, then
+// second: the numbers of the pairs (0, 0) to (0, 31), of (1, 0) to (1, 31), and so on.
 use crate::limits::ORDERED_PAIRS;
 
 pub const PAIR_NUMBERS: [u16; ORDERED_PAIRS] = [

@@ -8,6 +8,7 @@ ghost use Rattle.pairtable.specs.Lines.{lines_of, IsTableText};
 use pairs::pair_numbers;
 use std::alloc::{AllocError, Global};
 use std::fmt::Write;
+use std::io;
 
 // The lines of the numbers.
 fn lines(alloc: Global, numbers: &[u16]) -> Result<String, AllocError>
@@ -27,8 +28,7 @@ fn table_text(alloc: Global) -> Result<String, AllocError>
     lines(alloc, &pair_numbers())
 }
 
-fn main(rt: HostRuntime) -> anyhow::Result<()> {
+fn main(rt: HostRuntime) -> io::Result<()> {
     let text = table_text(rt.alloc())?;
-    print!(rt; "{text}")?;
-    Ok(())
+    print!(rt; "{text}")
 }
