@@ -1,7 +1,7 @@
 // The rows of entries that trimming lends.
-ghost use Rattle.std.specs.Prelude.{◌≡◌, suc, length, get_or};
+ghost use Rattle.std.specs.Prelude.{◌≡◌, length, get_or};
 ghost use Rattle.sdtd.specs.Limits.{most_steps};
-ghost use Rattle.schema.specs.Rows.{most_rows, RowsInside, row_of};
+ghost use Rattle.schema.specs.Rows.{RowsInside, row_of};
 
 use crate::rows::BEGINS;
 use crate::value::{STATES, STEPS};
@@ -14,7 +14,6 @@ pub struct Rows<'a> {
     pub begins: &'a [u16; BEGINS],
     pub ghost inside: { RowsInside begins.now },
     pub ghost sized: { length entries.now ≡ most_steps },
-    pub ghost begun: { length begins.now ≡ suc most_rows },
 }
 
 impl<'a> Rows<'a> {
@@ -22,10 +21,8 @@ impl<'a> Rows<'a> {
     fn begin(&self, i: usize) -> usize
         ensures { result ≡ get_or self.now.begins.now i 0 }
     {
-        if BEGINS <= i {
-            return 0;
-        }
-        usize::from(self.begins[i])
+        let begins = self.begins;
+        begins.get(i).map_or(0, |n| usize::from(*n))
     }
 
     // The row of the state p of the type a; one that would end before it begins has no entry.

@@ -6,7 +6,7 @@ ghost use Rattle.schema.specs.Value.{offset, step_at, steps_of};
 ghost use Rattle.schema.specs.Steps.{meant, left};
 
 use crate::span::Span;
-use crate::value::{STEPS, Schema, TYPES};
+use crate::value::{STEPS, Schema};
 use sdtd::TypeNo;
 
 // A step of a content automaton.
@@ -42,10 +42,7 @@ impl Schema {
         ensures is { result ≡ get_or self.now.steps a 0 }
         ensures small { result < 2 ^ 16 }
     {
-        if TYPES <= a {
-            return 0;
-        }
-        usize::from(self.steps[a])
+        self.steps.get(a).map_or(0, |n| usize::from(*n))
     }
 
     // Where the steps of a type stand, cut to the tables.
@@ -55,6 +52,7 @@ impl Schema {
     {
         let a = usize::from(a.0);
         let mut before = 0;
+        // A number that is no type may pass the table's end, so that its places are counted and not its entries.
         for b in 0..a {
             before += self.count(b);
         }
