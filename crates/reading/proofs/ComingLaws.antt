@@ -16,7 +16,8 @@ use Rattle.sdtd.specs.Limits.{most_types, most_states}
 use Rattle.sdtd.proofs.Basics.{cond_either}
 use Rattle.schema.specs.States.{member, insert, no_states}
 use Rattle.schema.proofs.Bits.{member_none, insert_below, member-insert}
-use Rattle.reading.specs.Coming.{Least, least, none_yet, join, Move, move, joins, gathered, move_where}
+use Rattle.reading.specs.declared.coming.Least.{Least}
+use Rattle.reading.specs.Coming.{least, none_yet, join, Move, move, joins, gathered, move_where}
 
 -- c has the smallest type of P, and the states that P has with it; none are kept where P has nothing, and then c is past every type
 pub record Smallest (P : ℕ → ℕ → Type 0) (c : Least) : Type 0 where

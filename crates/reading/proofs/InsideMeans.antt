@@ -29,7 +29,8 @@ use Rattle.schema.proofs.RowLaws.{Says, counted_from, row_says, row_has}
 use Rattle.reading.specs.declared.value.Reading.{Reading}
 use Rattle.reading.specs.Levels.{Within, inner_type, inner_set}
 use Rattle.reading.specs.Questions.{LeadsTo, CanOpen}
-use Rattle.reading.specs.Coming.{Least, none_yet, Move, move, joins, coming_of, coming_by, opens_in, entry_moves, row_moves, step_taken, step_moves}
+use Rattle.reading.specs.declared.coming.Least.{Least}
+use Rattle.reading.specs.Coming.{none_yet, Move, move, joins, coming_of, coming_by, opens_in, entry_moves, row_moves, step_taken, step_moves}
 use Rattle.reading.specs.Steps.{inner_by_rows, inner_by_steps}
 use Rattle.reading.specs.Asking.{SomeStep}
 use Rattle.reading.proofs.LevelLaws.{inner_below}

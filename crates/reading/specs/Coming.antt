@@ -9,15 +9,12 @@ use Rattle.schema.specs.Ways.{opens_by}
 use Rattle.schema.specs.Rows.{type_room, to_in, by_in, tag_in, ways_in, row_place}
 use Rattle.schema.specs.Value.{step_at, offset}
 use Rattle.schema.specs.declared.value.Schema.{Schema}
+use Rattle.reading.specs.declared.coming.Least.{Least}
 use Rattle.reading.specs.declared.value.Reading.{Reading}
 use Rattle.schema.specs.declared.state_set.StateSet.{StateSet}
 use Rattle.sdtd.specs.declared.TypeNo.{TypeNo}
 
 -- what came so far: the smallest type, and the states that it leads to
-pub record Least : Type 0 where
-  pub of : ℕ
-  pub kept : ℕ
-
 abbrev pub least : ℕ → ℕ → Least
 least of kept = record { of = of; kept = kept }
 

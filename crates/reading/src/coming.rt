@@ -5,7 +5,7 @@ ghost use Rattle.sdtd.specs.Tree.{plain, nil};
 ghost use Rattle.events.specs.Events.{kind_of};
 ghost use Rattle.schema.specs.States.{no_states};
 ghost use Rattle.schema.specs.Rows.{most_rows, RowsInside};
-ghost use Rattle.reading.specs.Coming.{least, joins, entry_moves, moves_up_to, row_moves, moves_by_rows, coming_of, coming_by, TypeUnder, Lowest};
+ghost use Rattle.reading.specs.Coming.{joins, entry_moves, moves_up_to, row_moves, moves_by_rows, coming_of, coming_by, TypeUnder, Lowest};
 ghost use Rattle.reading.specs.Coming.{kind_place, rotated_by, rotation, kind_sought, tag_sought, IsSought, join as joined};
 
 use events::Kind;
@@ -36,36 +36,94 @@ fn smaller(t: u32, was: u32) -> u32
     if t < was { t } else { was }
 }
 
-// A step by t to q, after what came so far: the same type adds the state, a smaller one replaces what came so far, a larger one changes nothing.
-// Compiled without a branch: the processor cannot foresee which of the three it is.
-#[tactic(auto, unfolding(crate::specs::Coming::join, schema::specs::States::insert))]
-pub(crate) fn join<'a>(of: &'a mut u32, kept: &'a mut u32, t: u32, q: u8)
-    requires { q < most_states }
-    ensures { least of.new kept.new ≡ joined (least of.old kept.old) t q }
-{
-    let was = *of;
-    let before = StateSet(kept_before(t, was, *kept));
-    // a state past the last one adds nothing
-    *kept = before.with(q + STATES * ((was < t) as u8)).0;
-    *of = smaller(t, was);
+// What came so far: the smallest type, and the states that it leads to.
+#[derive(Clone, Copy)]
+pub(crate) struct Least {
+    pub of: u32,
+    pub kept: u32,
 }
 
-// The smallest type of all, if one came.
-#[tactic(auto, unfolding(crate::specs::Coming::coming_of))]
-pub(crate) fn coming_of(of: TypeNo, kept: u32) -> Coming
-    ensures { result ≡ coming_of (least of.0 kept) }
-{
-    if kept == StateSet::NONE.0 {
-        return None;
+// no type came yet: a number past every type
+pub(crate) const NONE_YET: Least = Least {
+    of: TYPES as u32,
+    kept: StateSet::NONE.0,
+};
+
+impl Least {
+    // A step by t to q: the same type adds the state, a smaller one replaces what came so far, a larger one changes nothing.
+    // Compiled without a branch: the processor cannot foresee which of the three it is.
+    #[tactic(auto, unfolding(crate::specs::Coming::join, schema::specs::States::insert))]
+    pub(crate) fn join(&mut self, t: u32, q: u8)
+        requires { q < most_states }
+        ensures { self.new ≡ joined self.old t q }
+    {
+        let was = self.of;
+        let before = StateSet(kept_before(t, was, self.kept));
+        // a state past the last one adds nothing
+        self.kept = before.with(q + STATES * ((was < t) as u8)).0;
+        self.of = smaller(t, was);
     }
-    Some((of, StateSet(kept)))
-}
 
-// A table's entry as a place: a parameter is known to fit its type, and an element behind a reference is not.
-fn place(n: u16) -> usize
-    ensures { result ≡ n }
-{
-    n as usize
+    // An entry, if it can be opened.
+    #[tactic(auto, unfolding(crate::specs::Coming::joins, crate::specs::Coming::join, schema::specs::States::insert))]
+    fn join_entry(&mut self, e: Entry, o: Sought, short: bool)
+        requires { IsSought o.0 × (self.old.of ≤ most_types) }
+        ensures { self.new ≡ joins (entry_moves (kind_sought o.0) (tag_sought o.0) e.0) self.old }
+    {
+        let t = type_under(e, o);
+        if !short {
+            // In a long row the entries that change nothing are mostly foreseen.
+            if self.of < t {
+                return;
+            }
+        }
+        self.join(t, e.to());
+    }
+
+    // The entries from start up to end that can be opened.
+    #[tactic(auto, unfolding(crate::specs::Coming::joins, crate::specs::Coming::gathered, crate::specs::Coming::join))]
+    fn join_entries(&mut self, entries: &[u32; STEPS], start: usize, end: usize, o: Sought)
+        requires { (start ≤ most_steps) × (end ≤ most_steps) × IsSought o.0 × (self.old.of ≤ most_types) }
+        ensures { self.new ≡ joins (moves_up_to entries.now (kind_sought o.0) (tag_sought o.0) start end) self.old }
+    {
+        let short = end <= start + SHORT;
+        let mut i = start;
+        while i < end {
+            self.join_entry(Entry(entries[i]), o, short);
+            i += 1;
+        }
+    }
+
+    // The row i.
+    fn join_row<'a>(
+        &mut self,
+        entries: &'a [u32; STEPS],
+        begins: &'a [u16; BEGINS],
+        i: usize,
+        o: Sought,
+    )
+        requires { (i < most_rows) × RowsInside begins.now × IsSought o.0 × (self.old.of ≤ most_types) }
+        ensures { self.new ≡ joins (row_moves entries.now begins.now (kind_sought o.0) (tag_sought o.0) i) self.old }
+    {
+        self.join_entries(
+            entries,
+            usize::from(begins[i]),
+            usize::from(begins[i + 1]),
+            o,
+        );
+    }
+
+    // The smallest type of all, if one came.
+    #[tactic(auto, unfolding(crate::specs::Coming::coming_of))]
+    pub(crate) fn coming(self) -> Coming
+        requires { self.of ≤ most_types }
+        ensures { result ≡ coming_of self }
+    {
+        if self.kept == StateSet::NONE.0 {
+            return None;
+        }
+        Some((TypeNo(self.of as u8), StateSet(self.kept)))
+    }
 }
 
 // What one more in the second binary digit of an entry's ways adds, counted from the type's place.
@@ -113,63 +171,8 @@ fn type_under(e: Entry, o: Sought) -> u32
     rotated(e, o.0)
 }
 
-// An entry, if it can be opened, after what came so far.
-#[tactic(auto, unfolding(crate::specs::Coming::joins, crate::specs::Coming::join, schema::specs::States::insert))]
-fn join_entry<'a>(e: Entry, o: Sought, short: bool, of: &'a mut u32, kept: &'a mut u32)
-    requires { IsSought o.0 × (of.old ≤ most_types) }
-    ensures { least of.new kept.new
-        ≡ joins (entry_moves (kind_sought o.0) (tag_sought o.0) e.0) (least of.old kept.old) }
-{
-    let t = type_under(e, o);
-    if !short {
-        // In a long row the entries that change nothing are mostly foreseen.
-        if *of < t {
-            return;
-        }
-    }
-    join(of, kept, t, e.to());
-}
-
 // A row of so many entries or fewer is short.
 const SHORT: usize = 8;
-
-// The entries from start up to end that can be opened, after what came so far.
-#[tactic(auto, unfolding(crate::specs::Coming::joins, crate::specs::Coming::gathered, crate::specs::Coming::join))]
-fn join_entries<'a>(
-    entries: &'a [u32; STEPS],
-    start: usize,
-    end: usize,
-    o: Sought,
-    of: &'a mut u32,
-    kept: &'a mut u32,
-)
-    requires { (start ≤ most_steps) × (end ≤ most_steps) × IsSought o.0 × (of.old ≤ most_types) }
-    ensures { least of.new kept.new
-        ≡ joins (moves_up_to entries.now (kind_sought o.0) (tag_sought o.0) start end) (least of.old kept.old) }
-{
-    let short = end <= start + SHORT;
-    let mut i = start;
-    while i < end {
-        join_entry(Entry(entries[i]), o, short, of, kept);
-        i += 1;
-    }
-}
-
-// The row i, after what came so far.
-fn join_row<'a>(
-    entries: &'a [u32; STEPS],
-    begins: &'a [u16; BEGINS],
-    i: usize,
-    o: Sought,
-    of: &'a mut u32,
-    kept: &'a mut u32,
-)
-    requires { (i < most_rows) × RowsInside begins.now × IsSought o.0 × (of.old ≤ most_types) }
-    ensures { least of.new kept.new
-        ≡ joins (row_moves entries.now begins.now (kind_sought o.0) (tag_sought o.0) i) (least of.old kept.old) }
-{
-    join_entries(entries, place(begins[i]), place(begins[i + 1]), o, of, kept);
-}
 
 // The lowest state of a set that has one.
 fn lowest(set: u32) -> u32
@@ -199,16 +202,15 @@ pub(crate) fn coming_rows<'a>(
     ensures { result ≡ coming_by (moves_by_rows entries.now begins.now a.0 states (kind_sought o.0) (tag_sought o.0)) }
 {
     let first = STATES as usize * a.0 as usize;
-    let mut of = TYPES as u32;
-    let mut kept = StateSet::NONE.0;
+    let mut least = NONE_YET;
     let mut left = states;
     let mut p = 0;
     while left != 0 {
         let q = lowest(left);
         p += q as usize;
-        join_row(entries, begins, first + p, o, &mut of, &mut kept);
+        least.join_row(entries, begins, first + p, o);
         left = past(left, q);
         p += 1;
     }
-    coming_of(TypeNo(of as u8), kept)
+    least.coming()
 }

@@ -10,7 +10,7 @@ ghost use Rattle.reading.specs.Heads.{head_tag, head_accepting, head_nillable, h
 
 use crate::coming::{Opening, Sought, sought_of};
 use events::Kind;
-use schema::{ROOTS, Schema, TAGS, TYPE_ROOM, TYPES, opens_as_nil, opens_plainly};
+use schema::{Schema, TAGS, TYPE_ROOM, TYPES, opens_as_nil, opens_plainly};
 use sdtd::{Tag, TypeNo};
 
 // Two numbers for each type: its tag and its accepting states. Then for plain openings a number for each tag, 0 where no root opens under it, else
@@ -87,43 +87,27 @@ fn with_root(n: u32, a: TypeNo) -> u32
 
 // The root type a opens under its tag so, if it bears a tree opened so and no smaller root of the tag does.
 #[tactic(auto, unfolding(crate::specs::Heads::add_root, crate::specs::Heads::with_root))]
-fn add_root<'a>(
-    heads: &'a mut [u32; HEADS],
-    tag: &'a [u8; TYPES],
-    ways: &'a [u8; TYPES],
-    kind: Kind,
-    a: TypeNo,
-)
-    requires { (a.0 < most_types) × (get_or tag.now a.0 0 < most_tags) }
-    ensures { heads.new ≡ add_root heads.old tag.now ways.now (kind_of kind) a.0 }
+fn add_root(heads: &mut [u32; HEADS], schema: &Schema, ways: &[u8; TYPES], kind: Kind, a: TypeNo)
+    requires { (a.0 < most_types) × (get_or schema.now.tag a.0 0 < most_tags) }
+    ensures { heads.new ≡ add_root heads.old schema.now.tag ways.now (kind_of kind) a.0 }
 {
-    let i = a.0 as usize;
+    let i = usize::from(a.0);
     if !opens_in(ways, i, kind) {
         return;
     }
-    let tag = Tag(tag[i]);
+    let tag = Tag(schema.tag[i]);
     let at = head_root(sought_of(Opening { kind, tag }));
     heads[at] = with_root(heads[at], a);
 }
 
-// So does each of the first `roots` types of the table.
+// So does each of the root types.
 #[tactic(auto, unfolding(crate::specs::Heads::add_roots, crate::specs::Heads::add_root, crate::specs::Heads::with_root))]
-fn lay_roots<'a>(
-    heads: &'a mut [u32; HEADS],
-    root: [u8; ROOTS],
-    roots: u8,
-    tag: &'a [u8; TYPES],
-    ways: &'a [u8; TYPES],
-    kind: Kind,
-)
-    requires { RootsFit root roots tag.now }
-    ensures { heads.new ≡ add_roots heads.old tag.now ways.now (kind_of kind) root roots }
+fn lay_roots(heads: &mut [u32; HEADS], schema: &Schema, ways: &[u8; TYPES], kind: Kind)
+    requires { RootsFit schema.now.root schema.now.roots schema.now.tag }
+    ensures { heads.new ≡ add_roots heads.old schema.now.tag ways.now (kind_of kind) schema.now.root schema.now.roots }
 {
-    let n = roots as usize;
-    let mut i = 0;
-    while i < n {
-        add_root(heads, tag, ways, kind, TypeNo(root[i]));
-        i += 1;
+    for i in 0..usize::from(schema.roots) {
+        add_root(heads, schema, ways, kind, TypeNo(schema.root[i]));
     }
 }
 
@@ -133,9 +117,7 @@ pub(crate) fn heads(schema: &Schema, ways: &[u8; TYPES]) -> [u32; HEADS]
     ensures { HeadsMean schema.now result }
 {
     let mut all = [0u32; HEADS];
-    let mut a = 0;
-    while a < schema.types {
-        let i = a as usize;
+    for i in 0..usize::from(schema.types) {
         lay_head(
             &mut all,
             i,
@@ -143,23 +125,8 @@ pub(crate) fn heads(schema: &Schema, ways: &[u8; TYPES]) -> [u32; HEADS]
             schema.nillable[i],
             schema.accepting[i],
         );
-        a += 1;
     }
-    lay_roots(
-        &mut all,
-        schema.root,
-        schema.roots,
-        &schema.tag,
-        ways,
-        Kind::Plain,
-    );
-    lay_roots(
-        &mut all,
-        schema.root,
-        schema.roots,
-        &schema.tag,
-        ways,
-        Kind::Nil,
-    );
+    lay_roots(&mut all, schema, ways, Kind::Plain);
+    lay_roots(&mut all, schema, ways, Kind::Nil);
     all
 }

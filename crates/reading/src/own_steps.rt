@@ -5,9 +5,9 @@ ghost use Rattle.events.specs.Events.{kind_of};
 ghost use Rattle.schema.specs.States.{member};
 ghost use Rattle.schema.specs.Steps.{meant};
 ghost use Rattle.schema.specs.Value.{offset, step_at};
-ghost use Rattle.reading.specs.Coming.{least, joins, gathered, step_taken, step_moves, moves_by_steps, coming_by};
+ghost use Rattle.reading.specs.Coming.{joins, gathered, step_taken, step_moves, moves_by_steps, coming_by};
 
-use crate::coming::{Coming, Opening, coming_of, join};
+use crate::coming::{Coming, Least, NONE_YET, Opening};
 use crate::heads::opens_in;
 use schema::{LiveStates, Schema, Span, StateSet, Step, TYPES};
 use sdtd::{Tag, TypeNo};
@@ -54,18 +54,17 @@ fn join_step<'a>(
     ways: &'a [u8; TYPES],
     asked: Asked,
     step: Step,
-    of: &'a mut u32,
-    kept: &'a mut u32,
+    least: &'a mut Least,
 )
-    ensures { least of.new kept.new
+    ensures { least.new
         ≡ joins (step_moves tag.now ways.now asked.own.0 asked.states.0 (kind_of asked.opening.kind) asked.opening.tag.0
         (meant step))
-        (least of.old kept.old) }
+        least.old }
 {
     if !step_taken(tag, ways, asked, step) {
         return;
     }
-    join(of, kept, u32::from(step.by.0), step.to);
+    least.join(u32::from(step.by.0), step.to);
 }
 
 // What comes next by the steps of the span.
@@ -73,12 +72,11 @@ fn coming_span(schema: &Schema, ways: &[u8; TYPES], asked: Asked, span: Span) ->
     ensures { result ≡ coming_by (gathered (λ i. step_moves schema.now.tag ways.now asked.own.0 asked.states.0 (kind_of asked.opening.kind)
         asked.opening.tag.0 (step_at schema.now.from schema.now.by schema.now.to i)) span.start span.n) }
 {
-    let mut of = TYPES as u32;
-    let mut kept = StateSet::NONE.0;
+    let mut least = NONE_YET;
     for step in schema.steps_in(span) {
-        join_step(&schema.tag, ways, asked, step, &mut of, &mut kept);
+        join_step(&schema.tag, ways, asked, step, &mut least);
     }
-    coming_of(TypeNo(of as u8), kept)
+    least.coming()
 }
 
 // What comes next from the states of the set, by the steps of the type a; `found` has the live states of each type, and in which ways it bears a

@@ -11,7 +11,8 @@ use Rattle.sdtd.specs.Limits.{most_states}
 use Rattle.sdtd.proofs.Basics.{is_true}
 use Rattle.schema.specs.States.{member}
 use Rattle.schema.proofs.Bits.{member_below}
-use Rattle.reading.specs.Coming.{Least, least, Move, joins, coming_of, gathered, kind_sought, tag_sought, row_moves, Lowest}
+use Rattle.reading.specs.declared.coming.Least.{Least}
+use Rattle.reading.specs.Coming.{Move, joins, coming_of, gathered, kind_sought, tag_sought, row_moves, Lowest}
 use Rattle.reading.specs.declared.coming.Sought.{Sought}
 use Rattle.reading.proofs.ComingLaws.{joins_most, joins_turn, gathered_past}
 use Rattle.reading.proofs.coming.coming_rows.Invariants.{moves}
@@ -87,12 +88,12 @@ loop-left-preserved c =
       v.4,
       v.5,
       joins_most _ _ _ c.join_row.ensures v.6,
-      turn a.states c.loop-left.p c.loop-left.left v.1 _ low v.2 a.entries.now a.begins.now a.o (most_states * a.a.0) (least c.loop-left.of c.loop-left.kept) _ _
+      turn a.states c.loop-left.p c.loop-left.left v.1 _ low v.2 a.entries.now a.begins.now a.o (most_states * a.a.0) c.loop-left.least _ _
           c.join_row.ensures v.7,
     )
 
 pub returns : goal.returns
 returns c =
     let a = c.args in
-    c.coming_of.ensures
+    c.coming.ensures
     ∙ ap coming_of (done a.entries.now a.begins.now a.states a.o (most_states * a.a.0) c.loop-left.p c.loop-left.left _ _ c.loop-left.invariant.1 c.loop-left-test.false c.loop-left.invariant.7)

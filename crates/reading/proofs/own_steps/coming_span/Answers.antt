@@ -16,5 +16,5 @@ returns c =
     let v = c.args.schema.now in
     let f = moves v.tag c.args.ways.now c.args.asked in
     let s = c.args.span in
-    c.coming_of.ensures ∙ ap coming_of (joins_none_left f _ c.in-None.ensures.steps.0 c.loop-step.invariant.1)
+    c.coming.ensures ∙ ap coming_of (joins_none_left f _ c.in-None.ensures.steps.0 c.loop-step.invariant.1)
     ∙ ap coming_by (sym (moves_gathered f v.from v.by v.to s.start s.n))

@@ -8,7 +8,7 @@ use Rattle.events.specs.Events.{kind_of}
 use Rattle.schema.specs.Steps.{left}
 use Rattle.schema.specs.Value.{steps_of}
 use Rattle.reading.specs.declared.own_steps.Asked.{Asked}
-use Rattle.reading.specs.Coming.{least, none_yet, Move, joins, step_moves}
+use Rattle.reading.specs.Coming.{none_yet, Move, joins, step_moves}
 use Rattle.reading.proofs.ComingLaws.{moves_of}
 use Rattle.reading.proofs.own_steps.coming_span.Given as goal
 
@@ -17,6 +17,6 @@ moves tag ways asked s = step_moves tag ways asked.own.0 asked.states.0 (kind_of
 
 abbrev pub invariant-loop-step : goal.invariant-loop-step
 invariant-loop-step l =
-    (l.of ≤ most_types)
-    × (joins (moves_of (moves l.schema.tag l.ways l.asked) (left l.step-iterator)) (least l.of l.kept)
+    (l.least.of ≤ most_types)
+    × (joins (moves_of (moves l.schema.tag l.ways l.asked) (left l.step-iterator)) l.least
     ≡ joins (moves_of (moves l.schema.tag l.ways l.asked) (steps_of l.schema.from l.schema.by l.schema.to l.fn.span.start l.fn.span.n)) none_yet)
