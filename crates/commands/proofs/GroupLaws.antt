@@ -1,12 +1,13 @@
 -- The uses that steps from a state lead to, grouped by their types, give the automaton's steps by from, type, to.
-use mathlib.Core.Path.{◌≡◌, refl, sym, ap, ap₂, ◌∙◌}
+use mathlib.Core.Path.{◌≡◌, refl, sym, ap, ◌∙◌}
 use mathlib.Core.Logic.{◌↔◌, ◌⊎◌, inl, inr, ⊎_elim}
-use mathlib.Core.Bool.{Bool, true, false, cond, ◌&&◌, ◌||◌, or-false, and_comm}
+use mathlib.Core.Bool.{Bool, true, false, cond, ◌&&◌, ◌||◌, and_comm}
 use mathlib.Core.List.{List, [], ◌∷◌, append-nil}
 use Prim.Native.Nat.{ℕ, zero, suc, ◌+◌, ◌-◌, ◌%◌, ◌^◌, ◌≤◌, ◌<◌}
 use native.Mathlib.Decide.{ℕ_discrete}
 use native.Mathlib.Nat.{div_self}
 use native.Mathlib.Omega.{arith}
+use borrow.Author.Tests.{eq-eqb, ne_eqb}
 use lib.Bits.{bit_or}
 use lib.Dec.{T, eqb}
 use lib.ListN.{length, get_or, set}
@@ -14,7 +15,7 @@ use lib.Pow.{pow_pos}
 use lib.Seq.{get_or-set_same, get_or-set_other}
 use Rattle.sdtd.specs.Limits.{most_types, most_states}
 use Rattle.sdtd.specs.Schema.{Step, step}
-use Rattle.sdtd.proofs.Basics.{is_true, is_false, same_test, not_both}
+use Rattle.sdtd.proofs.Basics.{is_false, same_test, not_both}
 use Rattle.sdtd.proofs.Tests.{itself, eq_means, or_means}
 use Rattle.schema.specs.States.{member, insert}
 use Rattle.schema.proofs.Bits.{member-insert}
@@ -24,7 +25,7 @@ use Rattle.sdtd.specs.Lists.{of_each}
 use Rattle.expression.specs.Tests.{leads, steps_by, steps_from, all_steps}
 use Rattle.expression.specs.Answer.{set_of}
 use Rattle.schema.proofs.LowestState.{without_own, without_other}
-use Rattle.expression.proofs.SetLaws.{member_or}
+use Rattle.expression.proofs.SetLaws.{listed, member_or}
 use Rattle.expression.proofs.TestLaws.{leads_below}
 use Rattle.expression.proofs.TestSets.{member_set}
 use Rattle.commands.specs.Laying.{Grouped, of_members, laid_by, laid_from, laid_steps}
@@ -48,8 +49,8 @@ use_more t i s j q l b m = elim (ℕ_discrete i j) [
 ]
 
 -- the use s is put into the set of its type, and taken out of those that are left
-module _ (types sets : List ℕ) (s rest : ℕ) (long : length sets ≡ most_types) (below : (k : ℕ) → get_or sets k 0 < 2 ^ most_states)
-    (few : s < most_states) (here : T (member s rest)) where
+module _ (types sets : List ℕ) (s : ℕ) (left : List ℕ) (long : length sets ≡ most_types) (below : (k : ℕ) → get_or sets k 0 < 2 ^ most_states)
+    (few : s < most_states) where
   abbrev own : ℕ
   own = get_or types s 0 % most_types
 
@@ -57,20 +58,27 @@ module _ (types sets : List ℕ) (s rest : ℕ) (long : length sets ≡ most_typ
   more j q = use_more sets own s j q (omega arith) (below own) few
 
   pub group_turn : (j q : ℕ)
-      → (member q (get_or (set sets own (insert s (get_or sets own 0))) j 0) || (member q (rest - 2 ^ s) && eqb (get_or types q 0 % most_types) j))
-      ≡ (member q (get_or sets j 0) || (member q rest && eqb (get_or types q 0 % most_types) j))
+      → (member q (get_or (set sets own (insert s (get_or sets own 0))) j 0) || (listed q left && eqb (get_or types q 0 % most_types) j))
+      ≡ (member q (get_or sets j 0) || (listed q (s ∷ left) && eqb (get_or types q 0 % most_types) j))
   group_turn j q = elim (ℕ_discrete q s) [
     | yes e ↦
         let m = or_means (itself (member s (get_or sets j 0))) (eq_means own j) in
         let grown : member s (get_or (set sets own (insert s (get_or sets own 0))) j 0) ≡ (member s (get_or sets j 0) || eqb own j) =
         same_test _ _ (λ h. m.passes (⊎_elim inl (λ p. inr p.1) ((more j s).0 h)))
         (λ h. (more j s).1 (⊎_elim inl (λ d. inr (refl, d)) (m.says h))) in
-        rw (e, without_own s rest here, is_true (member s rest) here) (or-false _ ∙ grown)
+        rw (e, eq-eqb s s refl, grown) (once (member s (get_or sets j 0)) (eqb own j) (listed s left))
     | no d ↦
         let same : member q (get_or (set sets own (insert s (get_or sets own 0))) j 0) ≡ member q (get_or sets j 0) =
         same_test _ _ (λ h. ⊎_elim (λ k. k) (λ p. absurd (d p.0)) ((more j q).0 h)) (λ h. (more j q).1 (inl h)) in
-        ap₂ (λ (x y : Bool). x || (y && eqb (get_or types q 0 % most_types) j)) same (without_other s rest here q d)
+        rw (ne_eqb q s d, same)
   ]
+    where
+      once : (a b c : Bool) → ((a || b) || (c && b)) ≡ (a || b)
+      once true b c = refl
+      once false true true = refl
+      once false true false = refl
+      once false false true = refl
+      once false false false = refl
 
 -- .. and its type is noted
 pub named_turn : (sets : List ℕ) (i v m : ℕ) → ((j : ℕ) → member j m ≡ false → get_or sets j 0 ≡ 0) → (j : ℕ) → member j (bit_or m (2 ^ i)) ≡ false

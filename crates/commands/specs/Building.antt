@@ -74,22 +74,35 @@ seen_by s c =
 abbrev pub failed_by : Builder → Command → ℕ
 failed_by s c = failed (seen_by s c) c
 
--- one type more, the type a, of this tag and state count
-abbrev pub with_type : Schema → ℕ → ℕ → ℕ → Schema
-with_type v a g k = record v { types = a + 1; tag = set v.tag a g; states = set v.states a k }
+-- one type more, of this tag and state count
+abbrev pub type_added : Builder → ℕ → ℕ → Builder
+type_added s g k =
+    let v = s.schema in
+    let a = v.types % most_types in
+    record s {
+      schema = record v { types = a + 1; tag = set v.tag a g; states = set v.states a k };
+      phase = cond (eqb k 0) InExpression InBlock;
+    }
 
--- one accepting state more of the type a
+-- one accepting state more of the block that the file is in
 abbrev pub with_accepting : Schema → ℕ → ℕ → Schema
 with_accepting v a q = record v { accepting = set v.accepting a (insert q (get_or v.accepting a 0)) }
 
--- one step more of the type a, at the place n
-abbrev pub with_one_step : Schema → ℕ → ℕ → ℕ → ℕ → ℕ → Schema
-with_one_step v a n p j q =
-    record v {
-      steps = set v.steps a (get_or v.steps a 0 % most_steps + 1);
-      from = set v.from n p;
-      by = set v.by n j;
-      to = set v.to n q;
+-- one step more of the block that the file is in
+abbrev pub step_added : Builder → ℕ → ℕ → ℕ → Builder
+step_added s p j q =
+    let v = s.schema in
+    let a = last_type v.types in
+    let n = s.steps % most_steps in
+    record s {
+      schema =
+          record v {
+            steps = set v.steps a (get_or v.steps a 0 % most_steps + 1);
+            from = set v.from n p;
+            by = set v.by n j;
+            to = set v.to n q;
+          };
+      steps = n + 1;
     }
 
 -- one root more, behind the others
@@ -109,12 +122,9 @@ named s a i = record s { places = place_named a i s.places; bound = bound_named 
 -- what is built after the command at the place i that passed its questions
 unfoldable pub built : Builder → ℕ → Command → Builder
 built s i (Tags n) = record s { schema = record (s.schema) { tags = n }; phase = BeforeTypes }
-built s i (TypeBlock g k) =
-    record s { schema = with_type s.schema (s.schema.types % most_types) g.0 k; phase = cond (eqb k 0) InExpression InBlock }
+built s i (TypeBlock g k) = type_added s g.0 k
 built s i (Final q) = record s { schema = with_accepting s.schema (last_type s.schema.types) q }
-built s i (Step p j q) =
-    let n = s.steps % most_steps in
-    named (record s { schema = with_one_step s.schema (last_type s.schema.types) n p j.0 q; steps = n + 1 }) j.0 i
+built s i (Step p j q) = named (step_added s p j.0 q) j.0 i
 built s i (Root a) = record s { schema = with_root s.schema a.0; phase = AfterRoot }
 built s i Nil = record s { schema = record (s.schema) { nillable = set s.schema.nillable (last_type s.schema.types) true } }
 built s i Done = record s { phase = AfterDone }

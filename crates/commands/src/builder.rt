@@ -4,13 +4,13 @@ ghost use Rattle.std.specs.List.{fold};
 ghost use Rattle.sdtd.specs.Limits.{most_types};
 ghost use Rattle.sdtd.specs.Answer.{number_told};
 ghost use Rattle.schema.specs.Steps.{left};
-ghost use Rattle.commands.specs.Building.{nothing_built, last_type, found_in, step_given, root_among, given, seen_by, failed_by, built, named, unknown};
+ghost use Rattle.commands.specs.Building.{nothing_built, last_type, found_in, step_given, root_among, given, seen_by, failed_by, type_added, step_added, built, named, unknown};
 
 use crate::phase::Phase;
 use crate::questions::Seen;
 use command::Command;
 use schema::{ROOTS, STEPS, Schema, StateSet, Step, Steps, TYPES, root_types};
-use sdtd::{Refused, TypeNo};
+use sdtd::{Refused, Tag, TypeNo};
 
 // the most types and the most roots, as bytes; the most steps, as a type's count of them
 pub(crate) const TYPE_NUMBERS: u8 = TYPES as u8;
@@ -51,7 +51,7 @@ impl Builder {
     pub fn last_type(&self) -> usize
         ensures { result ≡ last_type self.now.schema.types }
     {
-        ((self.schema.types % TYPE_NUMBERS + LAST_TYPE) % TYPE_NUMBERS) as usize
+        usize::from((self.schema.types % TYPE_NUMBERS + LAST_TYPE) % TYPE_NUMBERS)
     }
 
     // Has the block that the file is in this step? Its steps are the last.
@@ -71,11 +71,8 @@ impl Builder {
         ensures { result ≡ root_among self.now.schema.root self.now.schema.roots a.0 }
     {
         let marked = root_types(self.schema.root, self.schema.roots);
-        let i = a.0 as usize;
-        if TYPES <= i {
-            return false;
-        }
-        marked[i]
+        let i = usize::from(a.0);
+        i < TYPES && marked[i]
     }
 
     // Has the block that the file is in the command's STEP or NIL already, or the file the command's ROOT?
@@ -126,29 +123,18 @@ impl Builder {
                 self.schema.tags = count;
                 self.phase = Phase::BeforeTypes;
             }
-            Command::TypeBlock(tag, states) => {
-                let next = self.schema.types % TYPE_NUMBERS;
-                self.schema.types = next + 1;
-                self.schema.tag[next as usize] = tag.0;
-                self.schema.states[next as usize] = states;
-                self.phase = Phase::of_block(states);
-            }
+            Command::TypeBlock(tag, states) => self.add_type(tag, states),
             Command::Final(state) => {
                 self.schema.accepting[last] = StateSet(self.schema.accepting[last]).with(state).0;
             }
             Command::Step(from, by, to) => {
-                let next = self.steps % STEPS;
-                self.steps = next + 1;
-                self.schema.steps[last] = self.schema.steps[last] % MOST_COUNT + 1;
-                self.schema.from[next] = from;
-                self.schema.by[next] = by.0;
-                self.schema.to[next] = to;
+                self.add_step(Step { from, by, to });
                 self.name(by, at);
             }
             Command::Root(root) => {
                 let next = self.schema.roots % MOST_ROOTS;
                 self.schema.roots = next + 1;
-                self.schema.root[next as usize] = root.0;
+                self.schema.root[usize::from(next)] = root.0;
                 self.phase = Phase::AfterRoot;
             }
             Command::Nil => self.schema.nillable[last] = true,
@@ -157,11 +143,35 @@ impl Builder {
         }
     }
 
+    // One type more, of this tag and state count.
+    fn add_type(&mut self, tag: Tag, states: u8)
+        ensures { self.new ≡ type_added self.old tag.0 states }
+    {
+        let next = self.schema.types % TYPE_NUMBERS;
+        self.schema.types = next + 1;
+        self.schema.tag[usize::from(next)] = tag.0;
+        self.schema.states[usize::from(next)] = states;
+        self.phase = Phase::of_block(states);
+    }
+
+    // One step more of the block that the file is in.
+    fn add_step(&mut self, step: Step)
+        ensures { self.new ≡ step_added self.old step.from step.by.0 step.to }
+    {
+        let last = self.last_type();
+        let next = self.steps % STEPS;
+        self.steps = next + 1;
+        self.schema.steps[last] = self.schema.steps[last] % MOST_COUNT + 1;
+        self.schema.from[next] = step.from;
+        self.schema.by[next] = step.by.0;
+        self.schema.to[next] = step.to;
+    }
+
     // The type is named at this place.
     pub fn name(&mut self, a: TypeNo, at: usize)
         ensures { self.new ≡ named self.old a.0 at }
     {
-        let named = (a.0 % TYPE_NUMBERS) as usize;
+        let named = usize::from(a.0 % TYPE_NUMBERS);
         let first = self.places[named];
         self.places[named] = first.min(at);
         self.bound = self.bound.max(named + 1);

@@ -14,21 +14,17 @@ use sdtd::{Refusal, Refused, TypeNo};
 // the states that an automaton can have
 const ROOM: usize = STATES as usize;
 
-// Puts the uses in the set into the sets of their types, which are empty before; gives the set of these types. At each turn `rest` loses its
-// smallest use.
+// Puts the uses in the set into the sets of their types, which are empty before; gives the set of these types.
 fn group<'a>(set: u32, types: &'a [u8; ROOM], sets: &'a mut [u32; TYPES]) -> u64
     requires { (length sets.old ≡ most_types) × ((k : ℕ) → get_or sets.old k 0 ≡ 0) }
     ensures { Grouped set types.now sets.new result }
 {
     let mut named = 0u64;
-    let mut rest = set;
-    while rest != 0 {
-        let q = u32::trailing_zeros(rest) as u8;
-        let j = types[q as usize] % TYPE_NUMBERS;
-        let grown = StateSet(sets[j as usize]).with(q);
-        sets[j as usize] = grown.0;
-        named = named | 1u64 << (j as u32);
-        rest = rest & (rest - 1);
+    for q in StateSet(set).states() {
+        let j = usize::from(types[usize::from(q)] % TYPE_NUMBERS);
+        let grown = StateSet(sets[j]).with(q);
+        sets[j] = grown.0;
+        named |= 1u64 << (j as u32);
     }
     named
 }
@@ -92,6 +88,7 @@ impl Builder {
         ensures { LaidAs (laid_from types.now p set) self.old self.new
             × (length sets.new ≡ most_types) × ((k : ℕ) → get_or sets.new k 0 ≡ 0) }
     {
+        // A set of types has no iterator: one for this loop alone would be no shorter. At each turn `rest` loses its smallest type.
         let mut rest = group(set, types, sets);
         while rest != 0 {
             let j = u64::trailing_zeros(rest) as u8;
