@@ -15,7 +15,7 @@ use sdtd::{Refusal, Refused, TypeNo};
 const ROOM: usize = STATES as usize;
 
 // Puts the uses in the set into the sets of their types, which are empty before; gives the set of these types.
-fn group<'a>(set: u32, types: &'a [u8; ROOM], sets: &'a mut [u32; TYPES]) -> u64
+fn group(set: u32, types: &[u8; ROOM], sets: &mut [u32; TYPES]) -> u64
     requires { (length sets.old ≡ most_types) × ((k : ℕ) → get_or sets.old k 0 ≡ 0) }
     ensures { Grouped set types.now sets.new result }
 {
@@ -77,13 +77,7 @@ impl Builder {
     }
 
     // The steps from the state p, to the uses in the set, type by type; `sets` are empty before and after.
-    fn lay_from<'a>(
-        &'a mut self,
-        set: u32,
-        p: u8,
-        types: &'a [u8; ROOM],
-        sets: &'a mut [u32; TYPES],
-    )
+    fn lay_from(&mut self, set: u32, p: u8, types: &[u8; ROOM], sets: &mut [u32; TYPES])
         requires { (self.old.steps ≤ most_steps + 1) × (length sets.old ≡ most_types) × ((k : ℕ) → get_or sets.old k 0 ≡ 0) }
         ensures { LaidAs (laid_from types.now p set) self.old self.new
             × (length sets.new ≡ most_types) × ((k : ℕ) → get_or sets.new k 0 ≡ 0) }

@@ -86,9 +86,6 @@ returns-then-at-file c =
     let done : c.loop-built.built.phase ≡ AfterDone = search rules in
     rw c.at-then-at-file.ensures (answer_stopped _ (Err _) (reads_over c.loop-built.invariant done (omega arith)) refl)
 
-pub unknown-requires : goal.unknown-requires
-unknown-requires c = c.loop-built.invariant.named.bound_most
-
 pub returns-in-Some : goal.returns-in-Some
 returns-in-Some c =
     let done : c.loop-built.built.phase ≡ AfterDone = search rules in

@@ -1,6 +1,6 @@
 -- The loop's invariant: the sets so far, with the uses that are left, have the whole set's uses.
-use mathlib.Core.Path.{◌≡◌, refl, sym, ◌∙◌}
-use mathlib.Core.Bool.{Bool, true, false, ◌||◌, or-false}
+use mathlib.Core.Path.{◌≡◌, refl, ◌∙◌}
+use mathlib.Core.Bool.{Bool, true, false, ◌||◌}
 use mathlib.Core.List.{List, ◌∷◌}
 use Prim.Native.Nat.{ℕ, ◌*◌, ◌%◌, ◌^◌, ◌<◌}
 use native.Mathlib.Omega.{arith}
@@ -11,7 +11,7 @@ use lib.ListN.{get_or, length-set}
 use lib.Pow.{pow-lt}
 use Rattle.std.proofs.Common.{rules}
 use Rattle.sdtd.specs.Limits.{most_types, most_states}
-use Rattle.schema.specs.States.{member, insert, members}
+use Rattle.schema.specs.States.{insert, members}
 use Rattle.schema.proofs.Bits.{insert_below, set_below}
 use Rattle.expression.proofs.SetLaws.{listed, listed_member, listed_below, member_zero}
 use Rattle.commands.proofs.GroupLaws.{group_turn, named_turn}
@@ -60,13 +60,3 @@ loop-q-preserved c =
       λ j k. group_turn c.args.types.now l.sets q left l.invariant.2 l.invariant.3 few j k ∙ (rw e at l.invariant.4 j k),
       named_turn l.sets i v l.named l.invariant.5,
     )
-
-pub returns : goal.returns
-returns c =
-    let l = c.loop-q in
-    record {
-      long = l.invariant.2;
-      below = l.invariant.1;
-      each = λ j q. sym (or-false (member q (get_or l.sets j 0))) ∙ (rw c.in-None.ensures.steps.0 at l.invariant.4 j q);
-      others = l.invariant.5;
-    }
