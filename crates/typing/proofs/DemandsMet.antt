@@ -5,6 +5,7 @@ use mathlib.Core.List.{List, []}
 use Prim.Native.Nat.{ℕ}
 use native.Mathlib.Omega.{arith}
 use lib.ListN.{length}
+use Rattle.std.specs.Prelude.{Result, Ok}
 use Rattle.schema.specs.Value.{meaning}
 use Rattle.sdtd.specs.Schema.{WithinLimits}
 use Rattle.sdtd.specs.Schema.{Schema as Meaning}
@@ -19,10 +20,11 @@ use Rattle.commands.specs.File.{Stated, Commands, stopped, states, commands, sch
 use Rattle.commands.proofs.StatedLimits.{stated_within}
 use Rattle.commands.proofs.StatedExpressions.{stated_written}
 use Rattle.schema_file.specs.Answer.{AnswerBy, OfStated, FileMeans}
-use Rattle.sdtd.specs.Answer.{Verdict, refused_at}
-use Rattle.schema_file.specs.declared.file.SchemaFile.{SchemaFile}
+use Rattle.sdtd.specs.Answer.{Verdict, refused_at, verdict_of}
+use Rattle.sdtd.specs.declared.Refusal.{Refusal}
+use Rattle.schema.specs.declared.value.Schema.{Schema}
 use Rattle.competition.proofs.Answers.{written_competes}
-use Rattle.schema_file.proofs.FileAnswers.{file_ambiguous, accepted_file}
+use Rattle.schema_file.proofs.FileAnswers.{file_ambiguous, AcceptedFile, accepted_file}
 use Rattle.schema_file.proofs.UnusedTypes.{file_unused}
 use Rattle.schema_file.proofs.FileExists.{one_file_answer, buffer_exists}
 use Rattle.reading.proofs.AnswerExists.{one_answer}
@@ -64,25 +66,26 @@ demand_1 =
     }
 
 pub demand_2 : Demand2
-demand_2 file was is f m a xs calls = whole_meets (accepted_file m a).schema xs calls
+demand_2 file was is v m xs calls = whole_meets (accepted_file m).schema xs calls
 
 pub demand_2_file : Demand2File
-demand_2_file file was is f m a events lent after r e = (
+demand_2_file file was is v m events lent after r e = (
   verdict_with (length lent) e.passage,
   types_with (length lent) e.passage,
   e.told,
-  event_file_meets (accepted_file m a).schema events (length lent) e.passage e.passes,
+  event_file_meets (accepted_file m).schema events (length lent) e.passage e.passes,
 )
 
 pub demand_3 : Demand3
-demand_3 file was is f m =
+demand_3 file was is r m =
+    let given : (v : Schema) → r ≡ Ok v → AcceptedFile file v = λ v q. accepted_file (subst (FileMeans file was is) q m) in
     record {
       refused_exactly = λ S l states some used. file_ambiguous m states l some used;
-      every_used = λ a. (accepted_file m a).used;
+      every_used = λ v q. (given v q).used;
       unused_refused = λ l p. file_unused m l p;
-      states = λ a. (accepted_file m a).states;
-      written = λ a. stated_written (accepted_file m a).states;
-      calls = λ a xs calls. list_meets (accepted_file m a).schema xs calls;
+      states = λ v q. (given v q).states;
+      written = λ v q. stated_written (given v q).states;
+      calls = λ v q xs calls. list_meets (given v q).schema xs calls;
     }
 
 -- a file that is answered 9 has passed question 7
@@ -100,22 +103,23 @@ nine_ambiguous file was is (states g) e a q b w = (
   competition_is_ambiguity.0 (written_competes w),
 )
 
-refused_ambiguous : {file was is : List ℕ} {f : SchemaFile} → FileMeans file was is f → f.answer ≡ refused_at 9 0
+refused_ambiguous : {file was is : List ℕ} {r : Result Schema Refusal} → FileMeans file was is r → verdict_of r ≡ refused_at 9 0
     → (S : Meaning) × StatesSchema file S × Ambiguous S
-refused_ambiguous {file} {was} {is} {f} m q =
+refused_ambiguous {file} {was} {is} {r} m q =
     ⊎_elim (λ o. let z : ◌≡◌ {A = ℕ} 9 1 = cc in absurd (omega arith))
-    (λ o. nine_ambiguous file was is (commands file) refl f.answer q o.1 (m.buffer.0 q)) m.answer
+    (λ o. nine_ambiguous file was is (commands file) refl (verdict_of r) q o.1 (m.buffer.0 q)) m.answer
 
 -- a schema that a file states is inside the limits
 states_within : {file : List ℕ} {S : Meaning} → StatesSchema file S → WithinLimits S
 states_within {file} x = subst WithinLimits x.schema (stated_within file x.stated x.passes x.known)
 
 pub not_testable : NotTestable
-not_testable file was is f m =
+not_testable file was is r m =
+    let given : (v : Schema) → r ≡ Ok v → AcceptedFile file v = λ v q. accepted_file (subst (FileMeans file was is) q m) in
     record {
-      one_reading = λ a two. (accepted_file m a).schema.no_competition (competition_is_ambiguity.1 two);
+      one_reading = λ v q two. (given v q).schema.no_competition (competition_is_ambiguity.1 two);
       had_to_be = refused_ambiguous m;
-      keeps_type = λ a e d₁ d₂ v₁ v₂. same_types (accepted_file m a).schema.no_competition v₁ v₂ e;
+      keeps_type = λ v q e d₁ d₂ v₁ v₂. same_types (given v q).schema.no_competition v₁ v₂ e;
       trimmed = λ S x. trimmed_exists S;
       by_tables = λ S x t tables. tables_trim (tables.exact (states_within x));
       same_documents = λ S S' x t d. let s = trimmed_valid t d in (λ v. (s.0 v).valid, λ v. (s.1 v).valid);

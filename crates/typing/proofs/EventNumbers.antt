@@ -14,18 +14,15 @@ use Rattle.sdtd.specs.Answer.{Question, Ordered, Answer, refused, typed, taken, 
 use Rattle.sdtd.specs.Reading.{TakenAnswer, Right}
 use Rattle.sdtd.specs.Reading.{questions as questions_after}
 use Rattle.reading.specs.declared.value.Reading.{Reading}
-use Rattle.reading.specs.declared.calls.Next.{Next}
 use Rattle.reading.specs.declared.event_file.EventFile.{EventFile}
 use Rattle.reading.specs.Levels.{fresh}
-use Rattle.reading.specs.Questions.{given, CallMeans}
-use Rattle.reading.specs.Calls.{answer_of}
+use Rattle.reading.specs.Questions.{Next, gives, CallMeans}
 use Rattle.events.specs.Events.{Events, ends, stray, event, events_of}
 use Rattle.events.specs.Outline.{shallower, outline}
 use Rattle.reading.specs.Passage.{TakenCall, taken_call, Passage, Answerer, Passes}
 use Rattle.reading.specs.EventFile.{by_calls, types_given, verdict_with, number_of, EventsMean}
 use Rattle.reading.specs.EventMeaning.{by_documents, EventFileMeets}
 use Rattle.reading.proofs.Passages.{passes_each}
-use Rattle.reading.proofs.EventWalk.{answer_read}
 use Rattle.reading.proofs.RoomLaws.{room_enough, room_or_20}
 use Rattle.expected.proofs.PassageLaws.{each_answer}
 
@@ -52,9 +49,9 @@ CanAnswer least x (typed j) = IsOpening x
 CanAnswer least x taken = Unit
 
 -- what a call can answer under any schema
-call_answer : (S : Schema) (r : Reading) (x : Event) (n : Next) → CallMeans S r x n → CanAnswer 10 x (answer_of n.answer)
+call_answer : (S : Schema) (r : Reading) (x : Event) (n : Next) → CallMeans S r x n → CanAnswer 10 x n.answer
 call_answer S r x n m =
-    each_answer r (λ y n. CanAnswer 10 y (answer_of n.answer)) (λ y i l h. (l, h)) (λ κ g j kept u l. tt) (λ g u. tt) (λ o. tt) S x m
+    each_answer r (λ y n. CanAnswer 10 y n.answer) (λ y i l h. (l, h)) (λ κ g j kept u l. tt) (λ g u. tt) (λ o. tt) S x m
 
 -- what a right answer can be: 10 is none
 right_answer : (S : Schema) (e : List Event) (x : Event) (a : Answer) → Right S e x a → CanAnswer 11 x a
@@ -123,7 +120,7 @@ laid_range least room p small range =
     (room_or_20 room (types_given p.calls) p.verdict)
 
 by_calls_lem : (S : Schema) (r : Reading) (x : Event) (a : Answer) (after : Reading) → (by_calls S).Answers r x a after → CanAnswer 10 x a
-by_calls_lem S r x a after m = subst (CanAnswer 10 x) (answer_read a) (call_answer S r x (given a after) m)
+by_calls_lem S r x a after m = call_answer S r x (gives a after) m
 
 -- Under any schema the number of the walk alone is 0, or 10 to 19.
 pub calls_range : (S : Schema) (file : List ℕ) (p : Passage Reading) → Passes (by_calls S) fresh 0 (events_of file) p

@@ -19,5 +19,5 @@ expecting_met =
           ⊎_elim (λ q. omega arith) (λ q. omega arith) (calls_range (meaning v) file m.passage m.passes);
       after_finish = λ v file r m. finished-nothing m;
       taken_whole = λ v file r m. number_whole m;
-      accepted = λ file was is f m a events r. expected_judged (accepted_file m a).schema events r;
+      accepted = λ file was is v m events r. expected_judged (accepted_file m).schema events r;
     }

@@ -5,15 +5,16 @@ use mathlib.Core.List.{List, []}
 use Prim.Native.Nat.{ℕ, ◌*◌, ◌≤◌}
 use native.Mathlib.Omega.{arith}
 use lib.ListN.{length}
+use Rattle.std.specs.Prelude.{Result, Ok, Err}
 use Rattle.sdtd.specs.Schema.{Schema as Meaning}
 use Rattle.schema.specs.Value.{meaning}
 use Rattle.schema.specs.declared.value.Schema.{Schema}
 use Rattle.commands.specs.File.{Commands, stopped, states, commands}
 use Rattle.commands.specs.Value.{StatedValue}
 use Rattle.schema_file.specs.Answer.{OfStated, FileMeans}
-use Rattle.sdtd.specs.Answer.{Verdict, fine, refused_at}
-use Rattle.schema_file.specs.declared.file.SchemaFile.{SchemaFile}
-use Rattle.sdtd.proofs.Verdicts.{refused_not_fine}
+use Rattle.sdtd.specs.Answer.{refused_at, question_number, verdict_of}
+use Rattle.sdtd.specs.declared.Refusal.{Refusal}
+use Rattle.sdtd.proofs.Verdicts.{refused_not_fine, same_refusals}
 use Rattle.schema_file.proofs.FileAnswers.{file_unique, accepted_file}
 use Rattle.schema_file.proofs.OneWitness.{AnsweredNine}
 use Rattle.events.specs.Events.{events_of}
@@ -21,57 +22,37 @@ use Rattle.reading.specs.EventFile.{verdict_with, types_with, EventsMean}
 use Rattle.reading.specs.declared.event_file.EventFile.{EventFile}
 use Rattle.reading.proofs.EventWalk.{events_unique}
 use Rattle.reading.proofs.EventTheory.{event_file_meets}
-use Rattle.typing.specs.declared.job.Job.{Job}
-use Rattle.typing.specs.declared.job.Job.TheVariants.{SchemaRefused, EventsRead}
 use Rattle.typing.specs.Job.{JobMeans, JobMeets}
 use Rattle.events.specs.Outline.{outline}
 use Rattle.events.proofs.Outlines.{outline_depths}
 use Rattle.typing.proofs.Lines.{line_tags, lines_enough}
 use Rattle.typing.proofs.EventNumbers.{Range, judged_range, always_enough}
 
-module _ {file was_witness is_witness : List ℕ} {f : SchemaFile} (m : FileMeans file was_witness is_witness f) where
-  pub job_refused : {events types : List ℕ} {n p : ℕ} → f.answer ≡ refused_at n p
-      → JobMeans file events was_witness is_witness types types (SchemaRefused n p)
-  job_refused {n = n} {p} q =
-      record {
-        file = f;
-        schema_file = m;
-        refused = λ k l h. let same : refused_at n p ≡ refused_at k l = sym q ∙ h in (cc, refl);
-        accepted = λ a. refused_not_fine q a;
-      }
-
-  pub job_read : {events was_types is_types : List ℕ} {e : EventFile} → f.answer ≡ fine
-      → EventsMean (meaning f.schema) events was_types is_types e
-      → JobMeans file events was_witness is_witness was_types is_types (EventsRead e)
-  job_read {e = e} q k =
-      record {
-        file = f;
-        schema_file = m;
-        refused = λ n p h. refused_not_fine h q;
-        accepted = λ a. (e, refl, k);
-      }
-
--- a job that refuses the schema has the schema file's answer
-module _ {file events was_witness is_witness was_types is_types : List ℕ} {n p : ℕ}
-    (j : JobMeans file events was_witness is_witness was_types is_types (SchemaRefused n p)) where
-  refusal_by : (a : Verdict) → j.file.answer ≡ a → j.file.answer ≡ refused_at n p
-  refusal_by (refused_at k l) q =
-      let s = (j.refused k l q).0 in
-      let x : k ≡ n = cc in
-      let y : l ≡ p = cc in
-      q ∙ (λ i. refused_at (x i) (y i))
-  refusal_by fine q =
-      let (e, s, m) = j.accepted q in
+-- a job that is refused has the schema file's refusal
+module _ {file events was_witness is_witness was_types is_types : List ℕ} {e : Refusal}
+    (j : JobMeans file events was_witness is_witness was_types is_types (Err e)) where
+  refusal_by : (f : Result Schema Refusal) → j.file ≡ f → j.file ≡ Err e
+  refusal_by (Err d) q =
+      let s = (j.refused d q).0 in
+      let same : d ≡ e = cc in q ∙ ap Err same
+  refusal_by (Ok v) q =
+      let (d, s, m) = j.accepted v q in
       let z : ◌≡◌ {A = ℕ} 0 1 = cc in absurd (omega arith)
 
-  pub job_refusal : j.file.answer ≡ refused_at n p
-  job_refusal = refusal_by j.file.answer refl
+  pub job_refusal : j.file ≡ Err e
+  job_refusal = refusal_by j.file refl
 
 -- a job that refuses the schema with 9 left a witness as the schema file's call does
-pub job_nine : {file events was_witness is_witness was_types is_types : List ℕ} {p : ℕ}
-    → JobMeans file events was_witness is_witness was_types is_types (SchemaRefused 9 p) → AnsweredNine file is_witness
-job_nine {was_witness = was} {p = p} j =
-    record { was = was; read = j.file; means = j.schema_file; place = p; answer = job_refusal j }
+pub job_nine : {file events was_witness is_witness was_types is_types : List ℕ} {e : Refusal} → question_number e.why ≡ 9
+    → JobMeans file events was_witness is_witness was_types is_types (Err e) → AnsweredNine file is_witness
+job_nine {was_witness = was} {e = e} nine j =
+    record {
+      was = was;
+      read = j.file;
+      means = j.schema_file;
+      place = e.place;
+      answer = ap verdict_of (job_refusal j) ∙ ap (λ (n : ℕ). refused_at n e.place) nine;
+    }
 
 -- two values of the schema that the commands state mean one schema
 pub one_meaning : (k : Commands) (v w : Schema) → OfStated k (λ g. StatedValue g v) → OfStated k (λ g. StatedValue g w)
@@ -80,51 +61,59 @@ one_meaning (stopped n p) v w s t = absurd s
 one_meaning (states g) v w s t = s.schema ∙ sym t.schema
 
 -- What the job's call promises fixes its answer and each byte of the types' buffer.
-module _ {file events was_witness is₁ is₂ was_types types₁ types₂ : List ℕ} {r₁ r₂ : Job}
+module _ {file events was_witness is₁ is₂ was_types types₁ types₂ : List ℕ} {r₁ r₂ : Result EventFile Refusal}
     (j : JobMeans file events was_witness is₁ was_types types₁ r₁) (k : JobMeans file events was_witness is₂ was_types types₂ r₂) where
-  same_answer : j.file.answer ≡ k.file.answer
-  same_answer = file_unique file was_witness j.schema_file.answer k.schema_file.answer
-
-  by_answer : (a : Verdict) → j.file.answer ≡ a → (r₁ ≡ r₂) × (types₁ ≡ types₂)
-  by_answer (refused_at n p) q =
-      let x = j.refused n p q in
-      let y = k.refused n p (sym same_answer ∙ q) in
-      (x.0 ∙ sym y.0, x.1 ∙ sym y.1)
-  by_answer fine q =
-      let p = sym same_answer ∙ q in
-      let (e, s, m) = j.accepted q in
-      let (d, t, n) = k.accepted p in
-      let one = one_meaning (commands file) _ _ (j.schema_file.schema.0 q) (k.schema_file.schema.0 p) in
-      let u = events_unique (subst (λ (S : Meaning). EventsMean S events was_types types₁ e) one m) n in
-      (s ∙ ap EventsRead u.0 ∙ sym t, u.1)
+  by_files : (f g : Result Schema Refusal) → j.file ≡ f → k.file ≡ g → verdict_of f ≡ verdict_of g
+      → FileMeans file was_witness is₁ f → FileMeans file was_witness is₂ g → (r₁ ≡ r₂) × (types₁ ≡ types₂)
+  by_files (Err d) (Err e) p q same m n =
+      let x = j.refused d p in
+      let y = k.refused e q in
+      let one : Err d ≡ Err e = same_refusals refl (sym same) in
+      (x.0 ∙ one ∙ sym y.0, x.1 ∙ sym y.1)
+  by_files (Err d) (Ok w) p q same m n = refused_not_fine refl same
+  by_files (Ok v) (Err e) p q same m n = refused_not_fine refl (sym same)
+  by_files (Ok v) (Ok w) p q same m n =
+      let (d, s, x) = j.accepted v p in
+      let (e, t, y) = k.accepted w q in
+      let one = one_meaning (commands file) v w m.schema n.schema in
+      let u = events_unique (subst (λ (S : Meaning). EventsMean S events was_types types₁ d) one x) y in
+      (s ∙ ap Ok u.0 ∙ sym t, u.1)
 
   pub one_job : (r₁ ≡ r₂) × (types₁ ≡ types₂)
-  one_job = by_answer j.file.answer refl
+  one_job =
+      by_files j.file k.file refl refl (file_unique file was_witness j.schema_file.answer k.schema_file.answer) j.schema_file k.schema_file
 
--- A job that read its events.
+-- A job that read its events: the schema that it accepted.
+record Accepted (file events was_witness is_witness was_types is_types : List ℕ) (e : EventFile) : Type 0 where
+  value : Schema
+  read : FileMeans file was_witness is_witness (Ok value)
+  means : EventsMean (meaning value) events was_types is_types e
+
 module _ {file events was_witness is_witness was_types is_types : List ℕ} {e : EventFile}
-    (j : JobMeans file events was_witness is_witness was_types is_types (EventsRead e)) where
-  read_by : (a : Verdict) → j.file.answer ≡ a
-      → (j.file.answer ≡ fine) × EventsMean (meaning j.file.schema) events was_types is_types e
-  read_by (refused_at n p) q =
-      let s = (j.refused n p q).0 in
+    (j : JobMeans file events was_witness is_witness was_types is_types (Ok e)) where
+  read_by : (f : Result Schema Refusal) → j.file ≡ f → Accepted file events was_witness is_witness was_types is_types e
+  read_by (Err d) q =
+      let s = (j.refused d q).0 in
       let z : ◌≡◌ {A = ℕ} 0 1 = cc in absurd (omega arith)
-  read_by fine q =
-      let (d, s, n) = j.accepted q in
+  read_by (Ok v) q =
+      let (d, s, n) = j.accepted v q in
       let same : d ≡ e = cc in
-      (q, subst (EventsMean (meaning j.file.schema) events was_types is_types) same n)
+      record {
+        value = v;
+        read = subst (FileMeans file was_witness is_witness) q j.schema_file;
+        means = subst (EventsMean (meaning v) events was_types is_types) same n;
+      }
 
-  -- its schema was accepted, and the answer is the events'
-  was_read : (j.file.answer ≡ fine) × EventsMean (meaning j.file.schema) events was_types is_types e
-  was_read = read_by j.file.answer refl
+  was_read : Accepted file events was_witness is_witness was_types is_types e
+  was_read = read_by j.file refl
 
   -- It meets demands 2 and 3, and its lines belong to the openings taken.
   pub job_meets : JobMeets file events was_types is_types e
   job_meets =
-      let m = was_read.1 in
-      let a = accepted_file j.schema_file was_read.0 in
+      let m = was_read.means in
+      let a = accepted_file was_read.read in
       record {
-        schema = meaning j.file.schema;
+        schema = meaning was_read.value;
         stated = a.states;
         verdict = verdict_with (length was_types) m.passage;
         types = types_with (length was_types) m.passage;
@@ -136,7 +125,7 @@ module _ {file events was_witness is_witness was_types is_types : List ℕ} {e :
 
   -- Each opening that the count counts has its line in the outline of the events.
   pub job_lines : e.count ≤ length (outline 0 (events_of events))
-  job_lines = lines_enough was_read.1
+  job_lines = lines_enough was_read.means
 
   -- Its number is 0, or 11 to 20: "10 never comes".
   pub job_range : (e.number ≡ 0) ⊎ ((11 ≤ e.number) × (e.number ≤ 20))
@@ -144,8 +133,8 @@ module _ {file events was_witness is_witness was_types is_types : List ℕ} {e :
 
   -- A byte for every two of the event file is always enough.
   pub job_enough : length events ≤ 2 * length was_types → e.number ≢ 20
-  job_enough = always_enough was_read.1
+  job_enough = always_enough was_read.means
 
   -- It leaves the witness buffer as it was.
   pub job_witness : is_witness ≡ was_witness
-  job_witness = j.schema_file.buffer.1 (λ q. refused_not_fine q was_read.0)
+  job_witness = was_read.read.buffer.1 (λ q. refused_not_fine q refl)

@@ -1,4 +1,4 @@
--- The writer of schema files meets document 02's request.
+-- The writer of schema files does what is asked of it.
 use mathlib.Core.Path.{◌≡◌, refl, sym, ap, subst, ◌∙◌}
 use mathlib.Core.Logic.{inr}
 use mathlib.Core.Bool.{Bool}
@@ -6,6 +6,7 @@ use mathlib.Core.List.{List}
 use Prim.Native.Nat.{ℕ, ◌≤◌}
 use lib.ListN.{length, take, drop}
 use lib.Seq.{take-append_seam}
+use Rattle.std.specs.Prelude.{Result}
 use Rattle.sdtd.specs.Limits.{least_witness}
 use Rattle.sdtd.specs.Schema.{Schema as Meaning}
 use Rattle.sdtd.specs.Trim.{SomeRootBears}
@@ -25,8 +26,9 @@ use Rattle.schema_writer.specs.Answer.{OutputBy, WriteMeans}
 use Rattle.schema_writer.proofs.Outcomes.{written_of, one_outcome}
 use Rattle.schema_writer.proofs.SecondPass.{written_states}
 use Rattle.schema_writer.proofs.SecondPass.{written_same as same_bytes}
-use Rattle.sdtd.specs.Answer.{fine}
-use Rattle.schema_file.specs.declared.file.SchemaFile.{SchemaFile}
+use Rattle.sdtd.specs.Answer.{fine, verdict_of}
+use Rattle.sdtd.specs.declared.Refusal.{Refusal}
+use Rattle.schema.specs.declared.value.Schema.{Schema}
 use Rattle.typing.specs.Reducing.{TypingsRenumbered, Reduces, WriterMeets}
 
 -- A file whose schema uses every type, with a root that bears a tree and no competition.
@@ -38,8 +40,8 @@ module _ {file : List ℕ} {S : Meaning} (s : StatesSchema file S) (bears : Some
   stated_free = subst (λ (R : Meaning). ¬ Competition R) (sym s.schema) free
 
   -- the reader accepts it
-  reader_accepts : (was is : List ℕ) (f : SchemaFile) → least_witness ≤ length was → FileMeans file was is f → f.answer ≡ fine
-  reader_accepts was is f long m =
+  reader_accepts : (was is : List ℕ) (r : Result Schema Refusal) → least_witness ≤ length was → FileMeans file was is r → verdict_of r ≡ fine
+  reader_accepts was is r long m =
       let every = subst EveryTypeUsed (sym s.schema) used in
       let last : AnswerBy (states s.stated) fine =
       after_answer s.stated fine (accepted s.known stated_bears every stated_free refl) in
@@ -117,7 +119,7 @@ writer_meets =
           let bytes = ap (λ (k : ℕ). take k is) w.count ∙ ap (take (length w.bytes)) w.buffer ∙ front in
           let own = subst (λ (b : List ℕ). StatesSchema b (reduced r.kept S)) (sym r.is) there in
           subst (Reduces file) (sym bytes) (reduces s w.bears w.restrained r.kept r.tells_used own);
-      same = λ file was is f m a lent after r fits w.
-          let x = accepted_file m a in
+      same = λ file was is v m lent after r fits w.
+          let x = accepted_file m in
           second_pass x.states x.schema.bears x.used x.schema.no_competition lent after r fits w;
     }

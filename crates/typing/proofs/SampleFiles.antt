@@ -10,7 +10,7 @@ use Rattle.sdtd.proofs.Decide.{LiveTable, LiveExact}
 use Rattle.schema.specs.Value.{meaning}
 use Rattle.commands.specs.File.{StatesSchema}
 use Rattle.schema_file.specs.Samples.{FileSample, HoldsFor}
-use Rattle.sdtd.specs.Answer.{fine, refused_at}
+use Rattle.sdtd.specs.Answer.{refused_at}
 use Rattle.schema_file.proofs.FileAnswers.{file_unique, accepted_file}
 use Rattle.reading.specs.EventFile.{EventsMean}
 use Rattle.reading.specs.declared.event_file.EventFile.{EventFile}
@@ -37,11 +37,10 @@ abbrev pub got_in : EventSample → EventsGot
 got_in s = record { number = s.number; place = s.place; types = s.types }
 
 -- an event file under an accepted schema, where it gets from the model what the sample states
-pub events_get : (file : FileSample) {S : Meaning} {L : LiveTable} → file.answer ≡ fine → StatesSchema file.bytes S → IsAccepted S
-    → LiveExact S L → SchemaGets file → (s : EventSample) → got_of S L s.bytes ≡ got_in s → EventsGet file s
-events_get file {S} is_fine x a exact file_gets s q was is f l m lent after r h e =
-    let accepted = (file_gets was is f l m).0 ∙ is_fine in
-    let same : meaning f.schema ≡ S = states_one (accepted_file m accepted).states x in
+pub events_get : (file : FileSample) {S : Meaning} {L : LiveTable} → StatesSchema file.bytes S → IsAccepted S
+    → LiveExact S L → (s : EventSample) → got_of S L s.bytes ≡ got_in s → EventsGet file s
+events_get file {S} x a exact s q was is v l m lent after r h e =
+    let same : meaning v ≡ S = states_one (accepted_file m).states x in
     let enough = subst (λ (g : EventsGot). length g.types ≤ length lent) (sym q) h in
     let got = events_got a exact (subst (λ (R : Meaning). EventsMean R s.bytes lent after r) same e) enough in
     subst (λ (g : EventsGot). Gets lent after r g) q got

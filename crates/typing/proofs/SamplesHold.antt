@@ -1,4 +1,4 @@
--- The starred samples of document 01, and those of nil elements, hold, from the bytes of their files.
+-- The starred samples, and those of nil elements, hold, from the bytes of their files.
 use mathlib.Core.Path.{◌≡◌, refl}
 use native.Mathlib.Omega.{arith}
 use Rattle.sdtd.proofs.Basics.{◌&◌}
@@ -32,18 +32,18 @@ gets_optional = plain_gets file_optional accepted_not_9 starred_files_hold.1.1.1
 
 pub samples_hold : HoldAll starred
 samples_hold =
-    (gets_R, events_get file_r refl files_state.first accepted_r exact_r gets_R first refl)
-    & (gets_R, events_get file_r refl files_state.first accepted_r exact_r gets_R second refl)
-    & (gets_R, events_get file_r refl files_state.first accepted_r exact_r gets_R third refl)
+    (gets_R, events_get file_r files_state.first accepted_r exact_r first refl)
+    & (gets_R, events_get file_r files_state.first accepted_r exact_r second refl)
+    & (gets_R, events_get file_r files_state.first accepted_r exact_r third refl)
     & nine_gets file_choice refl files_state.fourth starred_files_hold.1.0 choice_witness
     & plain_gets file_no_d unused_not_9 starred_files_hold.1.1.0
     & nine_gets file_two_ways refl files_state.sixth starred_files_hold.1.1.1.0 ways_witness
     & plain_gets file_two_types accepted_not_9 starred_files_hold.1.1.1.1.0
     & (
       gets_last_but_one,
-      events_get file_last_but_one refl files_state.eighth accepted_last_but_one exact_last_but_one gets_last_but_one eighth refl,
+      events_get file_last_but_one files_state.eighth accepted_last_but_one exact_last_but_one eighth refl,
     )
-    & (gets_optional, events_get file_optional refl files_state.ninth accepted_optional exact_optional gets_optional ninth refl)
+    & (gets_optional, events_get file_optional files_state.ninth accepted_optional exact_optional ninth refl)
     & plain_gets file_endless eight_not_9 starred_files_hold.1.1.1.1.1.1.1.0
     & tt
 
@@ -55,10 +55,10 @@ gets_racks_written = plain_gets file_racks_written accepted_not_9 nil_files_hold
 
 pub nil_elements_get : HoldAll nil_elements
 nil_elements_get =
-    (gets_racks, events_get file_racks refl racks_state.by_states accepted_racks exact_racks gets_racks racks_taken refl)
+    (gets_racks, events_get file_racks racks_state.by_states accepted_racks exact_racks racks_taken refl)
     & (
       gets_racks_written,
-      events_get file_racks_written refl racks_state.by_expression accepted_racks exact_racks gets_racks_written inside_nil refl,
+      events_get file_racks_written racks_state.by_expression accepted_racks exact_racks inside_nil refl,
     )
-    & (gets_racks, events_get file_racks refl racks_state.by_states accepted_racks exact_racks gets_racks plainly_empty refl)
+    & (gets_racks, events_get file_racks racks_state.by_states accepted_racks exact_racks plainly_empty refl)
     & tt

@@ -1,11 +1,10 @@
--- Document 02, Req 07, of what would have been taken where an event file is refused. Statements about its promise: `ExpectedMeans` is that of
+-- What would have been taken where an event file is refused. Statements about its promise: `ExpectedMeans` is that of
 -- `expected::expect_next`, `FileMeans` that of `schema_file::read`. `proofs/ExpectingMet.antt` proves them.
-use Rattle.std.specs.Prelude.{◌≡◌, ◌≢◌, true, List, ℕ, length}
+use Rattle.std.specs.Prelude.{◌≡◌, ◌≢◌, true, List, ℕ, length, Ok}
 use Rattle.sdtd.specs.Answer.{fine}
 use Rattle.schema.specs.Value.{meaning}
 use Rattle.schema.specs.declared.value.Schema.{Schema}
 use Rattle.schema_file.specs.Answer.{FileMeans}
-use Rattle.schema_file.specs.declared.file.SchemaFile.{SchemaFile}
 use Rattle.expected.specs.Expected.{nothing, laid_out, ExpectedMeans}
 use Rattle.expected.specs.Meaning.{ExpectedMeets}
 use Rattle.expected.specs.declared.Expected.{Expected}
@@ -24,5 +23,5 @@ pub record ExpectingMeets : Type 0 where
   pub taken_whole : (v : Schema) (file : List ℕ) (r : Expected) → ExpectedMeans (meaning v) file r → r.number ≡ 0
       → r ≡ laid_out (length file) (nothing fine)
   -- under an accepted schema the answer is by valid documents
-  pub accepted : (file was is : List ℕ) (f : SchemaFile) → FileMeans file was is f → f.answer ≡ fine
-      → (events : List ℕ) (r : Expected) → ExpectedMeans (meaning f.schema) events r → ExpectedMeets (meaning f.schema) events r
+  pub accepted : (file was is : List ℕ) (v : Schema) → FileMeans file was is (Ok v)
+      → (events : List ℕ) (r : Expected) → ExpectedMeans (meaning v) events r → ExpectedMeets (meaning v) events r

@@ -1,41 +1,28 @@
--- The whole job: document 01's schema file, and under an accepted schema its event file.
-use Rattle.std.specs.Prelude.{◌≡◌, List, [], map, ℕ, length, take}
+-- The whole job: a schema file, and under an accepted schema an event file.
+use Rattle.std.specs.Prelude.{◌≡◌, List, [], map, ℕ, length, take, Result, Ok, Err}
 use Rattle.sdtd.specs.Schema.{Schema as Meaning, tag_of}
 use Rattle.schema.specs.Value.{meaning}
 use Rattle.commands.specs.File.{StatesSchema}
 use Rattle.schema_file.specs.Answer.{FileMeans}
-use Rattle.sdtd.specs.Answer.{Verdict, fine, refused_at}
-use Rattle.schema_file.specs.declared.file.SchemaFile.{SchemaFile}
+use Rattle.sdtd.specs.Answer.{Verdict}
+use Rattle.sdtd.specs.declared.Refusal.{Refusal}
+use Rattle.schema.specs.declared.value.Schema.{Schema}
 use Rattle.events.specs.Events.{events_of}
 use Rattle.reading.specs.EventFile.{EventsTold, EventsMean}
 use Rattle.reading.specs.EventMeaning.{EventFileMeets}
 use Rattle.reading.specs.declared.event_file.EventFile.{EventFile}
-use Rattle.typing.specs.declared.job.Job.{Job}
-use Rattle.typing.specs.declared.job.Job.TheVariants.{SchemaRefused, EventsRead}
 use Rattle.events.specs.Outline.{Line, outline, by_depth}
-
--- Document 01's outcome of the job: of a refused schema "number and place"; under an accepted one the event file's "number (0 for taken), a
--- place (of the refused event; the file's length for 0) and the count of openings taken".
-pub data JobOutcome : Type 0 where
-  schema_refused : ℕ → ℕ → JobOutcome
-  events_read : ℕ → ℕ → ℕ → JobOutcome
-
--- each case of it as the code's
-abbrev pub job_in : JobOutcome → Job
-job_in (schema_refused n p) = SchemaRefused n p
-job_in (events_read n p count) = EventsRead (record { number = n; place = p; count = count })
 
 -- What the job's call answers, and what each buffer holds after it, by the answer to the schema file: `schema_file` says what the witness
 -- buffer holds.
-pub record JobMeans (schema_bytes events was_witness is_witness was_types is_types : List ℕ) (r : Job) : Type 0 where
-  pub file : SchemaFile
+pub record JobMeans (schema_bytes events was_witness is_witness was_types is_types : List ℕ) (r : Result EventFile Refusal) : Type 0 where
+  pub file : Result Schema Refusal
   pub schema_file : FileMeans schema_bytes was_witness is_witness file
   -- "A refused schema prints only `schema refused N at P`": no event is read, and no type is given out
-  pub refused : (n p : ℕ) → file.answer ≡ refused_at n p → (r ≡ job_in (schema_refused n p)) × (is_types ≡ was_types)
-  -- under an accepted schema the event file's answer: "the last [line has] the count of openings, or `refused N at P`"
-  pub accepted : file.answer ≡ fine
-      → (e : EventFile) × (r ≡ job_in (events_read e.number e.place e.count))
-      × EventsMean (meaning file.schema) events was_types is_types e
+  pub refused : (e : Refusal) → file ≡ Err e → (r ≡ Err e) × (is_types ≡ was_types)
+  -- under an accepted schema the event file's answer: "number (0 for taken), a place (of the refused event; the file's length for 0) and the
+  -- count of openings taken"
+  pub accepted : (v : Schema) → file ≡ Ok v → (e : EventFile) × (r ≡ Ok e) × EventsMean (meaning v) events was_types is_types e
 
 -- What a job that read its events says of documents: the file states a schema, under which the events' verdict and types, which the answer
 -- and the types' buffer tell, meet demands 2 and 3.

@@ -1,7 +1,7 @@
--- Document 02, Req 06, of the writer of schema files: "The written file passes, the same documents are valid, and each typing is the old one
+-- The writer of schema files: "The written file passes, the same documents are valid, and each typing is the old one
 -- renumbered. A second pass changes no byte." Statements about its promise: `WriteMeans` is that of `schema_writer::write_reduced`, `FileMeans` that of
 -- `schema_file::read`. `proofs/ReducingMet.antt` proves them.
-use Rattle.std.specs.Prelude.{◌≡◌, ◌↔◌, Bool, List, ℕ, ◌≤◌, length, take}
+use Rattle.std.specs.Prelude.{◌≡◌, ◌↔◌, Bool, List, ℕ, ◌≤◌, length, take, Result, Ok}
 use Rattle.sdtd.specs.Limits.{least_witness}
 use Rattle.sdtd.specs.Schema.{Schema as Meaning}
 use Rattle.sdtd.specs.Tree.{Tree, relabel, IsTyping}
@@ -11,8 +11,9 @@ use Rattle.sdtd.specs.Output.{writes, FileWritten, Length}
 use Rattle.commands.specs.File.{commands, StatesSchema}
 use Rattle.schema_file.specs.Answer.{FileMeans}
 use Rattle.schema_writer.specs.Answer.{OutputBy, WriteMeans}
-use Rattle.sdtd.specs.Answer.{fine}
-use Rattle.schema_file.specs.declared.file.SchemaFile.{SchemaFile}
+use Rattle.sdtd.specs.Answer.{fine, verdict_of}
+use Rattle.sdtd.specs.declared.Refusal.{Refusal}
+use Rattle.schema.specs.declared.value.Schema.{Schema}
 use Rattle.typing.specs.Demands.{One}
 
 -- "each typing is the old one renumbered": of each tree the typings under S, renumbered, are those under R, each of just one
@@ -30,7 +31,7 @@ pub record Reduces (file written : List ℕ) : Type 0 where
   pub tells_used : TellsUsed schema kept
   pub states_written : StatesSchema written (reduced kept schema)
   -- "The written file passes": the reader accepts it, with any buffer that is long enough
-  pub passes : (was is : List ℕ) (f : SchemaFile) → least_witness ≤ length was → FileMeans written was is f → f.answer ≡ fine
+  pub passes : (was is : List ℕ) (r : Result Schema Refusal) → least_witness ≤ length was → FileMeans written was is r → verdict_of r ≡ fine
   -- "the same documents are valid"
   pub same_documents : (d : List Event) → Valid schema d ↔ Valid (reduced kept schema) d
   -- "and each typing is the old one renumbered"
@@ -44,6 +45,6 @@ pub record Reduces (file written : List ℕ) : Type 0 where
 pub record WriterMeets : Type 0 where
   pub outcome : (file was : List ℕ) → One (OutputBy file (commands file) was)
   pub written : (file was is : List ℕ) (n : ℕ) → WriteMeans file was is (Length n) → Reduces file (take n is)
-  pub same : (file was is : List ℕ) (f : SchemaFile) → FileMeans file was is f → f.answer ≡ fine
+  pub same : (file was is : List ℕ) (v : Schema) → FileMeans file was is (Ok v)
       → (lent after : List ℕ) (r : FileWritten) → length file ≤ length lent → WriteMeans file lent after r
       → record { answer = r; buffer = after } ≡ writes lent file

@@ -1,13 +1,15 @@
--- Document 01, "Samples from the boot wall": the starred samples from the bytes of their files, with numbers, places, counts, types and
+-- "Samples from the boot wall": the starred samples from the bytes of their files, with numbers, places, counts, types and
 -- witnesses, and one statement over the group; and the same of nil elements. Where a sample names elements a, b, c their tags are 1, 2, 3; the
 -- root's is 0.
-use Rattle.std.specs.Prelude.{◌≡◌, List, [], ◌∷◌, ◌++◌, ℕ, ◌≤◌, length, drop}
+use Rattle.std.specs.Prelude.{◌≡◌, List, [], ◌∷◌, ◌++◌, ℕ, ◌≤◌, length, drop, Result, Ok}
 use Rattle.sdtd.specs.Limits.{least_witness}
+use Rattle.sdtd.specs.Answer.{verdict_of}
+use Rattle.sdtd.specs.declared.Refusal.{Refusal}
 use Rattle.schema.specs.Value.{meaning}
 use Rattle.schema_file.specs.Answer.{FileMeans}
 use Rattle.schema_file.specs.Samples.{FileSample, file_r, file_choice, file_no_d, file_two_ways, file_two_types, file_last_but_one, file_optional}
 use Rattle.schema_file.specs.Samples.{file_endless, file_racks, file_racks_written}
-use Rattle.schema_file.specs.declared.file.SchemaFile.{SchemaFile}
+use Rattle.schema.specs.declared.value.Schema.{Schema}
 use Rattle.reading.specs.EventFile.{type_bytes, EventsMean}
 use Rattle.reading.specs.declared.event_file.EventFile.{EventFile}
 
@@ -27,15 +29,15 @@ pub data Sample : Type 0 where
 -- witness and has its other bytes as they were.
 abbrev pub SchemaGets : FileSample → Type 0
 SchemaGets s =
-    (was is : List ℕ) (f : SchemaFile) → least_witness ≤ length was → FileMeans s.bytes was is f
-    → (f.answer ≡ s.answer) × (is ≡ s.witness ++ drop (length s.witness) was)
+    (was is : List ℕ) (r : Result Schema Refusal) → least_witness ≤ length was → FileMeans s.bytes was is r
+    → (verdict_of r ≡ s.answer) × (is ≡ s.witness ++ drop (length s.witness) was)
 
 -- Whatever the event file's call gives under the schema value of the schema file's call, with a byte of the buffer for each type: number,
 -- place and count are the sample's, and the buffer begins with the sample's types and has its other bytes as they were.
 abbrev pub EventsGet : FileSample → EventSample → Type 0
 EventsGet file s =
-    (was is : List ℕ) (f : SchemaFile) → least_witness ≤ length was → FileMeans file.bytes was is f
-    → (lent after : List ℕ) (r : EventFile) → length s.types ≤ length lent → EventsMean (meaning f.schema) s.bytes lent after r
+    (was is : List ℕ) (v : Schema) → least_witness ≤ length was → FileMeans file.bytes was is (Ok v)
+    → (lent after : List ℕ) (r : EventFile) → length s.types ≤ length lent → EventsMean (meaning v) s.bytes lent after r
     → (r ≡ record { number = s.number; place = s.place; count = length s.types })
     × (after ≡ type_bytes s.types ++ drop (length (type_bytes s.types)) lent)
 
@@ -83,7 +85,7 @@ ninth =
     0 29
     (0 ∷ 2 ∷ 2 ∷ 3 ∷ 2 ∷ 4 ∷ 3 ∷ [])
 
--- The starred samples, in document 01's order.
+-- The starred samples, in their order.
 abbrev pub starred : List Sample
 starred =
     event_file file_r first
@@ -97,7 +99,7 @@ starred =
     ∷ event_file file_optional ninth
     ∷ schema_file file_endless ∷ []
 
--- Document 02, Req 05, under a wall of racks of one boot each: a rack with its boot and one that is empty on purpose; an opening inside a nil rack;
+-- Under a wall of racks of one boot each: a rack with its boot and one that is empty on purpose; an opening inside a nil rack;
 -- a rack that is opened plainly and has nothing
 abbrev pub racks_taken : EventSample
 racks_taken =

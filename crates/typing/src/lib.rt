@@ -5,5 +5,5 @@
 mod expect;
 mod job;
 
-pub use expect::{ExpectedJob, expect_document};
-pub use job::{Job, type_document};
+pub use expect::expect_document;
+pub use job::type_document;
