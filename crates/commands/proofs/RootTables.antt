@@ -1,6 +1,6 @@
 -- The table of roots: what it holds of the roots so far, the last first, and whether a type is one of them.
 use mathlib.Core.Path.{◌≡◌, refl, sym, ap, ◌∙◌}
-use mathlib.Core.Bool.{Bool, true, false, ◌&&◌, ◌||◌, or_comm, or_assoc}
+use mathlib.Core.Bool.{or-false, Bool, true, false, ◌&&◌, ◌||◌, or_comm, or_assoc}
 use mathlib.Core.List.{List, [], ◌∷◌, ◌++◌, reverse, reverse-cons, Memᴰ}
 use Prim.Native.Nat.{ℕ, ◌+◌, ◌<◌}
 use native.Mathlib.Omega.{arith}
@@ -34,19 +34,18 @@ has_passes a (x ∷ xs) (Memᴰ.tail m) = later (eqb x a) (has_passes a xs m)
     later false t = t
 has_passes a [] m = elim m [ ]
 
-has_append : (a : ℕ) (xs ys : List ℕ) → has_root a (xs ++ ys) ≡ (has_root a xs || has_root a ys)
-has_append a [] ys = refl
-has_append a (x ∷ xs) ys = ap (λ (b : Bool). eqb x a || b) (has_append a xs ys) ∙ sym (or_assoc (eqb x a) (has_root a xs) (has_root a ys))
+-- whether one of a list passes a test is the same from its end
+module _ {A : Type 0} (test : A → Bool) (some : List A → Bool) (none : some [] ≡ false) (next : (x : A) (xs : List A) → some (x ∷ xs) ≡ (test x || some xs)) where
+  some_append : (xs ys : List A) → some (xs ++ ys) ≡ (some xs || some ys)
+  some_append [] ys = rw none
+  some_append (x ∷ xs) ys =
+      next x (xs ++ ys) ∙ rw (some_append xs ys, next x xs) (sym (or_assoc (test x) (some xs) (some ys)))
 
-has_reverse : (a : ℕ) (xs : List ℕ) → has_root a (reverse xs) ≡ has_root a xs
-has_reverse a [] = refl
-has_reverse a (x ∷ xs) =
-    ap (has_root a) (reverse-cons x xs) ∙ has_append a (reverse xs) (x ∷ []) ∙ or_comm (has_root a (reverse xs)) (eqb x a || false)
-    ∙ (λ i. either (eqb x a) i || has_reverse a xs i)
-  where
-    either : (b : Bool) → (b || false) ≡ b
-    either true = refl
-    either false = refl
+  pub some_reverse : (xs : List A) → some (reverse xs) ≡ some xs
+  some_reverse [] = refl
+  some_reverse (x ∷ xs) =
+      ap some (reverse-cons x xs) ∙ some_append (reverse xs) (x ∷ [])
+      ∙ rw (some_reverse xs, next x xs, next x [], none, or-false) (or_comm (some xs) (test x))
 
 -- the answer by a table that marks exactly the roots
 pub marked_given : (table : List ℕ) (n a : ℕ) (marked : List Bool) → MarksExactly (roots_of table n) marked → a < most_types
@@ -77,7 +76,7 @@ module _ {table roots : List ℕ} (t : RootTable table roots) where
 
   -- a type is found in the table exactly where it is one of the roots
   pub given_back : (a : ℕ) → root_among table (length roots) a ≡ has_root a roots
-  given_back a = rw (roots_back, has_reverse a roots) (inside (has_root a roots) refl)
+  given_back a = rw (roots_back, some_reverse (λ x. eqb x a) (has_root a) refl (λ x xs. refl) roots) (inside (has_root a roots) refl)
     where
       inside : (b : Bool) → has_root a roots ≡ b → (ltb a most_types && b) ≡ b
       inside true e = rw (lt-ltb a most_types (t.below a (has_says a roots (rw e tt))))

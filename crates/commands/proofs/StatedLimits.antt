@@ -1,4 +1,4 @@
--- What the commands state is inside document 01's limits.
+-- What the commands state is inside the limits of a schema.
 use mathlib.Core.Path.{◌≡◌, refl, sym, ap, subst}
 use mathlib.Core.Logic.{◌≢◌, ⊎_elim}
 use mathlib.Core.Bool.{Bool, true, false, cond}

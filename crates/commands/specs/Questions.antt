@@ -78,7 +78,7 @@ not_given s Done = true
 not_given s (Expression x) = true
 
 -- The questions in order, each with its number and whether the answer is yes. Before them comes 2: "Is it one of the six, its operands inside
--- the file?", of the commands of documents 01 and 02, where none stands.
+-- the file?", where none stands.
 abbrev pub questions : Seen → Command → List (ℕ × Bool)
 questions s c = (3, in_order s c) ∷ (4, in_range s c) ∷ (5, within_counts s c) ∷ (6, not_given s c) ∷ []
 
