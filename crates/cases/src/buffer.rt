@@ -1,11 +1,9 @@
 // The buffer that a call is lent: filled with a pattern before the call, and afterwards what the call made of it.
 use crate::show::show_numbers;
 use competition::WORD_PLACE;
+use sdtd::Refused;
 use std::alloc::{AllocError, Global};
 use std::fmt::Write;
-
-// The number of a competition, on which a witness fills the buffer's first bytes.
-pub(crate) const COMPETES: u8 = 9;
 
 // The buffer's byte before the call, above every type.
 fn pattern(at: usize) -> u8 {
@@ -46,11 +44,14 @@ fn show_competition(out: &mut String, lent: &[u8]) -> Result<(), AllocError> {
     show_numbers(out, &word[..n.min(word.len())])
 }
 
-// The witness buffer beside an answer of this number.
-pub(crate) fn show_witness(out: &mut String, answer: u8, lent: &[u8]) -> Result<(), AllocError> {
-    if answer == COMPETES {
-        show_competition(out, lent)
-    } else {
-        show_kept(out, lent, 0)
+// The witness buffer beside an answer: on a competition its first bytes are the witness.
+pub(crate) fn show_witness(
+    out: &mut String,
+    refused: Option<Refused>,
+    lent: &[u8],
+) -> Result<(), AllocError> {
+    match refused {
+        Some(Refused::Competition) => show_competition(out, lent),
+        _ => show_kept(out, lent, 0),
     }
 }

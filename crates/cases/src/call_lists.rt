@@ -9,42 +9,51 @@ use crate::made_up::Held;
 use crate::schema_files::read_schema;
 use crate::show::show_verdict;
 use anyhow::Result;
-use reading::{EventAnswer, close_lent, finish_lent, open_lent, open_nil_lent};
-use sdtd::{Tag, TypeNo};
+use reading::{Next, Reading, close_lent, finish_lent, open_lent, open_nil_lent};
+use schema::Schema;
+use sdtd::{Refused, Tag, TypeNo};
 use std::alloc::AllocError;
 use std::fmt::Write;
 
+// The answer of a call by value; the reading that it handed back is the reading now.
+fn moved_on<A>(reading: &mut Reading, next: Next<A>) -> Result<A, Refused> {
+    *reading = next.reading;
+    next.answer
+}
+
 impl Held {
-    // Makes the call, which moves the reading on.
-    fn call(&mut self, which: Call, tag: Tag) -> EventAnswer {
-        let schema = self.schema;
-        let next = match which {
-            Call::Open => self.reading.open(schema, tag),
-            Call::OpenNil => self.reading.open_nil(schema, tag),
-            Call::Close => self.reading.close(schema, tag),
-            Call::Finish => self.reading.finish(schema),
-            Call::OpenLent => return open_lent(&mut self.reading, schema, tag),
-            Call::OpenNilLent => return open_nil_lent(&mut self.reading, schema, tag),
-            Call::CloseLent => return close_lent(&mut self.reading, schema, tag),
-            Call::FinishLent => return finish_lent(&mut self.reading, schema),
-        };
-        self.reading = next.reading;
-        next.answer
+    // Makes the call, which moves the reading on: the type of an opening, nothing of another call.
+    fn call(&mut self, which: Call, tag: Tag) -> Result<Option<TypeNo>, Refused> {
+        let Held { schema, reading } = self;
+        let before = *reading;
+        match which {
+            Call::Open => moved_on(reading, before.open(schema, tag)).map(Some),
+            Call::OpenNil => moved_on(reading, before.open_nil(schema, tag)).map(Some),
+            Call::Close => moved_on(reading, before.close(schema, tag)).map(|()| None),
+            Call::Finish => moved_on(reading, before.finish(schema)).map(|()| None),
+            Call::OpenLent => open_lent(reading, schema, tag).map(Some),
+            Call::OpenNilLent => open_nil_lent(reading, schema, tag).map(Some),
+            Call::CloseLent => close_lent(reading, schema, tag).map(|()| None),
+            Call::FinishLent => finish_lent(reading, schema).map(|()| None),
+        }
     }
 }
 
-fn show_event(out: &mut String, answer: EventAnswer) -> Result<(), AllocError> {
+fn show_event(out: &mut String, answer: Result<Option<TypeNo>, Refused>) -> Result<(), AllocError> {
     match answer {
-        EventAnswer::Typed(TypeNo(j)) => write!(out, " t{j}"),
-        EventAnswer::Taken => write!(out, " ok"),
-        EventAnswer::Refused(n) => write!(out, " r{n}"),
+        Ok(Some(TypeNo(j))) => write!(out, " t{j}"),
+        Ok(None) => write!(out, " ok"),
+        Err(why) => {
+            let number = why.number();
+            write!(out, " r{number}")
+        }
     }
 }
 
 pub(crate) fn run(out: &mut String, case: &Case<'_>) -> Result<()> {
-    let found = read_schema(case.first);
-    let mut held = Held::new(found.schema);
-    show_verdict(out, found.answer)?;
+    let read = read_schema(case.first);
+    let mut held = Held::new(read.unwrap_or(Schema::NONE));
+    show_verdict(out, read.err())?;
     show_changes(out, &blank(), &held.reading)?;
     for item in (Items { rest: case.second }) {
         let before = held.reading;

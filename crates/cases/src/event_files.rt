@@ -7,17 +7,19 @@ use crate::schema_files::read_schema;
 use crate::show::{show_numbers, show_verdict};
 use anyhow::Result;
 use reading::{EventFile, read_events};
+use schema::Schema;
 use std::fmt::Write;
 
 pub(crate) fn run(out: &mut String, case: &Case<'_>) -> Result<()> {
-    let found = read_schema(case.first);
+    let read = read_schema(case.first);
+    let schema = read.unwrap_or(Schema::NONE);
     let mut lent = lend(*out.allocator(), case.room)?;
     let EventFile {
         number,
         place,
         count,
-    } = read_events(found.schema, case.second, &mut lent);
-    show_verdict(out, found.answer)?;
+    } = read_events(&schema, case.second, &mut lent);
+    show_verdict(out, read.err())?;
     write!(out, " | {number} at {place} | {count}")?;
     show_numbers(out, &lent[..count.min(lent.len())])?;
     show_kept(out, &lent, count)?;

@@ -3,16 +3,17 @@
 // where every other entry is 0; and the buffer.
 use crate::buffer::{lend, show_witness};
 use crate::case::Case;
-use crate::show::{number_of, show_verdict};
+use crate::show::show_verdict;
 use anyhow::Result;
 use competition::LEAST_WITNESS;
 use schema::{Schema, TYPES};
-use schema_file::{SchemaFile, read};
+use schema_file::read;
+use sdtd::Refusal;
 use std::alloc::AllocError;
 use std::fmt::Write;
 
 // The schema file's answer, with a witness buffer of its own.
-pub(crate) fn read_schema(file: &[u8]) -> SchemaFile {
+pub(crate) fn read_schema(file: &[u8]) -> Result<Schema, Refusal> {
     read(file, &mut [0; LEAST_WITNESS])
 }
 
@@ -76,10 +77,11 @@ fn show_schema(out: &mut String, schema: &Schema) -> Result<(), AllocError> {
 
 pub(crate) fn run(out: &mut String, case: &Case<'_>) -> Result<()> {
     let mut lent = lend(*out.allocator(), case.room)?;
-    let found = read(case.first, &mut lent);
-    show_verdict(out, found.answer)?;
-    show_schema(out, &found.schema)?;
-    show_witness(out, number_of(found.answer), &lent)?;
+    let read = read(case.first, &mut lent);
+    let refusal = read.err();
+    show_verdict(out, refusal)?;
+    show_schema(out, &read.unwrap_or(Schema::NONE))?;
+    show_witness(out, refusal.map(|refusal| refusal.why), &lent)?;
     writeln!(out)?;
     Ok(())
 }

@@ -2,13 +2,13 @@
 // witness. The line has whether the value is inside the limits; of its trimming the live states of each type, which types bear a tree, `nil`
 // after one that bears only a nil tree and `both` after one that bears trees of both kinds, which are reached, and the rows; of `live_rows` the
 // live states and the rows; and what the search for competition and the verdict on the schema answer, each with the buffer.
-use crate::buffer::{COMPETES, fill, lend, show_witness};
+use crate::buffer::{fill, lend, show_witness};
 use crate::case::Case;
 use crate::made_up::made_up;
 use crate::schema_files::read_schema;
-use crate::show::{number_of, show_verdict};
+use crate::show::show_verdict;
 use anyhow::Result;
-use competition::{Searched, competition, judge};
+use competition::{competition, judge};
 use schema::{
     BEGINS, Entry, STEPS, Schema, TYPES, live_rows, opens_as_nil, opens_plainly, trim, within,
 };
@@ -104,7 +104,7 @@ fn show_rows(
 fn show_trimming(out: &mut String, schema: &Schema) -> Result<(), AllocError> {
     let mut entries = [LEFT_ENTRY; STEPS];
     let mut begins = [LEFT_BEGIN; BEGINS];
-    let trimming = trim(*schema, &mut entries, &mut begins);
+    let trimming = trim(schema, &mut entries, &mut begins);
     show_live(out, &trimming.live, schema)?;
     show_bearing(out, &trimming.ways)?;
     show_reached(out, &trimming.reached)?;
@@ -114,36 +114,29 @@ fn show_trimming(out: &mut String, schema: &Schema) -> Result<(), AllocError> {
 fn show_live_rows(out: &mut String, schema: &Schema) -> Result<(), AllocError> {
     let mut entries = [LEFT_ENTRY; STEPS];
     let mut begins = [LEFT_BEGIN; BEGINS];
-    let found = live_rows(*schema, &mut entries, &mut begins);
-    show_live(out, &found.live, schema)?;
+    let found = live_rows(schema, &mut entries, &mut begins);
+    let live = found.map_or([0; TYPES], |found| found.live);
+    show_live(out, &live, schema)?;
     show_rows(out, &entries, &begins)
 }
 
-// The number of a search's answer, 0 where nothing competes.
-fn search_number(searched: Searched) -> u8 {
-    match searched {
-        Searched::ShortBuffer => 1,
-        Searched::OutsideLimits => 10,
-        Searched::Restrained => 0,
-        Searched::Competes => COMPETES,
-    }
-}
-
 pub(crate) fn run(out: &mut String, case: &Case<'_>) -> Result<()> {
-    let schema = made_up(read_schema(case.first).schema, case.second);
+    let read = read_schema(case.first);
+    let schema = made_up(read.unwrap_or(Schema::NONE), case.second);
     let mut lent = lend(*out.allocator(), case.room)?;
-    let place = if within(schema) { "inside" } else { "outside" };
+    let place = if within(&schema) { "inside" } else { "outside" };
     write!(out, "{place}")?;
     show_trimming(out, &schema)?;
     show_live_rows(out, &schema)?;
-    let searched = search_number(competition(schema, &mut lent));
-    write!(out, "; search {searched}")?;
+    let searched = competition(&schema, &mut lent).err();
+    let number = searched.map_or(0, |why| why.number());
+    write!(out, "; search {number}")?;
     show_witness(out, searched, &lent)?;
     fill(&mut lent);
-    let judged = judge(schema, &mut lent);
+    let judged = judge(&schema, &mut lent).err();
     write!(out, "; judge ")?;
-    show_verdict(out, judged)?;
-    show_witness(out, number_of(judged), &lent)?;
+    show_verdict(out, judged.map(|why| why.at(0)))?;
+    show_witness(out, judged, &lent)?;
     writeln!(out)?;
     Ok(())
 }

@@ -1,5 +1,5 @@
 // Answers and numbers, as the cases' lines show them.
-use sdtd::Verdict;
+use sdtd::Refusal;
 use std::alloc::AllocError;
 use std::fmt::Write;
 
@@ -11,17 +11,10 @@ pub(crate) fn show_numbers(out: &mut String, numbers: &[u8]) -> Result<(), Alloc
     Ok(())
 }
 
-pub(crate) fn show_verdict(out: &mut String, verdict: Verdict) -> Result<(), AllocError> {
-    match verdict {
-        Verdict::Fine => write!(out, "accepted"),
-        Verdict::RefusedAt(n, p) => write!(out, "refused {n} at {p}"),
-    }
-}
-
-// The number of a refusal, 0 where there is none.
-pub(crate) fn number_of(verdict: Verdict) -> u8 {
-    match verdict {
-        Verdict::Fine => 0,
-        Verdict::RefusedAt(n, _) => n,
+// The refusal, or that there is none.
+pub(crate) fn show_verdict(out: &mut String, refusal: Option<Refusal>) -> Result<(), AllocError> {
+    match refusal {
+        None => write!(out, "accepted"),
+        Some(refusal) => write!(out, "{refusal}"),
     }
 }

@@ -3,7 +3,7 @@
 use crate::case::Case;
 use crate::items::padded;
 use anyhow::Result;
-use pairs::{PairNumber, pair_number};
+use pairs::pair_number;
 use schema::StateSet;
 use std::fmt::Write;
 
@@ -11,8 +11,8 @@ pub(crate) fn run_pair(out: &mut String, case: &Case<'_>) -> Result<()> {
     let [p, q] = padded::<2>(case.first);
     write!(out, "pair {p} {q}:")?;
     match pair_number(p, q) {
-        PairNumber::At(n) => writeln!(out, " {n}")?,
-        PairNumber::Outside => writeln!(out, " outside")?,
+        Some(n) => writeln!(out, " {n}")?,
+        None => writeln!(out, " outside")?,
     }
     Ok(())
 }

@@ -5,14 +5,13 @@ use crate::case::Case;
 use crate::show::show_numbers;
 use anyhow::Result;
 use schema_writer::write_reduced;
-use sdtd::FileWritten;
 use std::fmt::Write;
 
 pub(crate) fn run(out: &mut String, case: &Case<'_>) -> Result<()> {
     let mut lent = lend(*out.allocator(), case.room)?;
     let (number, length) = match write_reduced(case.first, &mut lent) {
-        FileWritten::Length(length) => (0, length),
-        FileWritten::Refused(number) => (number, 0),
+        Ok(length) => (0, length),
+        Err(why) => (why.number(), 0),
     };
     write!(out, "{number} | {length}")?;
     show_numbers(out, &lent[..length.min(lent.len())])?;
