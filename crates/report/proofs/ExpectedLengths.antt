@@ -10,8 +10,8 @@ use Rattle.sdtd.specs.Limits.{most_levels}
 use Rattle.expected.specs.Expected.{most_openings}
 use Rattle.expected.specs.declared.Expected.{Expected}
 use Rattle.text.specs.Line.{line_end}
-use Rattle.text.specs.Decimal.{decimal}
-use Rattle.text.proofs.DecimalLaws.{decimal_long}
+use Rattle.std.specs.Fmt.{decimal}
+use Rattle.std.proofs.lemmas.Fmt.{length-decimal-le}
 use Rattle.report.specs.Words.{refused, space, accepted_line, inside, open_nil, close_line, finish_line}
 use Rattle.report.specs.Text.{numbered, refusal_line}
 use Rattle.report.specs.ExpectedText.{spaced, inside_line, open_line, open_lines, end_lines, taken_lines, expected_text}
@@ -21,14 +21,14 @@ use Rattle.report.proofs.TextLengths.{Bytes, bytes, bytes_take, refusal_long}
 spaced_long : (ts : List ℕ) → Bytes ts → length (spaced ts) ≤ most_number * length ts
 spaced_long [] h = omega arith
 spaced_long (t ∷ ts) (h, hs) =
-    let a = decimal_long 2 t (omega arith) in
+    let a = length-decimal-le 3 t (omega arith) (omega arith) (omega arith) in
     let b = spaced_long ts hs in
     omega (arith, length-append (numbered space t) (spaced ts), length-append space (decimal t))
 
 open_long : (nil : Bool) (g : ℕ) → g < 256 → length (open_line nil g) ≤ length open_nil + most_number
 unfolding open_line
-open_long true g h = let a = decimal_long 2 g (omega arith) in simp length-append (omega arith)
-open_long false g h = let a = decimal_long 2 g (omega arith) in simp length-append (omega arith)
+open_long true g h = let a = length-decimal-le 3 g (omega arith) (omega arith) (omega arith) in simp length-append (omega arith)
+open_long false g h = let a = length-decimal-le 3 g (omega arith) (omega arith) (omega arith) in simp length-append (omega arith)
 
 opens_long : (gs : List ℕ) (ns : List Bool) → Bytes gs → length (open_lines gs ns) ≤ (length open_nil + most_number) * length gs
 opens_long [] ns h = omega arith

@@ -47,7 +47,7 @@ use Rattle.expected.proofs.AnswerLaws.{expected_unique}
 use Rattle.expected.proofs.ByDocuments.{expected_judged}
 use Rattle.typing.specs.Samples.{third}
 use Rattle.typing.proofs.SamplesHold.{samples_hold}
-use Rattle.text.specs.Decimal.{decimal}
+use Rattle.std.specs.Fmt.{digits}
 use Rattle.report.specs.Text.{refusal_line}
 use Rattle.report.specs.ExpectedText.{inside_line, open_line, end_lines, taken_lines, expected_text, expected_text_of}
 use Rattle.report.specs.Samples.{ExpectedSample}
@@ -216,7 +216,7 @@ expected_third m =
     })
 
 pub expected_sample : ExpectedSample
-unfolding decimal refusal_line inside_line open_line end_lines taken_lines expected_text
+unfolding digits refusal_line inside_line open_line end_lines taken_lines expected_text
 expected_sample other x =
     let a = short_job (omega arith) (omega arith) x in
     let j = a.means in

@@ -1,5 +1,4 @@
 -- Laws of laying lines, and of the text printed.
-pub mod LineLaws
 pub mod ExpectedLines
 pub mod OpeningLaws
 pub mod ReportLaws

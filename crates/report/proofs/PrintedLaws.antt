@@ -21,7 +21,7 @@ use Rattle.typing.specs.declared.job.Job.{Job}
 use Rattle.typing.specs.declared.job.Job.TheVariants.{SchemaRefused, EventsRead}
 use Rattle.typing.proofs.Jobs.{job_refusal, one_job, job_meets, job_lines, job_enough}
 use Rattle.typing.proofs.SamplesHold.{samples_hold}
-use Rattle.text.specs.Decimal.{decimal}
+use Rattle.std.specs.Fmt.{digits}
 use Rattle.report.specs.Text.{refusal_line, rivals, witness_line, opening_line, last_line, schema_refused_text, text_of}
 use Rattle.report.specs.Report.{most_schema, most_events, types_held, JobPrinted, PrintedBy, Printed}
 use Rattle.report.specs.Samples.{PrintedSamples}
@@ -126,7 +126,7 @@ refused_prints file n p answer schema short {events} long x =
     (a.types, a.prints ∙ (λ i. text_of events (got.1 i) a.types (q i)))
 
 pub printed_samples : PrintedSamples
-unfolding decimal refusal_line rivals witness_line opening_line last_line text_of
+unfolding digits refusal_line rivals witness_line opening_line last_line text_of
 printed_samples = (
   λ other x. (read_prints file_r first refl samples_hold.0 (omega arith) (omega arith) (omega arith) x).1,
   λ other x. (read_prints file_r second refl samples_hold.1.0 (omega arith) (omega arith) (omega arith) x).1,

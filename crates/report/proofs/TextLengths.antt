@@ -20,7 +20,7 @@ use Rattle.report.specs.Words.{header, schema_refused, refused, accepted}
 use Rattle.report.specs.Text.{numbered, refusal_line, rivals, witness_line, opening_line, opening_lines, last_line, schema_refused_text, text_of}
 use Rattle.report.specs.Report.{most_events, types_held, most_line, most_last, most_text}
 use Rattle.report.specs.Steps.{most_refused}
-use Rattle.text.proofs.DecimalLaws.{decimal_long}
+use Rattle.std.proofs.lemmas.Fmt.{length-decimal-le}
 use Rattle.text.specs.Line.{line_end}
 
 -- every byte of a list
@@ -67,9 +67,9 @@ module _ (m : ℕ) where
 line_long : (level tag type : ℕ) → level ≤ most_events → tag < 256 → type < 256 → length (opening_line level tag type) ≤ most_line
 unfolding opening_line
 line_long level tag type h k l =
-    let a = decimal_long 4 level (omega arith) in
-    let b = decimal_long 2 tag (omega arith) in
-    let c = decimal_long 2 type (omega arith) in
+    let a = length-decimal-le 5 level (omega arith) (omega arith) (omega arith) in
+    let b = length-decimal-le 3 tag (omega arith) (omega arith) (omega arith) in
+    let c = length-decimal-le 3 type (omega arith) (omega arith) (omega arith) in
     simp length-append (omega arith)
 
 lines_long : (js : List ℕ) (ls : List Line) → Bytes js → Lines most_events ls → length (opening_lines js ls) ≤ most_line * length js
@@ -83,8 +83,8 @@ lines_long (j ∷ js) (l ∷ ls) (h, hs) (k, g, ks) =
 pub refusal_long : (words : List ℕ) (n p : ℕ) → n < 256 → p < 2 ^ 64 → length (refusal_line words n p) ≤ length words + 28
 unfolding refusal_line
 refusal_long words n p h k =
-    let a = decimal_long 2 n (omega arith) in
-    let b = decimal_long 19 p (omega arith) in
+    let a = length-decimal-le 3 n (omega arith) (omega arith) (omega arith) in
+    let b = length-decimal-le 20 p (omega arith) (omega arith) (omega arith) in
     simp length-append (omega arith)
 
 last_long : (e : EventFile) → e.number < 256 → e.place < 2 ^ 64 → e.count < 2 ^ 64 → length (last_line e) ≤ most_last
@@ -92,17 +92,17 @@ unfolding last_line
 last_long e h k l = by (eqb e.number 0)
   where
     by : (c : Bool) → length (cond c (numbered accepted e.count ++ line_end) (refusal_line refused e.number e.place)) ≤ most_last
-    by true = let a = decimal_long 19 e.count (omega arith) in simp length-append (omega arith)
+    by true = let a = length-decimal-le 20 e.count (omega arith) (omega arith) (omega arith) in simp length-append (omega arith)
     by false = omega (arith, refusal_long refused e.number e.place h k)
 
 witness_long : (h : WitnessHead) → h.of.0 < 256 → h.first.0 < 256 → h.second.0 < 256 → h.word < 2 ^ 64
     → length (witness_line h) ≤ 53
 unfolding rivals witness_line
 witness_long h of first second word =
-    let a = decimal_long 2 h.of.0 (omega arith) in
-    let b = decimal_long 2 h.first.0 (omega arith) in
-    let c = decimal_long 2 h.second.0 (omega arith) in
-    let d = decimal_long 19 h.word (omega arith) in
+    let a = length-decimal-le 3 h.of.0 (omega arith) (omega arith) (omega arith) in
+    let b = length-decimal-le 3 h.first.0 (omega arith) (omega arith) (omega arith) in
+    let c = length-decimal-le 3 h.second.0 (omega arith) (omega arith) (omega arith) in
+    let d = length-decimal-le 20 h.word (omega arith) (omega arith) (omega arith) in
     simp length-append (omega arith)
 
 -- the text of a schema that is refused with 9, from the head of the witness

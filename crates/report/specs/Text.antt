@@ -1,6 +1,5 @@
 -- The text that the program `typestock` prints: document 01, "The event file", second paragraph.
-use Rattle.std.specs.Prelude.{cond, List, [], ◌∷◌, ◌++◌, ℕ, eqb, take}
-use Rattle.text.specs.Decimal.{decimal}
+use Rattle.std.specs.Prelude.{cond, List, [], ◌∷◌, ◌++◌, ℕ, eqb, take, decimal}
 use Rattle.text.specs.Line.{line_end}
 use Rattle.events.specs.Events.{events_of}
 use Rattle.competition.specs.Witness.{head_of}
@@ -18,11 +17,11 @@ numbered words n = words ++ decimal n
 
 -- `refused N at P`, or `schema refused N at P`
 unfoldable pub refusal_line : List ℕ → ℕ → ℕ → List ℕ
-refusal_line words n p = numbered words n ++ (numbered at_place p ++ line_end)
+refusal_line words n p = numbered words n ++ numbered at_place p ++ line_end
 
 -- `type A gives J or K`
 unfoldable pub rivals : ℕ → ℕ → ℕ → List ℕ
-rivals a j k = numbered type_of a ++ (numbered gives j ++ numbered or_else k)
+rivals a j k = numbered type_of a ++ numbered gives j ++ numbered or_else k
 
 -- "for 9, a line `type A gives J or K after n`", from the head of the witness
 unfoldable pub witness_line : WitnessHead → List ℕ
@@ -30,7 +29,7 @@ witness_line h = rivals h.of.0 h.first.0 h.second.0 ++ (numbered after h.word ++
 
 -- "Each middle line has the opening's level, tag and type".
 unfoldable pub opening_line : ℕ → ℕ → ℕ → List ℕ
-opening_line level tag type = decimal level ++ (numbered space tag ++ (numbered space type ++ line_end))
+opening_line level tag type = decimal level ++ numbered space tag ++ numbered space type ++ line_end
 
 -- A line for each type of an opening taken: the levels and tags are those of the events' openings in order. No opening taken lacks its line
 -- (`every_line`).

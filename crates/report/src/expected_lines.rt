@@ -1,100 +1,91 @@
 // The lines that say what would have been taken.
 ghost use Rattle.std.specs.Prelude.{◌≡◌, length, cond, []};
-ghost use Rattle.text.specs.Laid.{Laid};
+ghost use Rattle.text.specs.Page.{Lays};
 ghost use Rattle.report.specs.Words.{open_plain, open_nil};
 ghost use Rattle.report.specs.Text.{numbered};
 ghost use Rattle.report.specs.ExpectedText.{spaced, inside_line, open_line, open_lines, end_lines, taken_lines};
 
-use crate::lines::{put_numbered, wide};
-use crate::program::least;
 use expected::{Expected, OPENINGS};
 use reading::LEVELS;
-use text::{LINE_END, put_byte, put_bytes};
+use text::Page;
 
 // Puts the types, each after a space.
-fn put_spaced(out: &mut [u8], at: usize, types: &[u8]) -> usize
-    ensures { Laid out.old at (spaced types.now) out.new result }
+#[tactic(auto, using(crate::proofs::ExpectedLines::spaced_next, crate::proofs::ExpectedLines::spaced_end))]
+fn put_spaced(page: &mut Page<'_>, types: &[u8])
+    ensures { Lays page.old (spaced types.now) page.new }
 {
-    let mut place = at;
-    let mut i: usize = 0;
-    while i < types.len() {
-        place = put_numbered(out, place, b" ", wide(types[i]));
-        i += 1;
+    for t in types {
+        page.numbered(b" ", usize::from(*t));
     }
-    place
 }
 
 // `inside`, and the types from the root down.
-fn put_inside(out: &mut [u8], at: usize, types: &[u8]) -> usize
-    ensures { Laid out.old at (inside_line types.now) out.new result }
+fn put_inside(page: &mut Page<'_>, types: &[u8])
+    ensures { Lays page.old (inside_line types.now) page.new }
 {
-    let first = put_bytes(out, at, b"inside");
-    let second = put_spaced(out, first, types);
-    put_byte(out, second, LINE_END)
+    page.bytes(b"inside");
+    put_spaced(page, types);
+    page.end_line();
 }
 
 // `open` or `open nil`, and the tag.
-fn put_open_tag(out: &mut [u8], at: usize, nil: bool, tag: u8) -> usize
-    ensures { Laid out.old at (numbered (cond nil open_nil open_plain) tag) out.new result }
+fn put_open_tag(page: &mut Page<'_>, nil: bool, tag: u8)
+    ensures { Lays page.old (numbered (cond nil open_nil open_plain) tag) page.new }
 {
     if nil {
-        put_numbered(out, at, b"open nil ", wide(tag))
+        page.numbered(b"open nil ", usize::from(tag));
     } else {
-        put_numbered(out, at, b"open ", wide(tag))
+        page.numbered(b"open ", usize::from(tag));
     }
 }
 
 // The line of an opening.
-fn put_open(out: &mut [u8], at: usize, nil: bool, tag: u8) -> usize
-    ensures { Laid out.old at (open_line nil tag) out.new result }
+#[tactic(auto, using(text::proofs::PageLaws::laid_append), unfolding(crate::specs::ExpectedText::open_line))]
+fn put_open(page: &mut Page<'_>, nil: bool, tag: u8)
+    ensures { Lays page.old (open_line nil tag) page.new }
 {
-    let place = put_open_tag(out, at, nil, tag);
-    put_byte(out, place, LINE_END)
+    put_open_tag(page, nil, tag);
+    page.end_line();
 }
 
 // A line for each opening: its tag, and whether it is as nil.
-fn put_open_lines(out: &mut [u8], at: usize, tags: &[u8], nils: &[bool]) -> usize
+#[tactic(auto, using(crate::proofs::ExpectedLines::open_next, crate::proofs::ExpectedLines::open_end))]
+fn put_open_lines(page: &mut Page<'_>, tags: &[u8], nils: &[bool])
     requires { length tags.now ≡ length nils.now }
-    ensures { Laid out.old at (open_lines tags.now nils.now) out.new result }
+    ensures { Lays page.old (open_lines tags.now nils.now) page.new }
 {
-    let mut place = at;
-    let mut i: usize = 0;
-    while i < tags.len() {
-        place = put_open(out, place, nils[i], tags[i]);
-        i += 1;
+    for i in 0..tags.len() {
+        put_open(page, nils[i], tags[i]);
     }
-    place
 }
 
 // A line where it holds.
-fn put_if(out: &mut [u8], at: usize, holds: bool, line: &[u8]) -> usize
-    ensures { Laid out.old at (cond holds line.now []) out.new result }
+#[tactic(auto, using(text::proofs::PageLaws::laid_none))]
+fn put_if(page: &mut Page<'_>, holds: bool, line: &[u8])
+    ensures { Lays page.old (cond holds line.now []) page.new }
 {
     if holds {
-        return put_bytes(out, at, line);
+        page.bytes(line);
     }
-    at
 }
 
 // `close` and `finish`, where they would have been taken.
-#[tactic(auto, unfolding(crate::specs::ExpectedText::end_lines))]
-fn put_ends(out: &mut [u8], at: usize, closes: bool, finishes: bool) -> usize
-    ensures { Laid out.old at (end_lines closes finishes) out.new result }
+#[tactic(auto, using(text::proofs::PageLaws::laid_append), unfolding(crate::specs::ExpectedText::end_lines))]
+fn put_ends(page: &mut Page<'_>, closes: bool, finishes: bool)
+    ensures { Lays page.old (end_lines closes finishes) page.new }
 {
-    let first = put_if(out, at, closes, b"close\n");
-    put_if(out, first, finishes, b"finish\n")
+    put_if(page, closes, b"close\n");
+    put_if(page, finishes, b"finish\n");
 }
 
 // The elements that are open, then the calls that would have been taken.
-pub(crate) fn put_taken(out: &mut [u8], at: usize, e: Expected) -> usize
-    ensures { Laid out.old at (taken_lines e) out.new result }
+#[tactic(auto, using(text::proofs::PageLaws::laid_append, crate::proofs::ReportLaws::cut), unfolding(crate::specs::ExpectedText::taken_lines))]
+pub(crate) fn put_taken(page: &mut Page<'_>, e: Expected)
+    ensures { Lays page.old (taken_lines e) page.new }
 {
-    let types = e.types;
-    let tags = e.tags;
-    let nils = e.nils;
-    let depth = least(e.depth, LEVELS);
-    let count = least(e.count, OPENINGS);
-    let first = put_inside(out, at, &types[..depth]);
-    let second = put_open_lines(out, first, &tags[..count], &nils[..count]);
-    put_ends(out, second, e.closes, e.finishes)
+    let depth = e.depth.min(LEVELS);
+    let count = e.count.min(OPENINGS);
+    put_inside(page, &e.types[..depth]);
+    put_open_lines(page, &e.tags[..count], &e.nils[..count]);
+    put_ends(page, e.closes, e.finishes);
 }

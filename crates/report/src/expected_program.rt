@@ -5,12 +5,12 @@ ghost use Rattle.report.specs.Steps.{WholeLaid, AnswerLaid};
 
 use crate::expected_lines::put_taken;
 use crate::lines::put_refusal;
-use crate::program::{MOST_EVENTS, MOST_LAST, MOST_SCHEMA, least, put_schema_refused};
+use crate::program::{MOST_LAST, counted, put_schema_refused};
 use competition::LEAST_WITNESS;
 use expected::{Expected, OPENINGS};
 use reading::LEVELS;
 use sdtd::Verdict;
-use text::put_bytes;
+use text::Page;
 use typing::{ExpectedJob, expect_document};
 
 // The most bytes of a type's number with the space before it, or of a tag's with the line's end.
@@ -33,36 +33,40 @@ pub const EXPECTED_OUTPUT: usize = MOST_LAST
     + ENDS;
 
 // The text under an accepted schema.
-fn put_expected(out: &mut [u8], e: Expected) -> usize
-    ensures { WholeLaid most_expected out.old (expected_text e) out.new result }
+fn put_expected(page: &mut Page<'_>, e: Expected)
+    ensures { WholeLaid most_expected page.old (expected_text e) page.new }
 {
     if e.number == 0 {
-        return put_bytes(out, 0, b"accepted\n");
+        page.line(b"accepted");
+        return;
     }
-    let at = put_refusal(out, 0, b"refused ", e.number, e.place);
-    put_taken(out, at, e)
+    put_refusal(page, b"refused ", e.number, e.place);
+    put_taken(page, e);
 }
 
 // The text of a job.
-fn put_expected_job(out: &mut [u8], witness: &[u8; LEAST_WITNESS], job: ExpectedJob) -> usize
-    ensures { WholeLaid most_expected out.old (expected_text_of witness.now job.schema job.expected)
-        out.new result }
+fn put_expected_job(page: &mut Page<'_>, witness: &[u8; LEAST_WITNESS], job: ExpectedJob)
+    ensures { WholeLaid most_expected page.old (expected_text_of witness.now job.schema job.expected) page.new }
 {
     let verdict = job.schema;
     let e = job.expected;
     match verdict {
-        Verdict::Fine => put_expected(out, e),
-        Verdict::RefusedAt(n, p) => put_schema_refused(out, witness, n, p),
+        Verdict::Fine => put_expected(page, e),
+        Verdict::RefusedAt(n, p) => put_schema_refused(page, witness, n, p),
     }
 }
 
-// The job on the schema's bytes that count, and its text.
-fn put_expected_answer(schema: &[u8], events: &[u8], out: &mut [u8]) -> usize
-    ensures { AnswerLaid ExpectedPrinted most_expected schema.now events.now out.old out.new result }
+// The job on the two files, and its text; above the most bytes of events only `too long`.
+fn put_expected_answer(page: &mut Page<'_>, schema: &[u8], events: &[u8])
+    ensures { AnswerLaid ExpectedPrinted most_expected schema.now events.now page.old page.new }
 {
+    let Some(schema) = counted(schema, events) else {
+        page.line(b"too long");
+        return;
+    };
     let mut witness = [0u8; LEAST_WITNESS];
     let job = expect_document(schema, events, &mut witness);
-    put_expected_job(out, &witness, job)
+    put_expected_job(page, &witness, job);
 }
 
 // What the program `whatnext` prints for the bytes of its schema file and of its events, put into `out` as far as it fits; and how many bytes of it
@@ -70,9 +74,7 @@ fn put_expected_answer(schema: &[u8], events: &[u8], out: &mut [u8]) -> usize
 pub fn report_expected(schema: &[u8], events: &[u8], out: &mut [u8]) -> usize
     ensures { ExpectedReported schema.now events.now out.old out.new result }
 {
-    if events.len() > MOST_EVENTS {
-        return put_bytes(out, 0, b"too long\n");
-    }
-    let n = least(MOST_SCHEMA, schema.len());
-    put_expected_answer(&schema[..n], events, out)
+    let mut page = Page::new(out, 0);
+    put_expected_answer(&mut page, schema, events);
+    page.held()
 }

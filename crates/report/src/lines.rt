@@ -1,84 +1,59 @@
 // The lines of the text.
-ghost use Rattle.std.specs.Prelude.{◌≡◌};
-ghost use Rattle.text.specs.Laid.{Laid};
-ghost use Rattle.report.specs.Text.{numbered, refusal_line, rivals, witness_line, opening_line, last_line};
+ghost use Rattle.text.specs.Page.{Lays};
+ghost use Rattle.report.specs.Text.{refusal_line, rivals, witness_line, opening_line, last_line};
 
 use competition::WitnessHead;
 use reading::EventFile;
 use sdtd::{Tag, TypeNo};
-use text::{LINE_END, put_byte, put_bytes, put_decimal};
-
-pub(crate) fn wide(byte: u8) -> usize
-    ensures { result ≡ byte }
-{
-    byte as usize
-}
-
-// Puts words and a number after them.
-pub(crate) fn put_numbered(out: &mut [u8], at: usize, words: &[u8], n: usize) -> usize
-    ensures { Laid out.old at (numbered words.now n) out.new result }
-{
-    let place = put_bytes(out, at, words);
-    put_decimal(out, place, n)
-}
+use text::Page;
 
 // `N at P` after the words.
-pub(crate) fn put_refusal(
-    out: &mut [u8],
-    at: usize,
-    words: &[u8],
-    number: u8,
-    place: usize,
-) -> usize
-    ensures { Laid out.old at (refusal_line words.now number place) out.new result }
+#[tactic(auto, using(text::proofs::PageLaws::laid_append), unfolding(crate::specs::Text::refusal_line))]
+pub(crate) fn put_refusal(page: &mut Page<'_>, words: &[u8], number: u8, place: usize)
+    ensures { Lays page.old (refusal_line words.now number place) page.new }
 {
-    let first = put_numbered(out, at, words, wide(number));
-    let second = put_numbered(out, first, b" at ", place);
-    put_byte(out, second, LINE_END)
+    page.numbered(words, usize::from(number));
+    page.numbered(b" at ", place);
+    page.end_line();
 }
 
 // `type A gives J or K`.
-fn put_rivals(out: &mut [u8], at: usize, a: TypeNo, j: TypeNo, k: TypeNo) -> usize
-    ensures { Laid out.old at (rivals a.0 j.0 k.0) out.new result }
+fn put_rivals(page: &mut Page<'_>, a: TypeNo, j: TypeNo, k: TypeNo)
+    ensures { Lays page.old (rivals a.0 j.0 k.0) page.new }
 {
-    let first = put_numbered(out, at, b"type ", wide(a.0));
-    let second = put_numbered(out, first, b" gives ", wide(j.0));
-    put_numbered(out, second, b" or ", wide(k.0))
+    page.numbered(b"type ", usize::from(a.0));
+    page.numbered(b" gives ", usize::from(j.0));
+    page.numbered(b" or ", usize::from(k.0));
 }
 
 // `type A gives J or K after n`, from the head of a witness.
-pub(crate) fn put_witness(out: &mut [u8], at: usize, head: WitnessHead) -> usize
-    ensures { Laid out.old at (witness_line head) out.new result }
+pub(crate) fn put_witness(page: &mut Page<'_>, head: WitnessHead)
+    ensures { Lays page.old (witness_line head) page.new }
 {
-    let first = put_rivals(out, at, head.of, head.first, head.second);
-    let last = put_numbered(out, first, b" after ", head.word);
-    put_byte(out, last, LINE_END)
+    put_rivals(page, head.of, head.first, head.second);
+    page.numbered(b" after ", head.word);
+    page.end_line();
 }
 
 // An opening's level, tag and type.
-pub(crate) fn put_opening(
-    out: &mut [u8],
-    at: usize,
-    level: usize,
-    tag: Tag,
-    type_no: TypeNo,
-) -> usize
-    ensures { Laid out.old at (opening_line level tag.0 type_no.0) out.new result }
+#[tactic(auto, using(text::proofs::PageLaws::laid_append), unfolding(crate::specs::Text::opening_line))]
+pub(crate) fn put_opening(page: &mut Page<'_>, level: usize, tag: Tag, type_no: TypeNo)
+    ensures { Lays page.old (opening_line level tag.0 type_no.0) page.new }
 {
-    let first = put_decimal(out, at, level);
-    let second = put_numbered(out, first, b" ", wide(tag.0));
-    let third = put_numbered(out, second, b" ", wide(type_no.0));
-    put_byte(out, third, LINE_END)
+    page.number(level);
+    page.numbered(b" ", usize::from(tag.0));
+    page.numbered(b" ", usize::from(type_no.0));
+    page.end_line();
 }
 
 // `accepted` with the count of openings, or `refused N at P`.
-pub(crate) fn put_last(out: &mut [u8], at: usize, e: EventFile) -> usize
-    ensures { Laid out.old at (last_line e) out.new result }
+pub(crate) fn put_last(page: &mut Page<'_>, e: EventFile)
+    ensures { Lays page.old (last_line e) page.new }
 {
     if e.number == 0 {
-        let place = put_numbered(out, at, b"accepted ", e.count);
-        put_byte(out, place, LINE_END)
+        page.numbered(b"accepted ", e.count);
+        page.end_line();
     } else {
-        put_refusal(out, at, b"refused ", e.number, e.place)
+        put_refusal(page, b"refused ", e.number, e.place);
     }
 }

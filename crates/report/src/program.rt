@@ -1,15 +1,15 @@
 // The program's whole job on slices.
-ghost use Rattle.std.specs.Prelude.{◌≡◌, ℕ, ◌≤◌, min, List, length};
+ghost use Rattle.std.specs.Prelude.{◌≡◌, ℕ, ◌<◌, ◌≤◌, List, length, take, MatchOption};
 ghost use Rattle.typing.specs.declared.job.Job.TheVariants.{EventsRead};
 ghost use Rattle.report.specs.Text.{schema_refused_text, text_of};
-ghost use Rattle.report.specs.Report.{most_events, types_held, most_text, JobPrinted, Reported};
+ghost use Rattle.report.specs.Report.{most_schema, most_events, types_held, most_text, JobPrinted, Reported};
 ghost use Rattle.report.specs.Steps.{most_refused, WholeLaid, AnswerLaid};
 
 use crate::lines::{put_last, put_refusal, put_witness};
 use crate::openings::put_openings;
 use competition::{LEAST_WITNESS, witness_head};
 use reading::EventFile;
-use text::put_bytes;
+use text::Page;
 use typing::{Job, type_document};
 
 // The schema file's bytes that count.
@@ -36,77 +36,80 @@ pub const OUTPUT: usize = HEADER + MOST_LINE * TYPES_HELD + MOST_LAST;
 // The number of a schema that is refused for competition.
 const COMPETITION: u8 = 9;
 
-pub(crate) fn least(a: usize, b: usize) -> usize
-    ensures { result ≡ min a b }
-{
-    if a < b { a } else { b }
-}
-
 // The text of a refused schema.
 pub(crate) fn put_schema_refused(
-    out: &mut [u8],
+    page: &mut Page<'_>,
     witness: &[u8; LEAST_WITNESS],
     number: u8,
     place: usize,
-) -> usize
-    ensures { WholeLaid most_refused out.old (schema_refused_text witness.now number place) out.new result }
+)
+    ensures { WholeLaid most_refused page.old (schema_refused_text witness.now number place) page.new }
 {
-    let at = put_refusal(out, 0, b"schema refused ", number, place);
+    put_refusal(page, b"schema refused ", number, place);
     if number == COMPETITION {
-        put_witness(out, at, witness_head(witness))
-    } else {
-        at
+        put_witness(page, witness_head(witness));
     }
 }
 
 // The text under an accepted schema.
-fn put_events_read(out: &mut [u8], events: &[u8], types: &[u8], e: EventFile) -> usize
+fn put_events_read(page: &mut Page<'_>, events: &[u8], types: &[u8], e: EventFile)
     requires { (length events.now ≤ most_events) × (length types.now ≤ types_held) }
-    ensures { (witness : List ℕ) → WholeLaid most_text out.old
-        (text_of events.now witness types.now (EventsRead e)) out.new result }
+    ensures { (witness : List ℕ) → WholeLaid most_text page.old
+        (text_of events.now witness types.now (EventsRead e)) page.new }
 {
-    let taken = least(e.count, types.len());
-    let first = put_bytes(out, 0, b"depth tag type\n");
-    let second = put_openings(out, first, events, &types[..taken]);
-    put_last(out, second, e)
+    let taken = e.count.min(types.len());
+    page.line(b"depth tag type");
+    put_openings(page, events, &types[..taken]);
+    put_last(page, e);
 }
 
 // The text of a job.
 fn put_job(
-    out: &mut [u8],
+    page: &mut Page<'_>,
     events: &[u8],
     witness: &[u8; LEAST_WITNESS],
     types: &[u8],
     job: Job,
-) -> usize
+)
     requires { (length events.now ≤ most_events) × (length types.now ≤ types_held) }
-    ensures { WholeLaid most_text out.old (text_of events.now witness.now types.now job)
-        out.new result }
+    ensures { WholeLaid most_text page.old (text_of events.now witness.now types.now job) page.new }
 {
     match job {
-        Job::SchemaRefused(n, p) => put_schema_refused(out, witness, n, p),
-        Job::EventsRead(e) => put_events_read(out, events, types, e),
+        Job::SchemaRefused(n, p) => put_schema_refused(page, witness, n, p),
+        Job::EventsRead(e) => put_events_read(page, events, types, e),
     }
 }
 
-// The job on the schema's bytes that count, and its text.
-fn put_answer(schema: &[u8], events: &[u8], out: &mut [u8]) -> usize
-    requires { length events.now ≤ most_events }
-    ensures { AnswerLaid JobPrinted most_text schema.now events.now out.old out.new result }
+// The schema file's bytes that count; none where the events are too long.
+pub(crate) fn counted<'a>(schema: &'a [u8], events: &[u8]) -> Option<&'a [u8]>
+    ensures { MatchOption result (most_events < length events.now)
+        (λ s. (length events.now ≤ most_events) × (s.now ≡ take most_schema schema.now)) }
 {
+    if MOST_EVENTS < events.len() {
+        return None;
+    }
+    Some(&schema[..schema.len().min(MOST_SCHEMA)])
+}
+
+// The job on the two files, and its text; above the most bytes of events only `too long`.
+fn put_answer(page: &mut Page<'_>, schema: &[u8], events: &[u8])
+    ensures { AnswerLaid JobPrinted most_text schema.now events.now page.old page.new }
+{
+    let Some(schema) = counted(schema, events) else {
+        page.line(b"too long");
+        return;
+    };
     let mut witness = [0u8; LEAST_WITNESS];
     let mut types = [0u8; TYPES_HELD];
     let job = type_document(schema, events, &mut witness, &mut types);
-    put_job(out, events, &witness, &types, job)
+    put_job(page, events, &witness, &types, job);
 }
 
 // What the program prints for the bytes of its schema file and of its events, put into `out` as far as it fits; and how many bytes of it are there.
 pub fn report(schema: &[u8], events: &[u8], out: &mut [u8]) -> usize
     ensures { Reported schema.now events.now out.old out.new result }
 {
-    if events.len() > MOST_EVENTS {
-        return put_bytes(out, 0, b"too long\n");
-    }
-    let n = least(MOST_SCHEMA, schema.len());
-    put_answer(&schema[..n], events, out)
+    let mut page = Page::new(out, 0);
+    put_answer(&mut page, schema, events);
+    page.held()
 }

@@ -1,13 +1,12 @@
--- `report::expected_lines::put_open_lines` meets its contract. The loop's invariant: the lines that are left are those of the openings that are left.
-use Prim.Native.Nat.{◌-◌}
-use lib.ListN.{length, drop}
+-- `report::expected_lines::put_open_lines` meets its contract. The loop's invariant: with the openings that are left the page is what all of them
+-- make of it.
+use mathlib.Core.Path.{◌≡◌}
+use lib.ListN.{drop}
+use Rattle.text.specs.Page.{sheet, laid}
 use Rattle.report.specs.ExpectedText.{open_lines}
-use Rattle.text.proofs.LaidLaws.{ToGo}
 use Rattle.report.proofs.expected_lines.put_open_lines.Given as goal
 
 abbrev pub invariant-loop-i : goal.invariant-loop-i
 invariant-loop-i l =
-    ToGo l.initial.out l.at (open_lines l.tags l.nils) l.out l.place (open_lines (drop l.i l.tags) (drop l.i l.nils))
-
-abbrev pub decreases-loop-i : goal.decreases-loop-i
-decreases-loop-i l = length l.tags - l.i
+    (l.page.out.ghost_name ≡ l.initial.page.out.ghost_name)
+    × (laid (sheet l.page) (open_lines (drop l.i l.tags) (drop l.i l.nils)) ≡ laid (sheet l.initial.page) (open_lines l.tags l.nils))

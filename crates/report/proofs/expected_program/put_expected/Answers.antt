@@ -11,7 +11,8 @@ use Rattle.sdtd.specs.Limits.{most_levels}
 use Rattle.expected.specs.Expected.{most_openings}
 use Rattle.report.specs.ExpectedText.{expected_text}
 use Rattle.report.specs.ExpectedReport.{most_expected}
-use Rattle.text.proofs.LaidLaws.{laid_then}
+use mathlib.Core.Path.{◌∙◌}
+use Rattle.text.proofs.PageLaws.{laid_then}
 use Rattle.report.proofs.ExpectedLengths.{expected_short}
 use Rattle.report.proofs.expected_program.put_expected.Goals as goal
 
@@ -26,7 +27,7 @@ returns-then-e-eq0 c =
     let number : e.number < 256 = omega arith in
     let place : e.place < 2 ^ 64 = omega arith in
     expected_short e types tags (λ i. (type_fits i).fits) (λ i. (tag_fits i).fits) number place in
-    record { laid = rw (eq-eqb _ 0 c.if-e-eq0.true) c.put_bytes.ensures; short = short }
+    record { laid = rw (eq-eqb _ 0 c.if-e-eq0.true) c.line.ensures; short = short }
 
 pub returns : goal.returns
 unfolding expected_text
@@ -40,6 +41,6 @@ returns c =
     let place : e.place < 2 ^ 64 = omega arith in
     expected_short e types tags (λ i. (type_fits i).fits) (λ i. (tag_fits i).fits) number place in
     record {
-      laid = rw (ne_eqb _ 0 c.if-e-eq0.false) (laid_then c.put_refusal-at.ensures c.put_taken.ensures);
+      laid = rw (ne_eqb _ 0 c.if-e-eq0.false) (c.put_taken.ensures.0 ∙ c.put_refusal.ensures.0, laid_then _ _ _ c.put_refusal.ensures.1 c.put_taken.ensures.1);
       short = short;
     }

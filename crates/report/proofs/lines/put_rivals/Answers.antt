@@ -1,13 +1,13 @@
 -- `report::lines::put_rivals` meets its contract: piece after piece.
-use Rattle.report.specs.Words.{type_of, gives, or_else}
+use mathlib.Core.Path.{◌∙◌}
+use Rattle.text.proofs.PageLaws.{laid_then}
 use Rattle.report.specs.Text.{rivals}
-use Rattle.text.proofs.LaidLaws.{laid_then}
-use Rattle.report.proofs.LineLaws.{laid_numbered}
 use Rattle.report.proofs.lines.put_rivals.Goals as goal
 
 pub returns : goal.returns
 unfolding rivals
 returns c =
-    laid_then (laid_numbered type_of c.wide.ensures c.put_numbered-first.ensures)
-    (laid_then (laid_numbered gives c.wide-2.ensures c.put_numbered-second.ensures)
-    (laid_numbered or_else c.wide-3.ensures c.put_numbered.ensures))
+    let of = rw c.from.ensures at c.numbered.ensures.1 in
+    let gives = rw c.from-2.ensures at c.numbered-2.ensures.1 in
+    let other = rw c.from-3.ensures at c.numbered-3.ensures.1 in
+    (c.numbered-3.ensures.0 ∙ c.numbered-2.ensures.0 ∙ c.numbered.ensures.0, laid_then _ _ _ (laid_then _ _ _ of gives) other)

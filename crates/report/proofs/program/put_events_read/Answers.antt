@@ -6,7 +6,8 @@ use lib.ListN.{length}
 use Rattle.typing.specs.declared.job.Job.TheVariants.{EventsRead}
 use Rattle.report.specs.Text.{text_of}
 use Rattle.report.specs.Report.{most_text}
-use Rattle.text.proofs.LaidLaws.{laid_then}
+use mathlib.Core.Path.{◌∙◌}
+use Rattle.text.proofs.PageLaws.{laid_then}
 use Rattle.report.proofs.ReportLaws.{cut}
 use Rattle.report.proofs.TextLengths.{read_short}
 use Rattle.report.proofs.program.put_events_read.Goals as goal
@@ -19,11 +20,13 @@ returns c =
     (EventsRead c.args.e)) ≤ most_text = λ witness. let number : c.args.e.number < 256 = omega arith in
     let place : c.args.e.place < 2 ^ 64 = omega arith in
     let count : c.args.e.count < 2 ^ 64 = omega arith in
-    read_short _ witness _ _ (λ i. omega (arith, c.shared_slice_known-1.given i)) (λ i. omega (arith, c.shared_slice_known-2-1.given i))
+    read_short _ witness _ _ (λ i. (c.type_inv.events i).fits) (λ i. (c.type_inv.types i).fits)
     c.requires.0 c.requires.1 number place count in
     λ witness. record {
-      laid =
-          laid_then c.put_bytes-first.ensures
-          (laid_then (rw (cut _ _ _ c.least-taken.ensures) at c.put_openings-second.ensures) c.put_last.ensures);
+      laid = (
+        c.put_last.ensures.0 ∙ c.put_openings.ensures.0 ∙ c.line.ensures.0,
+        laid_then _ _ _ c.line.ensures.1
+            (laid_then _ _ _ (rw (cut _ _ _ c.min-taken.ensures) at c.put_openings.ensures.1) c.put_last.ensures.1),
+      );
       short = short witness;
     }

@@ -1,12 +1,9 @@
--- `report::program::report` meets its contract: by the events' length, and by the job.
-use native.Mathlib.Omega.{arith}
-use Rattle.report.proofs.ReportLaws.{reported_long, reported_job}
+-- `report::program::report` meets its contract: the page begins at the buffer's start.
+use borrow.Author.Rules.{rules}
+use Rattle.report.proofs.ReportLaws.{reported}
 use Rattle.report.proofs.program.report.Goals as goal
-
-pub returns-then-events-gt-MOST_EVENTS : goal.returns-then-events-gt-MOST_EVENTS
-returns-then-events-gt-MOST_EVENTS c =
-    reported_long _ (omega arith) (omega (arith, c.if-events-gt-MOST_EVENTS.true)) c.put_bytes.ensures
 
 pub returns : goal.returns
 returns c =
-    reported_job c.if-events-gt-MOST_EVENTS.false c.least-n.ensures c.put_answer.ensures
+    let same = c.put_answer.ensures.whole.laid.0 in
+    reported (c.new-page.ensures.bytes, c.new-page.ensures.place) c.put_answer.ensures (search rules) c.held.ensures

@@ -1,0 +1,18 @@
+-- `report::program::put_answer` meets its contract: by the events' length.
+use mathlib.Core.Path.{refl}
+use Rattle.report.proofs.ReportLaws.{laid_job}
+use Rattle.report.proofs.program.put_answer.Goals as goal
+
+pub returns : goal.returns
+returns c =
+    let job = c.type_document-job in
+    let (long, counted) = c.in-Some.ensures in
+    laid_job long
+    (record {
+      witness = job.new.witness;
+      types = job.new.types;
+      job = job.result;
+      means = rw counted at job.ensures;
+      prints = refl;
+    })
+    c.put_job.ensures
