@@ -25,7 +25,10 @@ use Rattle.sdtd.proofs.Machine.{Frame, top, own, frame, start}
 use Rattle.sdtd.proofs.Position.{Position}
 use Rattle.sdtd.proofs.Model.{model, model_right, model_next, fresh_position}
 use Rattle.sdtd.proofs.SampleSchemas.{live_r, exact_r, accepted_r}
+use Rattle.std.specs.Prelude.{Ok}
+use Rattle.sdtd.proofs.Verdicts.{told_value}
 use Rattle.schema.specs.Value.{meaning}
+use Rattle.schema_file.specs.Answer.{FileMeans}
 use Rattle.commands.specs.File.{StatesSchema}
 use Rattle.schema_file.specs.Samples.{file_r}
 use Rattle.schema_file.proofs.FileAnswers.{accepted_file}
@@ -220,9 +223,11 @@ unfolding digits refusal_line inside_line open_line end_lines taken_lines expect
 expected_sample other x =
     let a = short_job (omega arith) (omega arith) x in
     let j = a.means in
-    let fine = (samples_hold.0.0 _ _ _ (long_enough least_witness) j.schema_file).0 in
-    let given : StatesSchema file_r.bytes (meaning j.file.schema) = (accepted_file j.schema_file fine).states in
+    let (v, is) = told_value (samples_hold.0.0 _ _ _ (long_enough least_witness) j.schema_file).0 in
+    let read = subst (FileMeans file_r.bytes (replicate least_witness 0) a.witness) is j.schema_file in
+    let given : StatesSchema file_r.bytes (meaning v) = (accepted_file read).states in
     let stated : StatesSchema file_r.bytes schema_r = files_state.first in
-    let same : meaning j.file.schema ≡ schema_r = cc in
-    let e = expected_third (subst (λ (S : Meaning). ExpectedMeans S third.bytes a.job.expected) same (j.accepted fine)) in
-    a.prints ∙ (λ i. expected_text_of a.witness ((j.schema ∙ fine) i) (e i))
+    let same : meaning v ≡ schema_r = cc in
+    let (r, q, m) = j.accepted v is in
+    let e = expected_third (subst (λ (S : Meaning). ExpectedMeans S third.bytes r) same m) in
+    a.prints ∙ ap (expected_text_of a.witness) (q ∙ ap (λ (x : Expected). Ok x) e)

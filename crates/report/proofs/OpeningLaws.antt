@@ -5,11 +5,11 @@ use Prim.Native.Nat.{ℕ, ◌+◌, ◌^◌, ◌≤◌, ◌<◌}
 use native.Mathlib.Numerals.{add-one}
 use lib.ListN.{length, drop, get_or, drop_of_length-le}
 use lib.Seq.{drop-cons}
+use Rattle.sdtd.specs.declared.Tag.{Tag}
 use Rattle.events.specs.Events.{events_of}
 use Rattle.events.specs.Outline.{Line, outline, next_opening, OpeningsInTurn, start}
 use Rattle.events.specs.declared.outline.Cursor.{Cursor}
-use Rattle.events.specs.declared.outline.NextOpening.{NextOpening}
-use Rattle.events.specs.declared.outline.NextOpening.TheVariants.{Opening, NoOpening}
+use Rattle.std.specs.Prelude.{Option, Some, None}
 use Rattle.events.proofs.Outlines.{outline_found}
 use Rattle.text.specs.declared.page.Page.{Page}
 use Rattle.text.specs.Page.{Sheet, sheet, laid, Lays}
@@ -33,10 +33,10 @@ all_left events types was h =
     record { lines = outline 0 (events_of events); in_turn = outline_found events h; same_buffer = refl; to_go = refl }
 
 -- what a turn finds: the next line, or none
-abbrev TurnLeft : List ℕ → List ℕ → Page → Page → ℕ → NextOpening → Type 0
-TurnLeft events types was is i (Opening g c) =
+abbrev TurnLeft : List ℕ → List ℕ → Page → Page → ℕ → Option (Tag × Cursor) → Type 0
+TurnLeft events types was is i (Some (g, c)) =
     (next : Page) (j : ℕ) → j ≡ get_or types i 0 → Lays is (opening_line c.level g.0 j) next → Left events types was next c (i + 1)
-TurnLeft events types was is i NoOpening = Lays was (opening_lines types (outline 0 (events_of events))) is
+TurnLeft events types was is i None = Lays was (opening_lines types (outline 0 (events_of events))) is
 
 module _ (events types : List ℕ) (was is : Page) (i : ℕ) (h : i < length types) (same_buffer : is.out.ghost_name ≡ was.out.ghost_name) where
   go_on : (c : Cursor) (ls : List Line) → OpeningsInTurn events c ls
@@ -62,7 +62,7 @@ module _ (events types : List ℕ) (was is : Page) (i : ℕ) (h : i < length typ
             ∙ g;
       })
 
-pub turn_left : {events types : List ℕ} {was is : Page} {c : Cursor} {i : ℕ} {f : NextOpening} → Left events types was is c i → i < length types
+pub turn_left : {events types : List ℕ} {was is : Page} {c : Cursor} {i : ℕ} {f : Option (Tag × Cursor)} → Left events types was is c i → i < length types
     → f ≡ next_opening events c → TurnLeft events types was is i f
 turn_left {events} {types} {was} {is} {c} {i} x h q =
     subst (TurnLeft events types was is i) (sym q) (go_on events types was is i h x.same_buffer c x.lines x.in_turn x.to_go)

@@ -15,9 +15,8 @@ use Rattle.sdtd.specs.Document.{opening, closing, finish}
 use Rattle.events.specs.Events.{Events, ends, stray, event, events_of}
 use Rattle.reading.specs.declared.event_file.EventFile.{EventFile}
 use Rattle.events.specs.Outline.{Line, outline}
-use Rattle.typing.specs.declared.job.Job.TheVariants.{EventsRead}
 use Rattle.report.specs.Words.{header, schema_refused, refused, accepted}
-use Rattle.report.specs.Text.{numbered, refusal_line, rivals, witness_line, opening_line, opening_lines, last_line, schema_refused_text, text_of}
+use Rattle.report.specs.Text.{numbered, refusal_line, rivals, witness_line, opening_line, opening_lines, last_line, schema_refused_text, events_text}
 use Rattle.report.specs.Report.{most_events, types_held, most_line, most_last, most_text}
 use Rattle.report.specs.Steps.{most_refused}
 use Rattle.std.proofs.lemmas.Fmt.{length-decimal-le}
@@ -130,11 +129,11 @@ pub refused_short : (witness : List ℕ) {n p : ℕ} → ¬ (n ≡ 9) → n < 25
 refused_short witness {n} {p} d k l =
     rw (ne_eqb n 9 d) (omega (arith, length-append (refusal_line schema_refused n p) [], refusal_long schema_refused n p k l))
 
-pub read_short : (events witness types : List ℕ) (e : EventFile) → ((i : ℕ) → get_or events i 0 < 256) → ((i : ℕ) → get_or types i 0 < 256)
+pub read_short : (events types : List ℕ) (e : EventFile) → ((i : ℕ) → get_or events i 0 < 256) → ((i : ℕ) → get_or types i 0 < 256)
     → length events ≤ most_events → length types ≤ types_held → e.number < 256 → e.place < 2 ^ 64 → e.count < 2 ^ 64
-    → length (text_of events witness types (EventsRead e)) ≤ most_text
-unfolding text_of
-read_short events witness types e h k long held number place count =
+    → length (events_text events types e) ≤ most_text
+unfolding events_text
+read_short events types e h k long held number place count =
     let js = take e.count types in
     let ls = outline 0 (events_of events) in
     let lines = lines_long js ls (bytes_take e.count types (bytes types k)) (outlined most_events events (bytes events h) 0 (omega arith)) in

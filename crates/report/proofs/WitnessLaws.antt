@@ -10,15 +10,17 @@ use Rattle.text.specs.Line.{line_end}
 use Rattle.sdtd.specs.Limits.{least_witness}
 use Rattle.sdtd.specs.Schema.{Schema as Meaning}
 use Rattle.sdtd.specs.Competition.{Witness}
-use Rattle.sdtd.specs.Answer.{Verdict, fine, refused_at}
+use Rattle.std.specs.Prelude.{Result, Ok, Err}
+use Rattle.sdtd.specs.Answer.{Verdict, fine, refused_at, question_number, verdict_of}
+use Rattle.sdtd.specs.declared.Refusal.{Refusal}
+use Rattle.schema.specs.declared.value.Schema.{Schema}
 use Rattle.sdtd.specs.declared.TypeNo.{TypeNo}
-use Rattle.sdtd.proofs.Verdicts.{other_number, refused_not_fine}
+use Rattle.sdtd.proofs.Verdicts.{same_number, same_place, other_number, refused_not_fine}
 use Rattle.sdtd.proofs.Witnesses.{parts_of}
 use Rattle.competition.specs.Witness.{head_of}
 use Rattle.competition.proofs.Answers.{head_written}
 use Rattle.commands.specs.File.{StatesSchema}
 use Rattle.schema_file.specs.Answer.{AnswerIs, FileMeans}
-use Rattle.schema_file.specs.declared.file.SchemaFile.{SchemaFile}
 use Rattle.schema_file.proofs.FileAnswers.{file_unique}
 use Rattle.schema_file.proofs.OneWitness.{AnsweredNine, nine_zero, nine_written, one_witness}
 use Rattle.report.specs.Words.{schema_refused, after}
@@ -50,19 +52,26 @@ line_written w rest = ap witness_line (head_written w rest)
 -- A text that is printed from the witness buffer as the schema file's call left it: of a refused schema it is that schema's.
 pub record FromFile (file text : List ℕ) : Type 0 where
   pub witness : List ℕ
-  pub read : SchemaFile
+  pub read : Result Schema Refusal
   pub means : FileMeans file (replicate least_witness 0) witness read
-  pub refused : (n p : ℕ) → read.answer ≡ refused_at n p → text ≡ schema_refused_text witness n p
+  pub refused : {n p : ℕ} → verdict_of read ≡ refused_at n p → text ≡ schema_refused_text witness n p
+
+-- a refusal as the code has it
+refusal_of : {A : Type 0} (r : Result A Refusal) {n p : ℕ} → verdict_of r ≡ refused_at n p
+    → (e : Refusal) × (r ≡ Err e) × (question_number e.why ≡ n) × (e.place ≡ p)
+refusal_of (Ok x) q = refused_not_fine q refl
+refusal_of (Err e) q = (e, refl, same_number q, same_place q)
 
 -- so is the text of a job, and that of what would have been taken
 pub from_job : {file events text : List ℕ} → JobPrinted file events text → FromFile file text
-unfolding text_of
 from_job {events = events} a =
     record {
       witness = a.witness;
       read = a.means.file;
       means = a.means.schema_file;
-      refused = λ n p q. a.prints ∙ ap (text_of events a.witness a.types) (a.means.refused n p q).0;
+      refused = λ q.
+          let (e, is, n, p) = refusal_of a.means.file q in
+          rw (n, p) at (a.prints ∙ ap (text_of events a.witness a.types) (a.means.refused e is).0);
     }
 
 pub from_expected : {file events text : List ℕ} → ExpectedPrinted file events text → FromFile file text
@@ -71,7 +80,9 @@ from_expected a =
       witness = a.witness;
       read = a.means.file;
       means = a.means.schema_file;
-      refused = λ n p q. a.prints ∙ ap (λ (v : Verdict). expected_text_of a.witness v a.job.expected) (a.means.schema ∙ q);
+      refused = λ q.
+          let (e, is, n, p) = refusal_of a.means.file q in
+          rw (n, p) at (a.prints ∙ ap (expected_text_of a.witness) (a.means.refused e is));
     }
 
 -- the schema file is answered 9, and its witness buffer left so
@@ -94,7 +105,7 @@ line_from x r =
       bytes = w.bytes;
       witness = w.witness;
       prints =
-          x.refused 9 0 (nine_zero k)
+          x.refused (nine_zero k)
           ∙ ap (λ (l : List ℕ). refusal_line schema_refused 9 0 ++ l)
           (ap (λ (l : List ℕ). witness_line (head_of l)) w.filled ∙ line_written w.witness (drop (length w.bytes) was));
     }
@@ -123,12 +134,12 @@ pub record NineTexts (file s t : List ℕ) : Type 0 where
   pub second : NineText a n t
 
 -- the text of a file that is answered 9, by its witness buffer
-nine_text : {file text : List ℕ} (x : FromFile file text) → x.read.answer ≡ refused_at 9 0
+nine_text : {file text : List ℕ} (x : FromFile file text) → verdict_of x.read ≡ refused_at 9 0
     → NineText (head_of x.witness).of.0 (head_of x.witness).word text
 unfolding witness_line
 nine_text x q =
     let h = head_of x.witness in
-    record { j = h.first.0; k = h.second.0; prints = x.refused 9 0 q }
+    record { j = h.first.0; k = h.second.0; prints = x.refused q }
 
 -- Two texts that are printed for the same files, where the schema file is answered 9, differ at most in J and K.
 pub nine_texts : {file s t : List ℕ} {p : ℕ} → FromFile file s → FromFile file t → AnswerIs file (replicate least_witness 0) (refused_at 9 p)
@@ -161,4 +172,4 @@ pub one_or_nine : {file s t : List ℕ} → FromFile file s → FromFile file t
 one_or_nine {file} x y other =
     let was : List ℕ = replicate least_witness 0 in
     ⊎_elim (λ z. inr (nine_texts x y (subst (AnswerIs file was) z.1 x.means.answer)))
-    (λ d. inl (other (λ p r. d p (file_unique file was x.means.answer r)))) (nine_or_other x.read.answer)
+    (λ d. inl (other (λ p r. d p (file_unique file was x.means.answer r)))) (nine_or_other (verdict_of x.read))

@@ -1,9 +1,10 @@
 -- What the program `whatnext` prints for the bytes of `schema.tab` and of standard input, which it reads as `typestock` does.
-use Rattle.std.specs.Prelude.{◌≡◌, List, ℕ, ◌+◌, ◌*◌, length, replicate}
+use Rattle.std.specs.Prelude.{◌≡◌, Result, List, ℕ, ◌+◌, ◌*◌, length, replicate}
 use Rattle.sdtd.specs.Limits.{least_witness, most_levels}
 use Rattle.expected.specs.Expected.{most_openings}
 use Rattle.typing.specs.ExpectedJob.{ExpectedJobMeans}
-use Rattle.typing.specs.declared.expect.ExpectedJob.{ExpectedJob}
+use Rattle.sdtd.specs.declared.Refusal.{Refusal}
+use Rattle.expected.specs.declared.Expected.{Expected}
 use Rattle.report.specs.Words.{inside, open_nil, close_line, finish_line}
 use Rattle.report.specs.ExpectedText.{expected_text_of}
 use Rattle.report.specs.Report.{most_last, ReportedBy}
@@ -12,9 +13,9 @@ use Rattle.report.specs.Report.{most_last, ReportedBy}
 -- else is fixed by the two files (`one_expected_text`).
 pub record ExpectedPrinted (schema events text : List ℕ) : Type 0 where
   pub witness : List ℕ
-  pub job : ExpectedJob
+  pub job : Result Expected Refusal
   pub means : ExpectedJobMeans schema events (replicate least_witness 0) witness job
-  pub prints : text ≡ expected_text_of witness job.schema job.expected
+  pub prints : text ≡ expected_text_of witness job
 
 -- the most bytes of a type's number with the space before it, or of a tag's with the line's end: at most 3 digits
 abbrev pub most_number : ℕ

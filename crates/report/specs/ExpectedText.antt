@@ -1,6 +1,7 @@
--- The text that the program `whatnext` prints for shop staff: what would have been taken where an event file is refused. Document 02, Req 07.
-use Rattle.std.specs.Prelude.{Bool, cond, List, [], ◌∷◌, ◌++◌, ℕ, eqb, take}
-use Rattle.sdtd.specs.Answer.{Verdict, fine, refused_at}
+-- The text that the program `whatnext` prints for shop staff: what would have been taken where an event file is refused.
+use Rattle.std.specs.Prelude.{Bool, cond, Result, Ok, Err, List, [], ◌∷◌, ◌++◌, ℕ, eqb, take}
+use Rattle.sdtd.specs.Answer.{question_number}
+use Rattle.sdtd.specs.declared.Refusal.{Refusal}
 use Rattle.expected.specs.declared.Expected.{Expected}
 use Rattle.text.specs.Line.{line_end}
 use Rattle.report.specs.Words.{refused, space, accepted_line, inside, open_plain, open_nil, close_line, finish_line}
@@ -40,6 +41,6 @@ unfoldable pub expected_text : Expected → List ℕ
 expected_text e = cond (eqb e.number 0) accepted_line (refusal_line refused e.number e.place ++ taken_lines e)
 
 -- A refused schema prints what `typestock` prints for it.
-abbrev pub expected_text_of : List ℕ → Verdict → Expected → List ℕ
-expected_text_of witness fine e = expected_text e
-expected_text_of witness (refused_at n p) e = schema_refused_text witness n p
+abbrev pub expected_text_of : List ℕ → Result Expected Refusal → List ℕ
+expected_text_of witness (Err e) = schema_refused_text witness (question_number e.why) e.place
+expected_text_of witness (Ok e) = expected_text e

@@ -1,8 +1,9 @@
--- What the program prints for the bytes of `schema.tab` and of standard input: document 01, "The event file", second paragraph.
-use Rattle.std.specs.Prelude.{◌≡◌, List, ◌++◌, ℕ, ◌+◌, ◌*◌, ◌≤◌, ◌<◌, min, length, take, drop, replicate}
+-- What the program prints for the bytes of `schema.tab` and of standard input.
+use Rattle.std.specs.Prelude.{◌≡◌, Result, List, ◌++◌, ℕ, ◌+◌, ◌*◌, ◌≤◌, ◌<◌, min, length, take, drop, replicate}
 use Rattle.sdtd.specs.Limits.{least_witness}
 use Rattle.typing.specs.Job.{JobMeans}
-use Rattle.typing.specs.declared.job.Job.{Job}
+use Rattle.sdtd.specs.declared.Refusal.{Refusal}
+use Rattle.reading.specs.declared.event_file.EventFile.{EventFile}
 use Rattle.report.specs.Words.{header, too_long}
 use Rattle.report.specs.Text.{text_of}
 
@@ -35,7 +36,7 @@ most_text = length header + most_line * types_held + most_last
 pub record JobPrinted (schema events text : List ℕ) : Type 0 where
   pub witness : List ℕ
   pub types : List ℕ
-  pub job : Job
+  pub job : Result EventFile Refusal
   pub means : JobMeans schema events (replicate least_witness 0) witness (replicate types_held 0) types job
   pub prints : text ≡ text_of events witness types job
 

@@ -1,4 +1,4 @@
--- Document 01's texts: what the program prints for R, for R with a refused event file, and for a schema that is refused for competition. Beside them
+-- What the program prints for R, for R with a refused event file, and for a schema that is refused for competition. Beside them
 -- what `whatnext` prints for R with a refused event file.
 use Rattle.std.specs.Prelude.{◌≡◌, List, [], ◌∷◌, ℕ, ◌≤◌, length}
 use Rattle.schema_file.specs.Samples.{file_r, file_choice}

@@ -1,14 +1,14 @@
--- The text that the program `typestock` prints: document 01, "The event file", second paragraph.
-use Rattle.std.specs.Prelude.{cond, List, [], ◌∷◌, ◌++◌, ℕ, eqb, take, decimal}
+-- The text that the program `typestock` prints.
+use Rattle.std.specs.Prelude.{cond, Result, Ok, Err, List, [], ◌∷◌, ◌++◌, ℕ, eqb, take, decimal}
 use Rattle.text.specs.Line.{line_end}
+use Rattle.sdtd.specs.Answer.{question_number}
+use Rattle.sdtd.specs.declared.Refusal.{Refusal}
 use Rattle.events.specs.Events.{events_of}
 use Rattle.competition.specs.Witness.{head_of}
 use Rattle.competition.specs.declared.witness.WitnessHead.{WitnessHead}
 use Rattle.reading.specs.EventFile.{stored_types}
 use Rattle.reading.specs.declared.event_file.EventFile.{EventFile}
 use Rattle.events.specs.Outline.{Line, outline}
-use Rattle.typing.specs.declared.job.Job.{Job}
-use Rattle.typing.specs.declared.job.Job.TheVariants.{SchemaRefused, EventsRead}
 use Rattle.report.specs.Words.{header, schema_refused, refused, at_place, type_of, gives, or_else, after, accepted, space}
 
 -- words, and a number after them
@@ -46,9 +46,11 @@ last_line e = cond (eqb e.number 0) (numbered accepted e.count ++ line_end) (ref
 abbrev pub schema_refused_text : List ℕ → ℕ → ℕ → List ℕ
 schema_refused_text witness n p = refusal_line schema_refused n p ++ cond (eqb n 9) (witness_line (head_of witness)) []
 
--- The text of a refused schema; under an accepted one the first line, a line for each opening taken, its type from the types buffer, and the last
--- line.
-unfoldable pub text_of : List ℕ → List ℕ → List ℕ → Job → List ℕ
-text_of events witness types (SchemaRefused n p) = schema_refused_text witness n p
-text_of events witness types (EventsRead e) =
-    header ++ (opening_lines (take e.count (stored_types types)) (outline 0 (events_of events)) ++ last_line e)
+-- The text under an accepted schema: the first line, a line for each opening taken, its type from the types buffer, and the last line.
+unfoldable pub events_text : List ℕ → List ℕ → EventFile → List ℕ
+events_text events types e = header ++ (opening_lines (take e.count (stored_types types)) (outline 0 (events_of events)) ++ last_line e)
+
+-- what is printed, by the job's answer
+abbrev pub text_of : List ℕ → List ℕ → List ℕ → Result EventFile Refusal → List ℕ
+text_of events witness types (Err e) = schema_refused_text witness (question_number e.why) e.place
+text_of events witness types (Ok e) = events_text events types e

@@ -9,9 +9,9 @@ use crate::program::{MOST_LAST, counted, put_schema_refused};
 use competition::LEAST_WITNESS;
 use expected::{Expected, OPENINGS};
 use reading::LEVELS;
-use sdtd::Verdict;
+use sdtd::Refusal;
 use text::Page;
-use typing::{ExpectedJob, expect_document};
+use typing::expect_document;
 
 // The most bytes of a type's number with the space before it, or of a tag's with the line's end.
 const MOST_NUMBER: usize = 4;
@@ -45,14 +45,16 @@ fn put_expected(page: &mut Page<'_>, e: Expected)
 }
 
 // The text of a job.
-fn put_expected_job(page: &mut Page<'_>, witness: &[u8; LEAST_WITNESS], job: ExpectedJob)
-    ensures { WholeLaid most_expected page.old (expected_text_of witness.now job.schema job.expected) page.new }
+fn put_expected_job(
+    page: &mut Page<'_>,
+    witness: &[u8; LEAST_WITNESS],
+    job: Result<Expected, Refusal>,
+)
+    ensures { WholeLaid most_expected page.old (expected_text_of witness.now job) page.new }
 {
-    let verdict = job.schema;
-    let e = job.expected;
-    match verdict {
-        Verdict::Fine => put_expected(page, e),
-        Verdict::RefusedAt(n, p) => put_schema_refused(page, witness, n, p),
+    match job {
+        Ok(e) => put_expected(page, e),
+        Err(refusal) => put_schema_refused(page, witness, refusal),
     }
 }
 

@@ -5,7 +5,7 @@ ghost use Rattle.events.specs.Outline.{outline};
 ghost use Rattle.report.specs.Text.{opening_lines};
 
 use crate::lines::put_opening;
-use events::{Cursor, NextOpening, next_opening};
+use events::{Cursor, next_opening};
 use sdtd::TypeNo;
 use text::Page;
 
@@ -15,12 +15,10 @@ pub(crate) fn put_openings(page: &mut Page<'_>, events: &[u8], types: &[u8])
 {
     let mut cursor = Cursor { at: 0, level: 0 };
     for type_no in types {
-        match next_opening(events, cursor) {
-            NextOpening::Opening(tag, next) => {
-                put_opening(page, next.level, tag, TypeNo(*type_no));
-                cursor = next;
-            }
-            NextOpening::NoOpening => return,
-        }
+        let Some((tag, next)) = next_opening(events, cursor) else {
+            return;
+        };
+        put_opening(page, next.level, tag, TypeNo(*type_no));
+        cursor = next;
     }
 }

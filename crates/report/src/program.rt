@@ -1,7 +1,7 @@
 // The program's whole job on slices.
 ghost use Rattle.std.specs.Prelude.{◌≡◌, ℕ, ◌<◌, ◌≤◌, List, length, take, MatchOption};
-ghost use Rattle.typing.specs.declared.job.Job.TheVariants.{EventsRead};
-ghost use Rattle.report.specs.Text.{schema_refused_text, text_of};
+ghost use Rattle.sdtd.specs.Answer.{question_number};
+ghost use Rattle.report.specs.Text.{schema_refused_text, events_text, text_of};
 ghost use Rattle.report.specs.Report.{most_schema, most_events, types_held, most_text, JobPrinted, Reported};
 ghost use Rattle.report.specs.Steps.{most_refused, WholeLaid, AnswerLaid};
 
@@ -9,8 +9,9 @@ use crate::lines::{put_last, put_refusal, put_witness};
 use crate::openings::put_openings;
 use competition::{LEAST_WITNESS, witness_head};
 use reading::EventFile;
+use sdtd::{Refusal, Refused};
 use text::Page;
-use typing::{Job, type_document};
+use typing::type_document;
 
 // The schema file's bytes that count.
 pub const MOST_SCHEMA: usize = 16384;
@@ -33,20 +34,22 @@ pub(crate) const MOST_LAST: usize = 36;
 // The longest text.
 pub const OUTPUT: usize = HEADER + MOST_LINE * TYPES_HELD + MOST_LAST;
 
-// The number of a schema that is refused for competition.
-const COMPETITION: u8 = 9;
-
 // The text of a refused schema.
 pub(crate) fn put_schema_refused(
     page: &mut Page<'_>,
     witness: &[u8; LEAST_WITNESS],
-    number: u8,
-    place: usize,
+    refusal: Refusal,
 )
-    ensures { WholeLaid most_refused page.old (schema_refused_text witness.now number place) page.new }
+    ensures { WholeLaid most_refused page.old
+        (schema_refused_text witness.now (question_number refusal.why) refusal.place) page.new }
 {
-    put_refusal(page, b"schema refused ", number, place);
-    if number == COMPETITION {
+    put_refusal(
+        page,
+        b"schema refused ",
+        refusal.why.number(),
+        refusal.place,
+    );
+    if refusal.why == Refused::Competition {
         put_witness(page, witness_head(witness));
     }
 }
@@ -54,8 +57,7 @@ pub(crate) fn put_schema_refused(
 // The text under an accepted schema.
 fn put_events_read(page: &mut Page<'_>, events: &[u8], types: &[u8], e: EventFile)
     requires { (length events.now ≤ most_events) × (length types.now ≤ types_held) }
-    ensures { (witness : List ℕ) → WholeLaid most_text page.old
-        (text_of events.now witness types.now (EventsRead e)) page.new }
+    ensures { WholeLaid most_text page.old (events_text events.now types.now e) page.new }
 {
     let taken = e.count.min(types.len());
     page.line(b"depth tag type");
@@ -69,14 +71,14 @@ fn put_job(
     events: &[u8],
     witness: &[u8; LEAST_WITNESS],
     types: &[u8],
-    job: Job,
+    job: Result<EventFile, Refusal>,
 )
     requires { (length events.now ≤ most_events) × (length types.now ≤ types_held) }
     ensures { WholeLaid most_text page.old (text_of events.now witness.now types.now job) page.new }
 {
     match job {
-        Job::SchemaRefused(n, p) => put_schema_refused(page, witness, n, p),
-        Job::EventsRead(e) => put_events_read(page, events, types, e),
+        Ok(e) => put_events_read(page, events, types, e),
+        Err(refusal) => put_schema_refused(page, witness, refusal),
     }
 }
 
