@@ -7,23 +7,25 @@ ghost use Rattle.sdtd.specs.Document.{opening, closing, finish};
 ghost use Rattle.sdtd.specs.Schema.{WithinLimits};
 ghost use Rattle.schema.specs.Value.{meaning};
 ghost use Rattle.schema.specs.Trimming.{TrimMeans, RowsLent};
-ghost use Rattle.competition.specs.Search.{number_for};
+ghost use Rattle.competition.specs.Search.{SearchMeans};
 ghost use Rattle.reading.specs.EventFile.{EventsMean};
 ghost use Rattle.expected.specs.Expected.{ExpectedMeans};
-ghost use Rattle.engine_bench.specs.Handed.{kind_of, number_of, numbers_of, answered_of, Handed, HandedLent, SearchNumber};
+ghost use Rattle.reading.specs.Calls.{typed_of, taken_of};
+ghost use Rattle.sdtd.specs.Answer.{refused, question_number};
+ghost use Rattle.engine_bench.specs.Handed.{numbers_of, Handed};
 
-use competition::{Searched, competition};
+use competition::competition;
 use expected::{Expected, expect_next};
-use reading::{EventAnswer, EventFile, Next, Reading, open_lent, read_events};
+use reading::{EventFile, Reading, open_lent, read_events};
 use schema::{BEGINS, STEPS, Schema, Trimming, trim, within};
-use sdtd::Tag;
+use sdtd::{Refused, Tag, TypeNo};
 
 // Is the schema inside the limits?
 #[unsafe(no_mangle)]
 pub extern "C" fn bench_within(schema: Schema) -> bool
     ensures { T result ↔ WithinLimits (meaning schema) }
 {
-    within(schema)
+    within(&schema)
 }
 
 // The tables of the schema's trimming; its rows go to the tables lent.
@@ -35,26 +37,18 @@ pub extern "C" fn bench_trim<'a>(
 ) -> Trimming
     ensures { TrimMeans (meaning schema) result × RowsLent (meaning schema) entries.new begins.new }
 {
-    trim(schema, entries, begins)
+    trim(&schema, entries, begins)
 }
 
-fn search_number(searched: Searched) -> u8
-    ensures { result ≡ number_for searched }
-{
-    match searched {
-        Searched::ShortBuffer => 1,
-        Searched::OutsideLimits => 10,
-        Searched::Restrained => 0,
-        Searched::Competes => 9,
-    }
-}
-
-// Document 01's number of the search's answer, 0 where nothing competes.
+// The number of the question that the search answers no, 0 where nothing competes.
 #[unsafe(no_mangle)]
 pub extern "C" fn bench_competition(schema: Schema, witness: &mut [u8]) -> u8
-    ensures { SearchNumber (meaning schema) witness.old witness.new result }
+    ensures { SearchMeans (meaning schema) witness.old witness.new result }
 {
-    search_number(competition(schema, witness))
+    match competition(&schema, witness) {
+        Ok(()) => 0,
+        Err(why) => why.number(),
+    }
 }
 
 // An answer as two numbers.
@@ -73,84 +67,90 @@ pub struct Answered {
     pub reading: Reading,
 }
 
-fn kind(answer: EventAnswer) -> u8
-    ensures { result ≡ kind_of answer }
-{
-    match answer {
-        EventAnswer::Typed(_) => 0,
-        EventAnswer::Taken => 1,
-        EventAnswer::Refused(_) => 2,
-    }
-}
-
-fn number(answer: EventAnswer) -> u8
-    ensures { result ≡ number_of answer }
-{
-    match answer {
-        EventAnswer::Typed(j) => j.0,
-        EventAnswer::Taken => 0,
-        EventAnswer::Refused(n) => n,
-    }
-}
-
-fn numbers(answer: EventAnswer) -> Answer
-    ensures { result ≡ numbers_of answer }
+fn refused(why: Refused) -> Answer
+    ensures { result ≡ numbers_of (refused (question_number why)) }
 {
     Answer {
-        kind: kind(answer),
-        of: number(answer),
+        kind: 2,
+        of: why.number(),
     }
 }
 
-fn handed(next: Next) -> Answered
-    ensures { result ≡ answered_of next }
+fn typed(answer: Result<TypeNo, Refused>) -> Answer
+    ensures { result ≡ numbers_of (typed_of answer) }
 {
-    let answer = next.answer;
-    let reading = next.reading;
-    Answered {
-        answer: numbers(answer),
-        reading,
+    match answer {
+        Ok(given) => Answer {
+            kind: 0,
+            of: given.0,
+        },
+        Err(why) => refused(why),
+    }
+}
+
+fn taken(answer: Result<(), Refused>) -> Answer
+    ensures { result ≡ numbers_of (taken_of answer) }
+{
+    match answer {
+        Ok(()) => Answer { kind: 1, of: 0 },
+        Err(why) => refused(why),
     }
 }
 
 // An opening of the tag, plainly.
 #[unsafe(no_mangle)]
 pub extern "C" fn bench_open(schema: Schema, reading: Reading, tag: u8) -> Answered
-    ensures { Handed (meaning schema) reading (opening plain tag) result }
+    ensures { Handed (meaning schema) reading (opening plain tag) result.reading result.answer }
 {
-    handed(reading.open(schema, Tag(tag)))
+    let next = reading.open(&schema, Tag(tag));
+    Answered {
+        answer: typed(next.answer),
+        reading: next.reading,
+    }
 }
 
 // An opening of the tag as nil.
 #[unsafe(no_mangle)]
 pub extern "C" fn bench_open_nil(schema: Schema, reading: Reading, tag: u8) -> Answered
-    ensures { Handed (meaning schema) reading (opening nil tag) result }
+    ensures { Handed (meaning schema) reading (opening nil tag) result.reading result.answer }
 {
-    handed(reading.open_nil(schema, Tag(tag)))
+    let next = reading.open_nil(&schema, Tag(tag));
+    Answered {
+        answer: typed(next.answer),
+        reading: next.reading,
+    }
 }
 
 // A closing of the tag.
 #[unsafe(no_mangle)]
 pub extern "C" fn bench_close(schema: Schema, reading: Reading, tag: u8) -> Answered
-    ensures { Handed (meaning schema) reading (closing tag) result }
+    ensures { Handed (meaning schema) reading (closing tag) result.reading result.answer }
 {
-    handed(reading.close(schema, Tag(tag)))
+    let next = reading.close(&schema, Tag(tag));
+    Answered {
+        answer: taken(next.answer),
+        reading: next.reading,
+    }
 }
 
 // The finish.
 #[unsafe(no_mangle)]
 pub extern "C" fn bench_finish(schema: Schema, reading: Reading) -> Answered
-    ensures { Handed (meaning schema) reading finish result }
+    ensures { Handed (meaning schema) reading finish result.reading result.answer }
 {
-    handed(reading.finish(schema))
+    let next = reading.finish(&schema);
+    Answered {
+        answer: taken(next.answer),
+        reading: next.reading,
+    }
 }
 
 // An opening of the tag, plainly, on a lent reading.
 #[unsafe(no_mangle)]
 pub extern "C" fn bench_open_lent(reading: &mut Reading, schema: Schema, tag: u8) -> Answer
-    ensures { HandedLent (meaning schema) reading.old (opening plain tag) reading.new result }
+    ensures { Handed (meaning schema) reading.old (opening plain tag) reading.new result }
 {
-    numbers(open_lent(reading, schema, Tag(tag)))
+    typed(open_lent(reading, &schema, Tag(tag)))
 }
 
 // The same schema, copied table by table into a value of one's own, as a caller in Rattle has it. Handed on as it came from C, the compiler keeps a
@@ -188,7 +188,7 @@ fn own(schema: Schema) -> Schema
 pub extern "C" fn bench_events(schema: Schema, events: &[u8], out: &mut [u8]) -> EventFile
     ensures { EventsMean (meaning schema) events.now out.old out.new result }
 {
-    read_events(own(schema), events, out)
+    read_events(&own(schema), events, out)
 }
 
 // Where the event file is refused, and what would have been taken there.
@@ -196,5 +196,5 @@ pub extern "C" fn bench_events(schema: Schema, events: &[u8], out: &mut [u8]) ->
 pub extern "C" fn bench_expected(schema: Schema, events: &[u8]) -> Expected
     ensures { ExpectedMeans (meaning schema) events.now result }
 {
-    expect_next(own(schema), events)
+    expect_next(&own(schema), events)
 }

@@ -4,17 +4,18 @@ use mathlib.Core.Logic.{◌⊎◌, inl, inr, ⊎_elim}
 use mathlib.Core.List.{List}
 use Prim.Native.Nat.{ℕ, ◌≤◌}
 use native.Mathlib.Omega.{arith}
+use Rattle.std.specs.Prelude.{Result, Ok, Err}
 use Rattle.commands.specs.File.{Stated, Commands, stopped, states, commands}
 use Rattle.commands.proofs.Passing.{stopped_number, stopped_least}
 use Rattle.sdtd.proofs.Verdicts.{verdict_number, refused_not_fine}
 use Rattle.schema_file.specs.Answer.{AnswerBy, AnswerIs}
-use Rattle.sdtd.specs.Answer.{Verdict, fine, refused_at}
+use Rattle.sdtd.specs.Answer.{Verdict, fine, refused_at, verdict_of, question_number}
+use Rattle.sdtd.specs.declared.Refusal.{Refusal}
+use Rattle.schema.specs.declared.value.Schema.{Schema}
 use Rattle.reading.specs.declared.event_file.EventFile.{EventFile}
 use Rattle.schema_file.proofs.AfterDone.{AfterDone, unknown_type, treeless, unused, competing, accepted, after_cases}
 use Rattle.schema_file.proofs.OneWitness.{AnsweredNine}
 use Rattle.typing.specs.Job.{JobMeans}
-use Rattle.typing.specs.declared.job.Job.{Job}
-use Rattle.typing.specs.declared.job.Job.TheVariants.{SchemaRefused, EventsRead}
 use Rattle.typing.proofs.Jobs.{job_nine}
 use Rattle.typestock_c.specs.Numbers.{schema_numbers, document_numbers}
 use Rattle.typestock_c.specs.Exports.{SchemaMeans, DocumentMeans}
@@ -63,7 +64,7 @@ numbers_among (refused_at n p) (inr r) = r.among
 pub schema_range : {file was is : List ℕ} {r : TypestockSchema} → SchemaMeans file was is r → SchemaNumber r.number
 schema_range {file} {was} m =
     subst (λ (x : TypestockSchema). SchemaNumber x.number) (sym m.numbers)
-    (numbers_among m.read.answer (known file was m.read.answer m.means.answer))
+    (numbers_among (verdict_of m.read) (known file was (verdict_of m.read) m.means.answer))
 
 accepted_by : (a : Verdict) → Known a → (schema_numbers a).number ≡ 0 → a ≡ fine
 accepted_by a (inl f) z = f
@@ -72,9 +73,9 @@ accepted_by (refused_at n p) (inr r) z = absurd (omega (arith, r.above))
 
 -- A schema that is answered 0 is accepted.
 pub zero_accepted : {file was is : List ℕ} {r : TypestockSchema} (m : SchemaMeans file was is r) → r.number ≡ 0
-    → m.read.answer ≡ fine
+    → verdict_of m.read ≡ fine
 zero_accepted {file} {was} m z =
-    accepted_by m.read.answer (known file was m.read.answer m.means.answer)
+    accepted_by (verdict_of m.read) (known file was (verdict_of m.read) m.means.answer)
     (sym (ap (λ (x : TypestockSchema). x.number) m.numbers) ∙ z)
 
 nine_by : (a : Verdict) → (schema_numbers a).number ≡ 9 → a ≡ refused_at 9 (schema_numbers a).place
@@ -88,8 +89,8 @@ schema_nine {was = was} m z =
       was = was;
       read = m.read;
       means = m.means;
-      place = (schema_numbers m.read.answer).place;
-      answer = nine_by m.read.answer (sym (ap (λ (x : TypestockSchema). x.number) m.numbers) ∙ z);
+      place = (schema_numbers (verdict_of m.read)).place;
+      answer = nine_by (verdict_of m.read) (sym (ap (λ (x : TypestockSchema). x.number) m.numbers) ∙ z);
     }
 
 -- A job's numbers where its schema is refused: the schema's, 1 to 9 or 21 to 24, and its place, twice, and no opening.
@@ -102,41 +103,41 @@ pub record RefusedNumbers (r : TypestockDocument) : Type 0 where
 
 -- A job read its events, or has those numbers.
 read_or_refused : {schema events was_witness is_witness was_types is_types : List ℕ} {r : TypestockDocument}
-    (m : DocumentMeans schema events was_witness is_witness was_types is_types r) (a : Verdict) → m.means.file.answer ≡ a
-    → ((e : EventFile) × (m.job ≡ EventsRead e)) ⊎ RefusedNumbers r
-read_or_refused m fine q = let (e, s, h) = m.means.accepted q in inl (e, s)
-read_or_refused {schema} {was_witness = was_witness} m (refused_at n p) q =
-    inr (subst RefusedNumbers (sym (m.numbers ∙ ap document_numbers (m.means.refused n p q).0))
-    (⊎_elim (refused_not_fine q)
+    (m : DocumentMeans schema events was_witness is_witness was_types is_types r) (f : Result Schema Refusal) → m.means.file ≡ f
+    → ((e : EventFile) × (m.job ≡ Ok e)) ⊎ RefusedNumbers r
+read_or_refused m (Ok v) q = let (e, s, h) = m.means.accepted v q in inl (e, s)
+read_or_refused {schema} {was_witness = was_witness} m (Err d) q =
+    let told : verdict_of m.means.file ≡ refused_at (question_number d.why) d.place = ap verdict_of q in
+    inr (subst RefusedNumbers (sym (m.numbers ∙ ap document_numbers (m.means.refused d q).0))
+    (⊎_elim (refused_not_fine told)
     (λ r.
     record {
-      above = omega (arith, r.above, ap verdict_number q);
-      among = subst SchemaNumber (ap verdict_number q) r.among;
+      above = omega (arith, r.above, ap verdict_number told);
+      among = subst SchemaNumber (ap verdict_number told) r.among;
       same_number = refl;
       same_place = refl;
       no_opening = refl;
     })
-    (known schema was_witness m.means.file.answer m.means.schema_file.answer)))
+    (known schema was_witness (verdict_of m.means.file) m.means.schema_file.answer)))
 
 module _ {schema events was_witness is_witness was_types is_types : List ℕ} {r : TypestockDocument}
     (m : DocumentMeans schema events was_witness is_witness was_types is_types r) where
-  pub read_or_not : ((e : EventFile) × (m.job ≡ EventsRead e)) ⊎ RefusedNumbers r
-  read_or_not = read_or_refused m m.means.file.answer refl
+  pub read_or_not : ((e : EventFile) × (m.job ≡ Ok e)) ⊎ RefusedNumbers r
+  read_or_not = read_or_refused m m.means.file refl
 
   -- A job whose schema is answered 0 read its events.
-  pub zero_read : r.schema_number ≡ 0 → (e : EventFile) × (m.job ≡ EventsRead e)
+  pub zero_read : r.schema_number ≡ 0 → (e : EventFile) × (m.job ≡ Ok e)
   zero_read z = ⊎_elim (λ e. e) (λ h. absurd (omega arith)) read_or_not
 
   -- So did one whose document is answered 0.
-  pub zero_taken : r.number ≡ 0 → (e : EventFile) × (m.job ≡ EventsRead e)
+  pub zero_taken : r.number ≡ 0 → (e : EventFile) × (m.job ≡ Ok e)
   zero_taken z = ⊎_elim (λ e. e) (λ h. absurd (omega arith)) read_or_not
 
-document_nine_by : {schema events was_witness is_witness was_types is_types : List ℕ} (job : Job)
+document_nine_by : {schema events was_witness is_witness was_types is_types : List ℕ} (job : Result EventFile Refusal)
     → JobMeans schema events was_witness is_witness was_types is_types job → (document_numbers job).schema_number ≡ 9
     → AnsweredNine schema is_witness
-document_nine_by {schema} {events} {was_witness} {is_witness} {was_types} {is_types} (SchemaRefused n p) j z =
-    job_nine (subst (λ (k : ℕ). JobMeans schema events was_witness is_witness was_types is_types (SchemaRefused k p)) z j)
-document_nine_by (EventsRead e) j z = absurd (omega arith)
+document_nine_by (Err e) j z = job_nine z j
+document_nine_by (Ok e) j z = absurd (omega arith)
 
 -- So did a job whose schema is answered 9.
 pub document_nine : {schema events was_witness is_witness was_types is_types : List ℕ} {r : TypestockDocument}

@@ -5,6 +5,7 @@ use mathlib.Core.List.{List, ◌++◌}
 use Prim.Native.Nat.{ℕ, ◌*◌, ◌≤◌}
 use native.Mathlib.Omega.{arith}
 use lib.ListN.{length, drop}
+use Rattle.std.specs.Prelude.{Ok}
 use Rattle.sdtd.specs.Schema.{Schema as Meaning}
 use Rattle.sdtd.specs.Document.{Event, openings, Valid, types_of}
 use Rattle.sdtd.specs.Calls.{ValidWithin}
@@ -14,7 +15,6 @@ use Rattle.events.specs.Events.{bytes_of}
 use Rattle.reading.specs.EventFile.{number_of, place_of}
 use Rattle.reading.specs.declared.event_file.EventFile.{EventFile}
 use Rattle.typing.specs.Job.{JobMeans, JobMeets}
-use Rattle.typing.specs.declared.job.Job.TheVariants.{EventsRead}
 use Rattle.typing.proofs.Jobs.{job_meets, job_range, job_enough}
 use Rattle.typestock_c.specs.Numbers.{document_numbers}
 use Rattle.typestock_c.specs.Exports.{DocumentMeans}
@@ -24,7 +24,7 @@ use Rattle.typestock_c.proofs.ReadBack.{RefusedNumbers, read_or_not, zero_read, 
 -- The numbers of a job that read its events, and what they say.
 pub record ReadNumbers (schema events was_types is_types : List ℕ) (r : TypestockDocument) : Type 0 where
   pub answer : EventFile
-  pub numbers : r ≡ document_numbers (EventsRead answer)
+  pub numbers : r ≡ document_numbers (Ok answer)
   pub meets : JobMeets schema events was_types is_types answer
   -- 0, or 11 to 20
   pub range : (r.number ≡ 0) ⊎ ((11 ≤ r.number) × (r.number ≤ 20))
@@ -66,10 +66,10 @@ taken {events = events} {was_types} x z =
 
 module _ {schema events was_witness is_witness was_types is_types : List ℕ} {r : TypestockDocument}
     (m : DocumentMeans schema events was_witness is_witness was_types is_types r) where
-  read : (e : EventFile) → m.job ≡ EventsRead e → ReadNumbers schema events was_types is_types r
+  read : (e : EventFile) → m.job ≡ Ok e → ReadNumbers schema events was_types is_types r
   read e q =
       let j = subst (JobMeans schema events was_witness is_witness was_types is_types) q m.means in
-      let same : r ≡ document_numbers (EventsRead e) = m.numbers ∙ ap document_numbers q in
+      let same : r ≡ document_numbers (Ok e) = m.numbers ∙ ap document_numbers q in
       let number : r.number ≡ e.number = ap (λ (x : TypestockDocument). x.number) same in
       record {
         answer = e;

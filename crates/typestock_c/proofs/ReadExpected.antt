@@ -7,25 +7,28 @@ use mathlib.Core.List.{List}
 use Prim.Native.Nat.{ℕ, zero, suc, ◌≤◌}
 use native.Mathlib.Omega.{arith}
 use lib.ListN.{length, replicate}
+use Rattle.std.specs.Prelude.{Result, Ok, Err}
 use Rattle.sdtd.specs.Limits.{most_levels}
 use Rattle.sdtd.specs.Schema.{Schema as Meaning}
 use Rattle.sdtd.specs.Document.{Event}
 use Rattle.sdtd.specs.Calls.{ValidWithin}
-use Rattle.sdtd.specs.Answer.{Verdict, fine, refused_at}
+use Rattle.sdtd.specs.Answer.{question_number, verdict_of}
+use Rattle.sdtd.specs.declared.Refusal.{Refusal}
+use Rattle.sdtd.proofs.Verdicts.{number_some}
+use Rattle.schema.specs.declared.value.Schema.{Schema}
 use Rattle.commands.specs.File.{StatesSchema}
 use Rattle.schema_file.proofs.OneWitness.{AnsweredNine}
 use Rattle.events.specs.Events.{bytes_of}
-use Rattle.expected.specs.Expected.{most_openings}
+use Rattle.expected.specs.Expected.{nothing, laid_out, most_openings}
 use Rattle.expected.specs.declared.Expected.{Expected}
-use Rattle.expected.proofs.TableLaws.{Counted}
-use Rattle.typing.specs.declared.expect.ExpectedJob.{ExpectedJob}
-use Rattle.typing.specs.ExpectedJob.{ExpectedJobMeets}
+use Rattle.expected.proofs.TableLaws.{Counted, Tables, laid_tables}
+use Rattle.typing.specs.ExpectedJob.{ExpectedJobMeans, ExpectedJobMeets}
 use Rattle.typing.proofs.ExpectedJobs.{expected_meets, job_tables}
 use Rattle.typestock_c.specs.Numbers.{schema_numbers, expected_numbers}
 use Rattle.typestock_c.specs.Exports.{SchemaMeans, ExpectedDocumentMeans}
 use Rattle.typestock_c.specs.declared.TypestockSchema.{TypestockSchema}
 use Rattle.typestock_c.specs.declared.TypestockExpected.{TypestockExpected}
-use Rattle.typestock_c.proofs.ReadBack.{SchemaNumber, schema_range, zero_accepted, schema_nine}
+use Rattle.typestock_c.proofs.ReadBack.{SchemaNumber, schema_range, schema_nine}
 
 -- the schema file's two numbers
 abbrev pub schema_in : TypestockExpected → TypestockSchema
@@ -61,7 +64,7 @@ pub record RefusedExpected (r : TypestockExpected) : Type 0 where
 -- The numbers under an accepted schema, and what they say: `meets` that they are by valid documents, and that 0 is a whole one's.
 pub record ReadExpected (schema events : List ℕ) (r : TypestockExpected) : Type 0 where
   pub answer : Expected
-  pub numbers : r ≡ expected_numbers (record { schema = fine; expected = answer })
+  pub numbers : r ≡ expected_numbers (Ok answer)
   pub meets : ExpectedJobMeets schema events answer
   -- 0, or 11 to 19: never 20
   pub range : (r.number ≡ 0) ⊎ ((11 ≤ r.number) × (r.number ≤ 19))
@@ -87,42 +90,44 @@ abbrev pub ExpectedNumber : ℕ → Type 0
 ExpectedNumber n = SchemaNumber n ⊎ ((11 ≤ n) × (n ≤ 19))
 
 module _ {schema events was is : List ℕ} {r : TypestockExpected} (m : ExpectedDocumentMeans schema events was is r) where
+  by_job : {job : Result Expected Refusal} → m.job ≡ job → r ≡ expected_numbers job
+  by_job q = m.numbers ∙ ap expected_numbers q
+
+  schema_by : (f : Result Schema Refusal) → m.means.file ≡ f → schema_in r ≡ schema_numbers (verdict_of f)
+  schema_by (Ok v) q = let (x, s, k) = m.means.accepted v q in ap schema_in (by_job s)
+  schema_by (Err e) q = ap schema_in (by_job (m.means.refused e q))
+
   -- The first two numbers are those of `typestock_check_schema` on the same file and buffer.
-  abbrev pub schema_told : SchemaMeans schema was is (schema_in r)
-  schema_told =
-      record {
-        read = m.means.file;
-        means = m.means.schema_file;
-        numbers = ap schema_in m.numbers ∙ ap schema_numbers m.means.schema;
-      }
+  pub schema_told : SchemaMeans schema was is (schema_in r)
+  schema_told = record { read = m.means.file; means = m.means.schema_file; numbers = schema_by m.means.file refl }
 
   -- Where the first is 9 the buffer has a witness.
   pub expected_nine : r.schema_number ≡ 9 → AnsweredNine schema is
   expected_nine z = schema_nine schema_told z
 
-  same_job : {e : ExpectedJob} → m.job ≡ e → r ≡ expected_numbers e
-  same_job q = m.numbers ∙ ap expected_numbers q
-
-  -- Where it is 0 the schema is accepted, and the rest is the event file's.
-  pub zero_read : r.schema_number ≡ 0 → ReadExpected schema events r
-  zero_read z =
-      let fit : m.job.schema ≡ fine = m.means.schema ∙ zero_accepted schema_told z in
-      let meets = expected_meets m.means fit in
-      let number : r.number ≡ m.job.expected.number = ap (λ (x : TypestockExpected). x.number) m.numbers in
+  zero_by : (job : Result Expected Refusal) → m.job ≡ job → r.schema_number ≡ 0 → ReadExpected schema events r
+  zero_by (Ok x) q z =
+      let meets = expected_meets (subst (ExpectedJobMeans schema events was is) q m.means) in
+      let same = by_job q in
+      let number = ap (λ (n : TypestockExpected). n.number) same in
       record {
-        answer = m.job.expected;
-        numbers = same_job (λ i. record { schema = fit i; expected = m.job.expected });
+        answer = x;
+        numbers = same;
         meets = meets;
         range = subst (λ (n : ℕ). (n ≡ 0) ⊎ ((11 ≤ n) × (n ≤ 19))) (sym number) meets.number;
       }
+  zero_by (Err e) q z =
+      let number = ap (λ (n : TypestockExpected). n.schema_number) (by_job q) in
+      absurd (omega (arith, number_some e.why))
 
-  refused_by : (a : Verdict) → m.job.schema ≡ a → r.schema_number ≢ 0 → r ≡ twice r.schema_number r.schema_place
-  refused_by fine q n =
-      let number = ap (λ (x : TypestockExpected). x.schema_number) m.numbers in
-      absurd (n (number ∙ ap (λ (a : Verdict). (schema_numbers a).number) q))
-  refused_by (refused_at k l) q n =
-      let e = m.means.refused k l (sym m.means.schema ∙ q) in
-      let same : r ≡ twice k l = same_job (λ i. record { schema = q i; expected = e i }) in
+  -- Where it is 0 the schema is accepted, and the rest is the event file's.
+  pub zero_read : r.schema_number ≡ 0 → ReadExpected schema events r
+  zero_read z = zero_by m.job refl z
+
+  refused_by : (job : Result Expected Refusal) → m.job ≡ job → r.schema_number ≢ 0 → r ≡ twice r.schema_number r.schema_place
+  refused_by (Ok x) q n = absurd (n (ap (λ (n : TypestockExpected). n.schema_number) (by_job q)))
+  refused_by (Err e) q n =
+      let same : r ≡ twice (question_number e.why) e.place = by_job q in
       let x = ap (λ (x : TypestockExpected). x.schema_number) same in
       let y = ap (λ (x : TypestockExpected). x.schema_place) same in
       same ∙ (λ i. twice (sym x i) (sym y i))
@@ -133,14 +138,21 @@ module _ {schema events was is : List ℕ} {r : TypestockExpected} (m : Expected
       record {
         above = omega (arith, n);
         among = schema_range schema_told;
-        nothing_else = refused_by m.job.schema refl n;
+        nothing_else = refused_by m.job refl n;
       }
+
+  counted_by : (job : Result Expected Refusal) → m.job ≡ job → CountedEntries (expected_numbers job)
+  counted_by (Ok x) q =
+      let t = job_tables (subst (ExpectedJobMeans schema events was is) q m.means) in
+      record { types = t.types; tags = t.tags; nils = t.nils }
+  counted_by (Err e) q =
+      let t : Tables (laid_out e.place (nothing (verdict_of {A = Expected} (Err e)))) =
+      laid_tables e.place (nothing (verdict_of {A = Expected} (Err e))) (omega arith) (omega arith) in
+      record { types = t.types; tags = t.tags; nils = t.nils }
 
   -- So it is whatever the schema's answer is.
   pub counted_entries : CountedEntries r
-  counted_entries =
-      let t = job_tables m.means in
-      subst CountedEntries (sym m.numbers) (record { types = t.types; tags = t.tags; nils = t.nils })
+  counted_entries = subst CountedEntries (sym m.numbers) (counted_by m.job refl)
 
   read_by : (n : ℕ) → r.schema_number ≡ n → ReadExpected schema events r ⊎ (RefusedExpected r × (r.number ≡ r.schema_number))
   read_by zero q = inl (zero_read q)
@@ -168,7 +180,7 @@ module _ {schema events was is : List ℕ} {r : TypestockExpected} (m : Expected
         document = w.document;
         bytes = w.bytes;
         valid = w.valid;
-        nothing_else = x.numbers ∙ ap (λ (e : Expected). expected_numbers (record { schema = fine; expected = e })) w.empty;
+        nothing_else = x.numbers ∙ ap (λ (e : Expected). expected_numbers (Ok e)) w.empty;
       })
       (λ (x, same). absurd (omega (arith, x.above)))
       (read_by r.schema_number refl)

@@ -3,24 +3,27 @@
 #![tactic(auto)]
 
 ghost use Rattle.std.specs.Prelude.{◌≡◌};
+ghost use Rattle.sdtd.specs.Answer.{question_number, refused_at};
+ghost use Rattle.sdtd.specs.Output.{written_of};
 ghost use Rattle.events.specs.Outline.{next_opening};
 ghost use Rattle.typestock_c.specs.Numbers.{
   cursor_at,
   schema_numbers,
   written_numbers,
   document_numbers,
+  expected_beside,
   expected_numbers,
   opening_numbers,
 };
 ghost use Rattle.typestock_c.specs.Exports.{SchemaMeans, WrittenMeans, DocumentMeans, ExpectedDocumentMeans};
 
-use events::{Cursor, NextOpening, next_opening};
-use expected::OPENINGS;
-use reading::LEVELS;
+use events::{Cursor, next_opening};
+use expected::{Expected, OPENINGS, nothing_expected};
+use reading::{EventFile, LEVELS};
 use schema_file::read;
 use schema_writer::write_reduced;
-use sdtd::{FileWritten, Verdict};
-use typing::{ExpectedJob, Job, expect_document, type_document};
+use sdtd::{Refusal, Refused, Tag};
+use typing::{expect_document, type_document};
 
 // A schema file's answer: a refusal's number and place; 0 and 0 for accepted.
 #[repr(C)]
@@ -77,54 +80,57 @@ pub struct TypestockOpening {
     pub level: usize,
 }
 
-fn schema_numbers(answer: Verdict) -> TypestockSchema
-    ensures { result ≡ schema_numbers answer }
+// an accepted schema's
+const ACCEPTED: TypestockSchema = TypestockSchema {
+    number: 0,
+    place: 0,
+};
+
+fn refused_schema(refusal: Refusal) -> TypestockSchema
+    ensures { result ≡ schema_numbers (refused_at (question_number refusal.why) refusal.place) }
 {
-    match answer {
-        Verdict::Fine => TypestockSchema {
-            number: 0,
-            place: 0,
-        },
-        Verdict::RefusedAt(number, place) => TypestockSchema { number, place },
+    TypestockSchema {
+        number: refusal.why.number(),
+        place: refusal.place,
     }
 }
 
-fn written_numbers(written: FileWritten) -> TypestockWritten
-    ensures { result ≡ written_numbers written }
+fn written_numbers(written: Result<usize, Refused>) -> TypestockWritten
+    ensures { result ≡ written_numbers (written_of written) }
 {
     match written {
-        FileWritten::Length(length) => TypestockWritten { number: 0, length },
-        FileWritten::Refused(number) => TypestockWritten { number, length: 0 },
+        Ok(length) => TypestockWritten { number: 0, length },
+        Err(why) => TypestockWritten {
+            number: why.number(),
+            length: 0,
+        },
     }
 }
 
-fn document_numbers(job: Job) -> TypestockDocument
+fn document_numbers(job: Result<EventFile, Refusal>) -> TypestockDocument
     ensures { result ≡ document_numbers job }
 {
     match job {
-        Job::SchemaRefused(number, place) => TypestockDocument {
-            schema_number: number,
-            schema_place: place,
-            number,
-            place,
-            count: 0,
-        },
-        Job::EventsRead(file) => TypestockDocument {
+        Ok(file) => TypestockDocument {
             schema_number: 0,
             schema_place: 0,
             number: file.number,
             place: file.place,
             count: file.count,
         },
+        Err(refusal) => TypestockDocument {
+            schema_number: refusal.why.number(),
+            schema_place: refusal.place,
+            number: refusal.why.number(),
+            place: refusal.place,
+            count: 0,
+        },
     }
 }
 
-fn expected_numbers(job: ExpectedJob) -> TypestockExpected
-    ensures { result ≡ expected_numbers job }
+fn expected_beside(schema: TypestockSchema, told: Expected) -> TypestockExpected
+    ensures { result ≡ expected_beside schema told }
 {
-    let answer = job.schema;
-    let schema = schema_numbers(answer);
-    let told = job.expected;
     let types = told.types;
     let tags = told.tags;
     let nils = told.nils;
@@ -143,17 +149,29 @@ fn expected_numbers(job: ExpectedJob) -> TypestockExpected
     }
 }
 
-fn opening_numbers(from: Cursor, next: NextOpening) -> TypestockOpening
+fn expected_numbers(job: Result<Expected, Refusal>) -> TypestockExpected
+    ensures { result ≡ expected_numbers job }
+{
+    match job {
+        Ok(told) => expected_beside(ACCEPTED, told),
+        Err(refusal) => {
+            let nothing = nothing_expected(refusal.why.number(), refusal.place);
+            expected_beside(refused_schema(refusal), nothing)
+        }
+    }
+}
+
+fn opening_numbers(from: Cursor, next: Option<(Tag, Cursor)>) -> TypestockOpening
     ensures { result ≡ opening_numbers from next }
 {
     match next {
-        NextOpening::Opening(tag, past) => TypestockOpening {
+        Some((tag, past)) => TypestockOpening {
             found: true,
             tag: tag.0,
             at: past.at,
             level: past.level,
         },
-        NextOpening::NoOpening => TypestockOpening {
+        None => TypestockOpening {
             found: false,
             tag: 0,
             at: from.at,
@@ -167,9 +185,10 @@ fn opening_numbers(from: Cursor, next: NextOpening) -> TypestockOpening
 pub extern "C" fn typestock_check_schema(schema: &[u8], witness: &mut [u8]) -> TypestockSchema
     ensures { SchemaMeans schema.now witness.old witness.new result }
 {
-    let told = read(schema, witness);
-    let answer = told.answer;
-    schema_numbers(answer)
+    match read(schema, witness) {
+        Ok(_) => ACCEPTED,
+        Err(refusal) => refused_schema(refusal),
+    }
 }
 
 // The schema file without the types that no valid document uses, to the buffer.
