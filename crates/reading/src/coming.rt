@@ -142,6 +142,7 @@ fn rotated(e: Entry, more: u32) -> u32
 }
 
 // An opening as what is added to an entry to test it: less by TYPE_ROOM for each tag, and by TAGS times as much for a nil opening.
+// It stays one number, of the tag and the kind together: with two the walk over R took 1.15 to 1.25 of its time.
 #[derive(Clone, Copy)]
 pub(crate) struct Sought(pub u32);
 
