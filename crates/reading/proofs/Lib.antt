@@ -3,7 +3,6 @@
 pub mod LevelLaws
 pub mod HeadLaws
 pub mod SoughtLaws
-pub mod StepWays
 pub mod ComingLaws
 pub mod ComingMeans
 pub mod InsideMeans
