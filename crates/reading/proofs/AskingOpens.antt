@@ -99,25 +99,6 @@ module _ (tag ways : List ℕ) (own states : ℕ) (κ : Kind) (p j q : ℕ) wher
   pub step_to_none : (flags : List Bool) → member q own ≡ false → Marks is_taken flags flags
   step_to_none flags e = marks_none is_taken flags (λ g l t. subst T e (parts g t).1.1)
 
-  -- else its type's tag, if that bears a tree opened so
-  pub step_marks : {was is : List Bool} (b : Bool) → b ≡ bearing → member p states ≡ true → member q own ≡ true
-      → Marks (λ k. under k && b) was is → Marks is_taken was is
-  step_marks b e f t m =
-      record {
-        entries = m.entries;
-        exactly = λ g l h. (
-          λ w. ⊎_elim inl (λ u. inr (all g (and_parts (under g) b u))) ((m.exactly g l h).0 w),
-          λ w.
-              (m.exactly g l h).1
-              (⊎_elim inl (λ u. inr (and_both (under g) b (parts g u).0.0 (subst T (sym e) (parts g u).1.0))) w),
-        );
-      }
-    where
-      all : (k : ℕ) → T (under k) × T b → T (is_taken k)
-      all k u =
-          and_both (under k && member p states) (bearing && member q own)
-          (and_both (under k) (member p states) u.0 (subst T (sym f) tt)) (and_both bearing (member q own) (subst T e u.1) (subst T (sym t) tt))
-
 -- A loop over steps: the flags mark those passed, and with those left come to all.
 module _ (P : ℕ → Step → Bool) (all : List Step) where
   pub record MarksYet (left : List Step) (flags : List Bool) : Type 0 where

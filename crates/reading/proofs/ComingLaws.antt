@@ -187,11 +187,6 @@ module _ (f : ℕ → List Move) (i end : ℕ) where
       let all : joins (f i ++ gathered f (suc i) (end - (i + 1))) x ≡ y = rw q at h in
       rw (e, add-one i) (sym (joins-append (f i) (gathered f (suc i) (end - suc i)) x) ∙ (rw (add-one i) at all))
 
-  -- at the end none is left
-  pub joins_done : (x y : Least) → end ≤ i → joins (gathered f i (end - i)) x ≡ y → x ≡ y
-  unfolding gathered joins
-  joins_done x y l h = let q : end - i ≡ 0 = omega arith in rw q at h
-
 -- places with no move are passed over
 pub gathered_past : (f : ℕ → List Move) (n m i : ℕ) → ((k : ℕ) → i ≤ k → k < i + n → f k ≡ []) → gathered f i (n + m) ≡ gathered f (i + n) m
 unfolding gathered
