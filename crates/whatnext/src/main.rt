@@ -2,29 +2,19 @@
 // decided by `report_expected`; here is only the reading and the writing.
 #![tactic(auto)]
 
-ghost use Rattle.input.specs.Counts.{IsPrefixLen};
-
 use input::{read_full, read_start};
 use report::{EXPECTED_OUTPUT, MOST_EVENTS, MOST_SCHEMA, report_expected};
 use std::io;
 use std::io::Print;
-use std::rt::Files;
 
 // One byte more than the most events, so that a longer file is seen.
 const EVENTS: usize = MOST_EVENTS + 1;
-
-// Reads the start of `schema.tab`: no bytes where it is missing or cannot be opened; where reading fails, the bytes so far.
-fn read_schema(files: &impl Files, file: &mut [u8]) -> usize
-    ensures { IsPrefixLen result file.new }
-{
-    read_start(files, "schema.tab", file)
-}
 
 fn main(rt: HostRuntime) -> io::Result<()> {
     let mut schema = [0u8; MOST_SCHEMA];
     let mut events = [0u8; EVENTS];
     let mut out = [0u8; EXPECTED_OUTPUT];
-    let s = read_schema(&rt, &mut schema);
+    let s = read_start(&rt, "schema.tab", &mut schema);
     let e = read_full(&mut rt.stdin(), &mut events);
     let n = report_expected(&schema[..s], &events[..e], &mut out);
     rt.write_all(&out[..n])

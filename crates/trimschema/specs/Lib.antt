@@ -1,2 +1,0 @@
--- What the program writes beside the file.
-pub mod Line
