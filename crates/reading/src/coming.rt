@@ -87,10 +87,8 @@ impl Least {
         ensures { self.new ≡ joins (moves_up_to entries.now (kind_sought o.0) (tag_sought o.0) start end) self.old }
     {
         let short = end <= start + SHORT;
-        let mut i = start;
-        while i < end {
+        for i in start..end {
             self.join_entry(Entry(entries[i]), o, short);
-            i += 1;
         }
     }
 

@@ -3,8 +3,8 @@ use mathlib.Core.Path.{◌≡◌}
 use mathlib.Core.List.{List}
 use Prim.Native.Nat.{ℕ, ◌-◌, ◌≤◌}
 use lib.ListN.{get_or}
-use Rattle.sdtd.specs.Limits.{most_types, most_steps}
-use Rattle.reading.specs.Coming.{Move, joins, gathered, kind_sought, tag_sought, IsSought, entry_moves, moves_up_to}
+use Rattle.sdtd.specs.Limits.{most_types}
+use Rattle.reading.specs.Coming.{Move, joins, gathered, kind_sought, tag_sought, entry_moves, moves_up_to}
 use Rattle.reading.specs.declared.coming.Sought.{Sought}
 use Rattle.reading.proofs.coming.Least.join_entries.Given as goal
 
@@ -14,8 +14,5 @@ moves entries o i = entry_moves (kind_sought o.0) (tag_sought o.0) (get_or entri
 
 abbrev pub invariant-loop-i : goal.invariant-loop-i
 invariant-loop-i l =
-    (l.end ≤ most_steps) × IsSought l.o.0 × (l.self.of ≤ most_types)
+    (l.self.of ≤ most_types)
     × (joins (gathered (moves l.entries l.o) l.i (l.end - l.i)) l.self ≡ joins (moves_up_to l.entries (kind_sought l.o.0) (tag_sought l.o.0) l.start l.end) l.initial.self)
-
-abbrev pub decreases-loop-i : goal.decreases-loop-i
-decreases-loop-i l = l.end - l.i
