@@ -41,13 +41,21 @@ fn answer(alloc: Global, case: &Case<'_>) -> Result<String> {
     Ok(out)
 }
 
+// The most cases: what follows so many is not looked at.
+const CASES: usize = 0x2_0000;
+
 fn main(rt: HostRuntime) -> Result<()> {
     let mut input = Vec::new(rt.alloc());
     rt.reader().read_to_end(&mut input)?;
     let mut rest = input.as_slice();
-    for case in (Cases { rest }) {
+    let mut left = CASES;
+    for case in (Cases { rest }).take(CASES) {
         rt.print(answer(rt.alloc(), &case)?.as_str())?;
         rest = case.rest;
+        left = left.saturating_sub(1);
+    }
+    if left == 0 {
+        return Ok(());
     }
     match rest {
         [0, _, _, _, _, _, _, ..] => rt.print("end\n")?,

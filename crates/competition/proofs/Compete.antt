@@ -1,7 +1,7 @@
 -- What the search of one type means for the schema.
-use mathlib.Core.Path.{◌≡◌, sym, ap, ◌∙◌}
+use mathlib.Core.Path.{◌≡◌, sym, ap, subst, ◌∙◌}
 use mathlib.Core.Logic.{◌≢◌}
-use mathlib.Core.Bool.{Bool, false}
+use mathlib.Core.Bool.{Bool, false, ◌||◌}
 use mathlib.Core.List.Memᴰ
 use mathlib.Core.List.{List, [], ◌∷◌, ◌++◌, Memᴰ}
 use Prim.Native.Nat.{ℕ, zero, suc, ◌≤◌, ◌<◌}
@@ -9,7 +9,7 @@ use native.Mathlib.Omega.{arith}
 use lib.Dec.{T}
 use lib.ListN.{length, get_or, length-append, get_or-eq_default}
 use Rattle.std.specs.List.{Contains}
-use Rattle.sdtd.specs.Limits.{most_states, most_steps, most_word}
+use Rattle.sdtd.specs.Limits.{most_states, most_word}
 use Rattle.sdtd.specs.Schema.{Step, Schema, no_block, block_of, tag_of, step, Leads, stay, go, WithinLimits}
 use Rattle.sdtd.specs.Trim.{Bears, none, both, AllBear, Live, Useful}
 use Rattle.sdtd.specs.Competition.{OpenedAlike, Compete, CompeteIn, pair_number}
@@ -19,7 +19,10 @@ use Rattle.sdtd.proofs.Fixpoint.{bears_live, live_closed, PairClosed}
 use Rattle.sdtd.proofs.Rivals.{RivalSteps, rivals_compete, no_rivals}
 use Rattle.competition.specs.Rivals.{open_alike}
 use Rattle.schema.specs.Rows.{Counts, to_in, ways_in, RowsMean}
+use Rattle.sdtd.specs.Tree.{plain, nil}
+use Rattle.schema.specs.Ways.{opens_by}
 use Rattle.schema.specs.Trimming.{WaysExactly}
+use Rattle.schema.proofs.WaysLaws.{bears_in_lem}
 use Rattle.schema.specs.Rows.{row_of}
 use Rattle.competition.specs.Rows.{Leading}
 use Rattle.competition.specs.Found.{found_at, word_to}
@@ -57,7 +60,7 @@ from_live {a = a} {s} c = live_closed.step a s c.given (bears_live.0 c.bears) c.
 -- The search of the type a goes by the rows of the schema, where a table tells in which ways types bear a tree.
 module _
     {S : Schema} (within : WithinLimits S) (ways : List ℕ) (exact : WaysExactly S ways) {entries begins : List ℕ}
-    (rows : RowsMean S entries begins) (sized : length entries ≡ most_steps) (a : ℕ) where
+    (rows : RowsMean S entries begins) (a : ℕ) where
   abbrev row_at : ℕ → List ℕ
   row_at p = row_of entries begins a p
 
@@ -71,10 +74,16 @@ module _
     stands : Contains (row_at s.from) entry
     reads : Reads s.from s.to s.by (tag_of S s.by) (get_or ways s.by 0) entry
 
+  -- it is not 0, since its type bears a tree in some way
+  some_entry : {s : Step} → Counts S a s → (e : ℕ) → ways_in e ≡ get_or ways s.by 0 → 0 < e
+  some_entry {s} c zero q =
+      absurd (subst (λ (w : ℕ). T (opens_by plain w || opens_by nil w)) (sym q) ((bears_in_lem S ways exact s.by).1 c.bears))
+  some_entry c (suc e) q = omega arith
+
   has_entry : {s : Step} → Counts S a s → HasEntry s
   has_entry {s} c =
       let h = row_has within rows c (exact s.by) in
-      record { entry = h.0; stands = row_contains entries begins a s.from sized rows.inside h.1; reads = h.2 }
+      record { entry = h.0; stands = row_contains entries begins a s.from (some_entry c h.0 h.2.ways_is) h.1; reads = h.2 }
 
   -- two entries by which a type leads on are steps that count
   leading_counts : {p q j p' q' : ℕ} → p < most_states → q < most_states → Leading (row_at p) (row_at q) j p' q'

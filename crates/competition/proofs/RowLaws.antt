@@ -3,15 +3,15 @@ use mathlib.Core.Path.{◌≡◌, refl, sym, ◌∙◌}
 use mathlib.Core.Logic.{◌⊎◌, inl, inr}
 use mathlib.Core.List.{List, ◌∷◌}
 use Prim.Native.Nat.{ℕ, zero, suc, ◌+◌, ◌-◌, ◌<◌}
+use native.Mathlib.Decide.{dec_lt}
 use native.Mathlib.Omega.{arith}
-use lib.ListN.{length, get_or, drop}
+use lib.ListN.{length, get_or, drop, get_or-eq_default}
 use Rattle.std.specs.List.{Contains}
 use Rattle.std.proofs.lemmas.Grind.{get_or_default_zero}
-use Rattle.std.proofs.lemmas.List.{length-take}
-use Rattle.std.proofs.lemmas.List.Edits.{length-between, get_or-between}
+use Rattle.std.proofs.lemmas.List.{length-take, length-drop}
+use Rattle.std.proofs.lemmas.List.Edits.{get_or-between}
 use Rattle.std.proofs.lemmas.List.Elements.{Contains-get_or}
-use Rattle.sdtd.specs.Limits.{most_steps}
-use Rattle.schema.specs.Rows.{row_place, InRow, RowsInside}
+use Rattle.schema.specs.Rows.{row_place, InRow}
 use Rattle.schema.specs.Rows.{row_of}
 
 -- an entry of a row stands at its first place or in the rest
@@ -37,15 +37,20 @@ module _ (entries begins : List ℕ) (a p : ℕ) where
       sym (get_or-between entries s t c.0 0 most) ∙ sym (get_or_default_zero (row_of entries begins a p) c.0 e c.1) ∙ c.2 in
       record { place = s + c.0; least = omega arith; most = most; is = is }
 
-  pub row_contains : length entries ≡ most_steps → RowsInside begins → {e : ℕ} → InRow entries begins (row_place a p) e
-      → Contains (row_of entries begins a p) e
-  row_contains sized inside {e} r =
+  -- one that is not 0 stands inside the table, so that the row has it
+  pub row_contains : {e : ℕ} → 0 < e → InRow entries begins (row_place a p) e → Contains (row_of entries begins a p) e
+  row_contains {e} some r =
       let s : ℕ = get_or begins (row_place a p) 0 in
       let t : ℕ = get_or begins (suc (row_place a p)) 0 in
       let k : ℕ = r.place - s in
-      let ends = inside (suc (row_place a p)) in
-      let long = length-between entries s t (omega (arith, sized)) in
-      let below : k < length (row_of entries begins a p) = omega (arith, r.least, r.most) in
+      let inside : r.place < length entries =
+      elim (dec_lt r.place (length entries)) [
+        | yes l ↦ l
+        | no n ↦ absurd (omega (arith, some, sym r.is ∙ get_or-eq_default entries 0 {n = r.place} (omega arith)))
+      ] in
+      let cut = length-take (t - s) (drop s entries) in
+      let left = length-drop s entries in
+      let below : k < length (row_of entries begins a p) = omega (arith, cut, left, inside, r.least, r.most) in
       let same : s + k ≡ r.place = omega (arith, r.least) in
       let is : get_or (row_of entries begins a p) k 0 ≡ e =
       get_or-between entries s t k 0 (omega (arith, r.least, r.most)) ∙ rw same r.is in

@@ -8,7 +8,7 @@ use native.Mathlib.Decide.{dec_lt}
 use native.Mathlib.Omega.{arith}
 use lib.Dec.{T}
 use lib.ListN.{length, get_or, drop}
-use Rattle.sdtd.specs.Limits.{most_types, most_steps}
+use Rattle.sdtd.specs.Limits.{most_types}
 use Rattle.sdtd.specs.Schema.{WithinLimits}
 use Rattle.sdtd.specs.Trim.{Useful}
 use Rattle.sdtd.specs.Competition.{Compete, CompeteIn, CompeteOutside, Competition, of_roots, in_type, witness_bytes, by_types}
@@ -31,7 +31,7 @@ use Rattle.competition.proofs.Shortest.{trail_shortest}
 
 module _
     (v : Schema) (t : Trimming) (entries begins : List ℕ) (within : WithinLimits (meaning v)) (exact : Exact (meaning v) t)
-    (rows : RowsMean (meaning v) entries begins) (sized : length entries ≡ most_steps) (apart : ¬ CompeteOutside (meaning v)) where
+    (rows : RowsMean (meaning v) entries begins) (apart : ¬ CompeteOutside (meaning v)) where
   -- nothing was found in the type a
   abbrev NoneFound : ℕ → Type 0
   NoneFound a = RestrainedIn (row_of entries begins a) (used_in t) a
@@ -46,7 +46,7 @@ module _
   restrained : (a : ℕ) → NoneFound a → ¬ CompeteIn (meaning v) a
   restrained a r k =
       let c = k.compete in
-      closed_restrained within t.ways exact.ways rows sized a (r ((useful a).1 (c.reached, c.bears))).1 k
+      closed_restrained within t.ways exact.ways rows a (r ((useful a).1 (c.reached, c.bears))).1 k
 
   -- the search found nothing in any type
   pub none_compete : ((a : ℕ) → a < most_types → NoneFound a) → ¬ Competition (meaning v)
@@ -75,7 +75,7 @@ module _
   module _ (a at j k : ℕ) (queue : List Found) (found : CompetingIn (row_of entries begins a) (used_in t) a queue at j k)
       (smaller : (c : ℕ) → c < a → NoneFound c) where
     competing : CompeteEither (meaning v) a (word_to at queue at) j k
-    competing = trail_competes within t.ways exact.ways rows sized a ((useful a).0 found.used_there) found.to_rivals
+    competing = trail_competes within t.ways exact.ways rows a ((useful a).0 found.used_there) found.to_rivals
 
     smallest : (c : ℕ) → CompeteIn (meaning v) c → a ≤ c
     smallest c x = by_order (dec_lt c a)
@@ -100,7 +100,7 @@ module _
                 word = w;
                 compete = smaller_first competing;
                 smallest = smallest;
-                shortest = trail_shortest within t.ways exact.ways rows sized a found.to_rivals;
+                shortest = trail_shortest within t.ways exact.ways rows a found.to_rivals;
                 short = competing.short;
                 written = refl;
               });

@@ -1,11 +1,10 @@
 -- The search of one type is breadth first: the word to the first pair that has rivals is a shortest after which two types compete.
-use mathlib.Core.Path.{◌≡◌, ap}
+use mathlib.Core.Path.{ap}
 use mathlib.Core.List.{List}
 use Prim.Native.Nat.{ℕ, zero, suc, ◌≤◌, ◌<◌}
 use native.Mathlib.Decide.{dec_lt}
 use native.Mathlib.Omega.{arith}
 use lib.ListN.{length}
-use Rattle.sdtd.specs.Limits.{most_steps}
 use Rattle.sdtd.specs.Schema.{Schema, WithinLimits}
 use Rattle.sdtd.specs.Trim.{Live}
 use Rattle.sdtd.specs.Competition.{CompeteIn, pair_number}
@@ -33,7 +32,7 @@ later queue n (suc i) l = omega arith
 -- The search of the type a goes by the rows of the schema, where a table tells in which ways types bear a tree.
 module _
     {S : Schema} (within : WithinLimits S) (ways : List ℕ) (exact : WaysExactly S ways) {entries begins : List ℕ}
-    (rows : RowsMean S entries begins) (sized : length entries ≡ most_steps) (a : ℕ) where
+    (rows : RowsMean S entries begins) (a : ℕ) where
   abbrev row_at : ℕ → List ℕ
   row_at p = row_of entries begins a p
 
@@ -59,7 +58,7 @@ module _
               let x = before (found_at queue i).parent (omega (arith, r.earlier)) (omega (arith, r.shorter)) (from_live c) (from_live d) in
               let e : Found = found_at queue x.place in
               pair_either {P = LeadsBefore row_at queue i} (before_swap i) e.first e.second p q x.is
-              (t.in_order i pos h x.place x.place_below) j p' q' (counts_leading within ways exact rows sized a c d);
+              (t.in_order i pos h x.place x.place_below) j p' q' (counts_leading within ways exact rows a c d);
         }
 
   -- two types that compete in a do so after a word that is no shorter than that to the first pair with rivals
@@ -74,7 +73,7 @@ module _
       shorter : n < word_length queue at → ⊥
       shorter l =
           let s = rivals_in (PairOfLength S a n) other (λ p q x e. record { pair = x; long = ap length e }) in
-          let x = steps_rivals within ways exact rows sized a s.rivals s.different in
+          let x = steps_rivals within ways exact rows a s.rivals s.different in
           let b = counted_complete (before_closed r.trail) n s.p s.q s.pair at (omega arith) l x.1 x.2 in
           let e : Found = found_at queue b.place in
           pair_either {P = NoRivals row_at} (none_swap row_at) e.first e.second s.p s.q b.is

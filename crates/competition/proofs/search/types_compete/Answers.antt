@@ -8,9 +8,9 @@ pub returns-in-Some : goal.returns-in-Some
 returns-in-Some c =
     let given = c.requires in
     let f = rw (c.used_in-used.ensures, c.in-Some.is) at c.first_competing.ensures in
-    competing_written _ _ _ _ given.0 given.1 given.2 c.args.rows.now.sized given.3 _ _ _ _ _ f.0 f.1 _ _ c.write_witness.ensures
+    competing_written _ _ _ _ given.0 given.1 given.2 given.3 _ _ _ _ _ f.0 f.1 _ _ c.write_witness.ensures
 
 pub returns : goal.returns
 returns c =
     let given = c.requires in
-    (none_compete _ _ _ _ given.0 given.1 given.2 c.args.rows.now.sized given.3 (rw (c.used_in-used.ensures, c.in_default.is) at c.first_competing.ensures), refl)
+    (none_compete _ _ _ _ given.0 given.1 given.2 given.3 (rw (c.used_in-used.ensures, c.in_default.is) at c.first_competing.ensures), refl)
