@@ -6,7 +6,8 @@ ghost use Rattle.text.specs.Page.{Lays};
 
 use itoa::Buffer;
 
-// A text that does not fit is counted all the same, so a page over a buffer of no bytes only counts.
+// A text that does not fit is counted all the same, so a page over a buffer of no bytes only counts. Clauses name the fields: the buffer `out` and the
+// place `at`.
 #[derive(Drop)]
 pub struct Page<'a> {
     out: &'a mut [u8],
