@@ -10,7 +10,8 @@ use std::io::Read;
 use std::rt::Files;
 
 // Reads until the buffer is full, the input ends or a read fails, and gives how many bytes stand at the buffer's start: the first that the reader had.
-// A read that a signal interrupts counts as one that fails. With no room nothing is read.
+// A read that a signal interrupts counts as one that fails. With no room nothing is read. A loop, since `read_to_end` promises little of the bytes
+// before a read that fails.
 pub fn read_full<R: Read>(reader: &mut R, buf: &mut [u8]) -> usize
     ensures within { IsPrefixLen result buf.new }
     ensures bytes { Consumes (R.remaining reader.old) (R.remaining reader.new) (take result buf.new) }

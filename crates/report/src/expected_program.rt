@@ -58,6 +58,7 @@ fn put_expected_job(
     }
 }
 
+// The same steps as `put_answer` in `program`: one function for both would take the job with its contract, which is longer than the two.
 // The job on the two files, and its text; above the most bytes of events only `too long`.
 fn put_expected_answer(page: &mut Page<'_>, schema: &[u8], events: &[u8])
     ensures { AnswerLaid ExpectedPrinted most_expected schema.now events.now page.old page.new }

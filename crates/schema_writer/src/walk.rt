@@ -27,6 +27,7 @@ fn put_file(page: &mut Page<'_>, file: &[u8], schema: &Schema, kept: &Kept)
     while let Some(command) = command_at(file, at) {
         let next = at + command.size();
         if let Some(end) = past_states(file, next, command, types, kept) {
+            // A type that is kept is one of the schema's, so its number is a byte; a `try_from` would have a case that never comes.
             put_block(page, schema, TypeNo(types as u8), kept);
             types += 1;
             at = end;

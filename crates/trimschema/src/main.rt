@@ -9,7 +9,8 @@ use schema_writer::write_reduced;
 use std::io;
 use std::io::Print;
 
-// What blocks that are written by their states can have: a FINAL of two bytes for each state of each type, and every STEP, of four.
+// What blocks that are written by their states can have: a FINAL of two bytes for each state of each type, and every STEP, of four. The cast stands
+// since a constant calls no `usize::from`.
 const BY_STATES: usize = 2 * TYPES * (STATES as usize) + 4 * STEPS;
 
 // Room for what is written of any file of so many bytes.

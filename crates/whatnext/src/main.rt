@@ -10,6 +10,7 @@ use std::io::Print;
 // One byte more than the most events, so that a longer file is seen.
 const EVENTS: usize = MOST_EVENTS + 1;
 
+// The lines are those of `typestock`: a function for both would take the report with its contract, which is longer than they are.
 fn main(rt: HostRuntime) -> io::Result<()> {
     let mut schema = [0u8; MOST_SCHEMA];
     let mut events = [0u8; EVENTS];
