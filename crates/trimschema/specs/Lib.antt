@@ -1,0 +1,2 @@
+-- What the program writes beside the file.
+pub mod Line
