@@ -3,9 +3,10 @@
 
 ghost use Rattle.std.specs.Prelude.{◌≡◌, IfOk};
 ghost use Rattle.std.specs.String.{string_bytes};
+ghost use Rattle.pairs.specs.Table.{PairTable};
 ghost use Rattle.pairtable.specs.Lines.{lines_of, IsTableText};
 
-use pairs::pair_numbers;
+use pairs::PAIR_NUMBERS;
 use std::alloc::{AllocError, Global};
 use std::fmt::Write;
 use std::io;
@@ -22,13 +23,14 @@ fn lines(alloc: Global, numbers: &[u16]) -> Result<String, AllocError>
 }
 
 // The lines of the table.
-fn table_text(alloc: Global) -> Result<String, AllocError>
+fn table_text(alloc: Global, numbers: &[u16]) -> Result<String, AllocError>
+    requires { PairTable numbers.now }
     ensures { IfOk result (λ text. IsTableText (string_bytes text)) }
 {
-    lines(alloc, &pair_numbers())
+    lines(alloc, numbers)
 }
 
 fn main(rt: HostRuntime) -> io::Result<()> {
-    let text = table_text(rt.alloc())?;
+    let text = table_text(rt.alloc(), &PAIR_NUMBERS)?;
     print!(rt; "{text}")
 }
