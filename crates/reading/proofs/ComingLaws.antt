@@ -4,20 +4,16 @@ use mathlib.Core.Logic.{◌↔◌, ◌⊎◌, inl, inr, ⊎_elim, ◌≢◌}
 use mathlib.Core.Bool.{Bool, true, false}
 use mathlib.Core.List.Memᴰ
 use mathlib.Core.List.{List, [], ◌∷◌, ◌++◌, Memᴰ}
-use Prim.Native.Nat.{ℕ, zero, suc, ◌+◌, ◌-◌, ◌^◌, ◌≤◌, ◌<◌}
-use native.Mathlib.Nat.{add-zero, zero-add}
-use native.Mathlib.Decide.{ℕ_discrete}
-use native.Mathlib.Numerals.{add-one}
+use Prim.Native.Nat.{ℕ, ◌^◌, ◌≤◌, ◌<◌}
 use native.Mathlib.Omega.{arith}
 use lib.Dec.{T, eqb, ltb, ltb→lt, lt→ltb, eqb→eq, eqb_refl}
-use Rattle.sdtd.specs.Schema.{Step}
-use Rattle.schema.specs.Value.{up_from, step_at, steps_of}
+use Rattle.std.specs.List.{flat_map}
 use Rattle.sdtd.specs.Limits.{most_types, most_states}
 use Rattle.sdtd.proofs.Basics.{cond_either}
 use Rattle.schema.specs.States.{member, insert, no_states}
 use Rattle.schema.proofs.Bits.{member_none, insert_below, member-insert}
 use Rattle.reading.specs.declared.coming.Least.{Least}
-use Rattle.reading.specs.Coming.{least, none_yet, join, Move, move, joins, gathered, move_where}
+use Rattle.reading.specs.Coming.{least, none_yet, join, Move, move, joins, move_where}
 
 -- c has the smallest type of P, and the states that P has with it; none are kept where P has nothing, and then c is past every type
 pub record Smallest (P : ℕ → ℕ → Type 0) (c : Least) : Type 0 where
@@ -176,56 +172,23 @@ unfolding joins
 joins-append [] ns c = refl
 joins-append (m ∷ ms) ns c = joins-append ms ns (join c m.by m.to)
 
--- A loop over the places from i up to the end: what is left, over what came so far, comes to y.
-module _ (f : ℕ → List Move) (i end : ℕ) where
-  -- a turn takes the first of the places left
-  pub joins_turn : (x x' y : Least) → i < end → x' ≡ joins (f i) x → joins (gathered f i (end - i)) x ≡ y
-      → joins (gathered f (i + 1) (end - (i + 1))) x' ≡ y
-  unfolding gathered
-  joins_turn x x' y l e h =
-      let q : end - i ≡ suc (end - (i + 1)) = omega arith in
-      let all : joins (f i ++ gathered f (suc i) (end - (i + 1))) x ≡ y = rw q at h in
-      rw (e, add-one i) (sym (joins-append (f i) (gathered f (suc i) (end - suc i)) x) ∙ (rw (add-one i) at all))
+-- a move among those of the elements of a list
+pub moves_mem : {A : Type 0} (f : A → List Move) (xs : List A) (m : Move) → Memᴰ m (flat_map f xs) ↔ ((x : A) × Memᴰ x xs × Memᴰ m (f x))
+moves_mem f xs m = (of_mem xs, λ w. to_mem xs w.0 w.1 w.2)
+  where
+    of_mem : (ys : List _) → Memᴰ m (flat_map f ys) → (x : _) × Memᴰ x ys × Memᴰ m (f x)
+    of_mem [] w = absurd (Memᴰ.not-nil w)
+    of_mem (y ∷ ys) w =
+        ⊎_elim (λ h. (y, Memᴰ.head refl, h)) (λ h. let r = of_mem ys h in (r.0, Memᴰ.tail r.1, r.2))
+        (Memᴰ.append_cases (f y) w)
 
--- places with no move are passed over
-pub gathered_past : (f : ℕ → List Move) (n m i : ℕ) → ((k : ℕ) → i ≤ k → k < i + n → f k ≡ []) → gathered f i (n + m) ≡ gathered f (i + n) m
-unfolding gathered
-gathered_past f zero m i none = rw (add-zero i, zero-add m)
-gathered_past f (suc n) m i none =
-    let q : suc n + m ≡ suc (n + m) = omega arith in
-    let e : i + suc n ≡ suc i + n = omega arith in
-    rw (q, e, none i (omega arith) (omega arith)) (gathered_past f n m (suc i) (λ k l h. none k (omega arith) (omega arith)))
-
--- a move of those gathered, and the place that has it
-pub record MoveAt (f : ℕ → List Move) (i n : ℕ) (m : Move) : Type 0 where
-  pub place : ℕ
-  pub least : i ≤ place
-  pub most : place < i + n
-  pub is : Memᴰ m (f place)
-
-gathered_at : (f : ℕ → List Move) (i n : ℕ) (m : Move) → Memᴰ m (gathered f i n) → MoveAt f i n m
-unfolding gathered
-gathered_at f i zero m w = absurd (Memᴰ.not-nil w)
-gathered_at f i (suc n) m w =
-    ⊎_elim (λ h. record { place = i; least = omega arith; most = omega arith; is = h })
-    (λ h.
-    let p = gathered_at f (suc i) n m h in
-    record { place = p.place; least = omega (arith, p.least); most = omega (arith, p.most); is = p.is })
-    (Memᴰ.append_cases (f i) w)
-
-gathered_from : (f : ℕ → List Move) (i n : ℕ) (m : Move) → MoveAt f i n m → Memᴰ m (gathered f i n)
-unfolding gathered
-gathered_from f i zero m p = absurd (omega (arith, p.least, p.most))
-gathered_from f i (suc n) m p =
-    elim (ℕ_discrete p.place i) [
-      | yes e ↦ Memᴰ.append_left (gathered f (suc i) n) (subst (λ (k : ℕ). Memᴰ m (f k)) e p.is)
-      | no d ↦
-          Memᴰ.append_right (f i) (gathered_from f (suc i) n m
-          (record { place = p.place; least = omega (arith, p.least); most = omega (arith, p.most); is = p.is }))
-    ]
-
-pub gathered-mem : (f : ℕ → List Move) (i n : ℕ) (m : Move) → Memᴰ m (gathered f i n) ↔ MoveAt f i n m
-gathered-mem f i n m = (gathered_at f i n m, gathered_from f i n m)
+    to_mem : (ys : List _) (x : _) → Memᴰ x ys → Memᴰ m (f x) → Memᴰ m (flat_map f ys)
+    to_mem [] x e w = absurd (Memᴰ.not-nil e)
+    to_mem (y ∷ ys) x e w =
+        ⊎_elim
+        (λ h. Memᴰ.append_left (flat_map f ys) (subst (λ (z : _). Memᴰ m (f z)) h w))
+        (λ h. Memᴰ.append_right (f y) (to_mem ys x h w))
+        (Memᴰ.cases_cons e)
 
 -- a move where a test holds
 pub where_mem : (b : Bool) (k p j q : ℕ) → Memᴰ (move j q) (move_where b k p) ↔ (T b × (j ≡ k) × (q ≡ p))
@@ -237,23 +200,12 @@ where_mem true k p j q = (
 )
 where_mem false k p j q = (λ w. absurd (Memᴰ.not-nil w), λ w. absurd w.0)
 
--- the moves of each of the steps, one after another
-abbrev pub moves_of : (Step → List Move) → List Step → List Move
-moves_of f [] = []
-moves_of f (s ∷ ss) = f s ++ moves_of f ss
-
-pub moves_gathered : (f : Step → List Move) (from by to : List ℕ) (start n : ℕ)
-    → gathered (λ i. f (step_at from by to i)) start n ≡ moves_of f (steps_of from by to start n)
-unfolding gathered steps_of up_from
-moves_gathered f from by to start zero = refl
-moves_gathered f from by to start (suc n) = ap (λ (ms : List Move). f (step_at from by to start) ++ ms) (moves_gathered f from by to (suc start) n)
-
--- a loop over steps: the first of those left is joined, and the others are left
-pub joins_first : (f : Step → List Move) (x : Least) {left rest : List Step} {s : Step} {x' y : Least} → left ≡ s ∷ rest → x' ≡ joins (f s) x
-    → joins (moves_of f left) x ≡ y → joins (moves_of f rest) x' ≡ y
+-- A loop over a list: the first of those left is joined, and the others are left.
+pub joins_first : {A : Type 0} (f : A → List Move) (x : Least) {left rest : List A} {s : A} {x' y : Least} → left ≡ s ∷ rest → x' ≡ joins (f s) x
+    → joins (flat_map f left) x ≡ y → joins (flat_map f rest) x' ≡ y
 joins_first f x {left} {rest} {s} e h all =
-    rw h (sym (joins-append (f s) (moves_of f rest) x) ∙ ap (λ (ss : List Step). joins (moves_of f ss) x) (sym e) ∙ all)
+    rw h (sym (joins-append (f s) (flat_map f rest) x) ∙ ap (λ (ss : List _). joins (flat_map f ss) x) (sym e) ∙ all)
 
-pub joins_none_left : (f : Step → List Move) (x : Least) {left : List Step} {y : Least} → left ≡ [] → joins (moves_of f left) x ≡ y → x ≡ y
+pub joins_none_left : {A : Type 0} (f : A → List Move) (x : Least) {left : List A} {y : Least} → left ≡ [] → joins (flat_map f left) x ≡ y → x ≡ y
 unfolding joins
-joins_none_left f x e all = ap (λ (ss : List Step). joins (moves_of f ss) x) (sym e) ∙ all
+joins_none_left f x e all = ap (λ (ss : List _). joins (flat_map f ss) x) (sym e) ∙ all

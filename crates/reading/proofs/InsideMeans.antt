@@ -1,9 +1,9 @@
 -- Inside an element: what its moves come to is what a call asks for, by the rows and by its type's own steps.
-use mathlib.Core.Path.{◌≡◌, refl, sym, subst, ◌∙◌}
+use mathlib.Core.Path.{◌≡◌, refl, sym, ◌∙◌}
 use mathlib.Core.Logic.{◌↔◌}
-use mathlib.Core.Bool.{Bool, true, false, cond, ◌&&◌}
-use mathlib.Core.List.{List, [], Memᴰ}
-use Prim.Native.Nat.{ℕ, suc, ◌+◌, ◌-◌, ◌%◌, ◌≤◌, ◌<◌}
+use mathlib.Core.Bool.{Bool, ◌&&◌}
+use mathlib.Core.List.{List, Memᴰ}
+use Prim.Native.Nat.{ℕ, ◌+◌, ◌%◌, ◌^◌, ◌≤◌, ◌<◌}
 use native.Mathlib.Omega.{arith}
 use lib.Dec.{T, eqb, eqb→eq, eqb_refl}
 use lib.ListN.{get_or}
@@ -14,13 +14,15 @@ use Rattle.sdtd.specs.Tree.{Kind}
 use Rattle.sdtd.specs.Trim.{BearsBy, Live}
 use Rattle.sdtd.proofs.Bearing.{by_bears}
 use Rattle.sdtd.proofs.Basics.{cond_either, and_parts, and_both}
-use Rattle.schema.specs.States.{member, no_states}
+use Rattle.schema.specs.States.{member, members, no_states}
 use Rattle.schema.specs.Ways.{opens_by}
-use Rattle.schema.specs.Value.{step_at, steps_of, offset, meaning}
-use Rattle.schema.specs.Rows.{Counts, to_in, by_in, tag_in, ways_in, row_place, RowsMean}
+use Rattle.schema.specs.Value.{steps_of, offset, meaning}
+use Rattle.schema.specs.Rows.{Counts, to_in, by_in, tag_in, ways_in, row_of, RowsMean}
+use Rattle.schema.specs.declared.row.Rows.{Rows}
+use Rattle.schema.proofs.Bits.{mem-members, member_below}
 use Rattle.schema.specs.Trimming.{LiveExactly, WaysExactly}
 use Rattle.schema.specs.declared.value.Schema.{Schema}
-use Rattle.schema.proofs.Values.{AtPlace, steps_mem, types_count, tag_of_lem}
+use Rattle.schema.proofs.Values.{types_count, tag_of_lem}
 use Rattle.schema.proofs.LimitLaws.{within_room}
 use Rattle.schema.proofs.Rounds.{steps_fit}
 use Rattle.schema.proofs.FirstTables.{Fits, own_step, own-steps}
@@ -33,9 +35,10 @@ use Rattle.reading.specs.declared.coming.Least.{Least}
 use Rattle.reading.specs.Coming.{none_yet, Move, move, joins, coming_of, coming_by, opens_in, entry_moves, row_moves, step_taken, step_moves}
 use Rattle.reading.specs.Steps.{inner_by_rows, inner_by_steps}
 use Rattle.reading.specs.Asking.{SomeStep}
+use Rattle.reading.proofs.RowMembers.{row_mem}
 use Rattle.reading.proofs.LevelLaws.{inner_below}
 use Rattle.reading.proofs.ComingMeans.{ComesNext, ComingMeans}
-use Rattle.reading.proofs.ComingLaws.{Smallest, smallest_same, joins_smallest, gathered-mem, where_mem}
+use Rattle.reading.proofs.ComingLaws.{Smallest, smallest_same, joins_smallest, moves_mem, where_mem}
 
 -- the type j can be opened so under the tag g inside the innermost element, and leads to the live state q
 record Opens (S : Meaning) (r : Reading) (κ : Kind) (g j q : ℕ) : Type 0 where
@@ -82,24 +85,11 @@ moves_means {S} within r κ g ms inside same =
     let w = counted_from within (opens_counts ((same j q).0 m)) in
     (omega (arith, w.2, within.types_most), w.1))))
 
--- the moves of a row that counts
-chosen_mem : (b : Bool) (m : Move) (ms : List Move) → Memᴰ m (cond b ms []) ↔ (T b × Memᴰ m ms)
-chosen_mem true m ms = (λ w. (tt, w), λ w. w.1)
-chosen_mem false m ms = (λ w. absurd (mathlib.Core.List.Memᴰ.not-nil w), λ w. absurd w.0)
-
-module _ {S : Meaning} (within : WithinLimits S) {entries begins : List ℕ} (rows : RowsMean S entries begins) (r : Reading) (κ : Kind) (g : ℕ) where
-  -- the moves at the state p of the innermost type, and at the place i of the entries
-  abbrev at_state : ℕ → List Move
-  at_state p = cond (member p (inner_set r)) (row_moves entries begins κ g (row_place (inner_type r) p)) []
-
-  abbrev at_entry : ℕ → List Move
-  at_entry i = entry_moves κ g (get_or entries i 0)
-
-  abbrev row_start : ℕ → ℕ
-  row_start p = get_or begins (row_place (inner_type r) p) 0
-
-  abbrev row_end : ℕ → ℕ
-  row_end p = get_or begins (suc (row_place (inner_type r) p)) 0
+module _ {S : Meaning} (within : WithinLimits S) (t : Rows) (rows : RowsMean S t.entries.now t.begins.now) (r : Reading) (κ : Kind) (g : ℕ)
+    (below : inner_set r < 2 ^ most_states) where
+  -- the row of the state p of the innermost type
+  abbrev row_at : ℕ → List ℕ
+  row_at p = row_of t.entries.now t.begins.now (inner_type r) p
 
   -- an entry under the tag, in the row of a state kept
   said_opens : (p e : ℕ) → T (member p (inner_set r)) → T (eqb (tag_in e) g && opens_by κ (ways_in e)) → Says S (inner_type r) p e
@@ -112,19 +102,16 @@ module _ {S : Meaning} (within : WithinLimits S) {entries begins : List ℕ} (ro
         leads = record { from = p; kept = kept; step = s.counts.given; live = s.counts.live };
       }
 
-  row_opens : (j q : ℕ) → Memᴰ (move j q) (inner_by_rows entries begins r κ g) → Opens S r κ g j q
+  row_opens : (j q : ℕ) → Memᴰ (move j q) (inner_by_rows t r κ g) → Opens S r κ g j q
   row_opens j q m =
-      let p = (gathered-mem at_state 0 most_states (move j q)).0 m in
-      let row = (chosen_mem (member p.place (inner_set r)) (move j q) _).0 p.is in
-      let i = (gathered-mem at_entry (row_start p.place) (row_end p.place - row_start p.place) (move j q)).0 row.1 in
-      let e = get_or entries i.place 0 in
-      let w = (where_mem (eqb (tag_in e) g && opens_by κ (ways_in e)) (by_in e) (to_in e) j q).0 i.is in
-      let says =
-      row_says within rows (inner_type r) p.place e (omega (arith, p.most))
-      (record { place = i.place; least = i.least; most = omega (arith, i.least, i.most); is = refl }) in
-      same_opens w.1 w.2 (said_opens p.place e row.0 w.0 says)
+      let (p, state, row) = (moves_mem (λ p. row_moves κ g (row_at p)) (members (inner_set r)) (move j q)).0 m in
+      let (e, entry, here) = (moves_mem (entry_moves κ g) (row_at p) (move j q)).0 row in
+      let kept = (mem-members p (inner_set r) below).0 state in
+      let w = (where_mem (eqb (tag_in e) g && opens_by κ (ways_in e)) (by_in e) (to_in e) j q).0 here in
+      let says = row_says within rows (inner_type r) p e (member_below p (inner_set r) below kept) ((row_mem t (inner_type r) p e).0 entry) in
+      same_opens w.1 w.2 (said_opens p e kept w.0 says)
 
-  opens_row : (j q : ℕ) → Opens S r κ g j q → Memᴰ (move j q) (inner_by_rows entries begins r κ g)
+  opens_row : (j q : ℕ) → Opens S r κ g j q → Memᴰ (move j q) (inner_by_rows t r κ g)
   opens_row j q o =
       let c = opens_counts o in
       let p = o.leads.from in
@@ -133,22 +120,14 @@ module _ {S : Meaning} (within : WithinLimits S) {entries begins : List ℕ} (ro
       let tag : T (eqb (tag_in e) g) = rw (reads.tag_is ∙ o.tag) (eqb_refl g) in
       let kind : T (opens_by κ (ways_in e)) = rw reads.ways_is ((ways.1.exact κ).1 o.bears) in
       let under = and_both (eqb (tag_in e) g) (opens_by κ (ways_in e)) tag kind in
-      let here : Memᴰ (move j q) (at_entry i.place) =
-      rw i.is ((where_mem (eqb (tag_in e) g && opens_by κ (ways_in e)) (by_in e) (to_in e) j q).1 (under, sym reads.by_is, sym reads.to_is)) in
-      let row =
-      (gathered-mem at_entry (row_start p) (row_end p - row_start p) (move j q)).1
-      (record { place = i.place; least = i.least; most = omega (arith, i.least, i.most); is = here }) in
-      (gathered-mem at_state 0 most_states (move j q)).1
-      (record {
-        place = p;
-        least = omega arith;
-        most = omega (arith, (counted_from within c).0);
-        is = (chosen_mem (member p (inner_set r)) (move j q) _).1 (o.leads.kept, row);
-      })
+      let here : Memᴰ (move j q) (entry_moves κ g e) =
+      (where_mem (eqb (tag_in e) g && opens_by κ (ways_in e)) (by_in e) (to_in e) j q).1 (under, sym reads.by_is, sym reads.to_is) in
+      let row = (moves_mem (entry_moves κ g) (row_at p) (move j q)).1 (e, (row_mem t (inner_type r) p e).1 i, here) in
+      (moves_mem (λ p. row_moves κ g (row_at p)) (members (inner_set r)) (move j q)).1 (p, (mem-members p (inner_set r) below).1 o.leads.kept, row)
 
   -- inside an element the rows come to what a call asks for
-  pub rows_mean : 0 < r.depth → ComingMeans S r κ g (coming_by (inner_by_rows entries begins r κ g))
-  rows_mean inside = moves_means within r κ g (inner_by_rows entries begins r κ g) inside (λ j q. (row_opens j q, opens_row j q))
+  pub rows_mean : 0 < r.depth → ComingMeans S r κ g (coming_by (inner_by_rows t r κ g))
+  rows_mean inside = moves_means within r κ g (inner_by_rows t r κ g) inside (λ j q. (row_opens j q, opens_row j q))
 
 -- the places of the steps of the innermost element's type: from its offset on
 abbrev start : Schema → Reading → ℕ
@@ -163,20 +142,10 @@ module _ {v : Schema} {r : Reading} (fits : Fits v) (within : Within (meaning v)
   inside_room =
       omega (arith, (within_room v within.schema).steps, steps_fit v.steps (inner_type r) v.types (inner_below v r within inside))
 
-  -- a step of the innermost element's type, and its place
-  step_place : (x : Step)
-      → Memᴰ x (block_of (meaning v) (inner_type r)).steps ↔ AtPlace (step_at v.from v.by v.to) (start v r) (count v r) x
-  step_place x =
-      rw (own-steps fits within.schema (inner_type r) (inner_below v r within inside))
-      (steps_mem v.from v.by v.to (start v r) (count v r) x)
-
   module _ (live ways : List ℕ) (table : LiveExactly (meaning v) live) (opened : WaysExactly (meaning v) ways) (κ : Kind) (g : ℕ) where
-    -- whether a step of that type is taken, and the moves at the place i
+    -- whether a step of that type is taken
     abbrev is_taken : Step → Bool
     is_taken x = step_taken v.tag ways (get_or live (inner_type r) 0) (inner_set r) κ g x
-
-    abbrev at_step : ℕ → List Move
-    at_step i = step_moves v.tag ways (get_or live (inner_type r) 0) (inner_set r) κ g (step_at v.from v.by v.to i)
 
     -- the four tests of a step by the type j, which is read at the entry j
     module _ (x : Step) (m : Memᴰ x (block_of (meaning v) (inner_type r)).steps) where
@@ -218,24 +187,24 @@ module _ {v : Schema} {r : Reading} (fits : Fits v) (within : Within (meaning v)
           (and_both under (member x.from (inner_set r)) (rw (own_tag (type_below b l) ∙ e) (eqb_refl g)) kept)
           (and_both bearing to_live (rw at_own (((opened x.by).exact κ).1 b)) ((table (inner_type r) x.to).1 l))
 
+    -- the steps of that type are those of its span
+    own : (block_of (meaning v) (inner_type r)).steps ≡ steps_of v.from v.by v.to (start v r) (count v r)
+    own = own-steps fits within.schema (inner_type r) (inner_below v r within inside)
+
+    abbrev taken_moves : Step → List Move
+    taken_moves = step_moves v.tag ways (get_or live (inner_type r) 0) (inner_set r) κ g
+
     step_opens : (j q : ℕ) → Memᴰ (move j q) (inner_by_steps v live ways r κ g) → Opens (meaning v) r κ g j q
     step_opens j q m =
-        let p = (gathered-mem at_step (start v r) (count v r) (move j q)).0 m in
-        let x = step_at v.from v.by v.to p.place in
-        let w = (where_mem (is_taken x) x.by x.to j q).0 p.is in
-        let given = (step_place x).1 (record { place = p.place; least = p.least; most = p.most; is = refl }) in
-        same_opens w.1 w.2 (taken_opens x given w.0)
+        let (x, given, here) = (moves_mem taken_moves _ (move j q)).0 m in
+        let w = (where_mem (is_taken x) x.by x.to j q).0 here in
+        same_opens w.1 w.2 (taken_opens x (rw own given) w.0)
 
     opens_step : (j q : ℕ) → Opens (meaning v) r κ g j q → Memᴰ (move j q) (inner_by_steps v live ways r κ g)
     opens_step j q o =
         let x = step o.leads.from j q in
-        let p = (step_place x).0 o.leads.step in
         let t = opens_taken x o.leads.step o.leads.kept o.bears o.leads.live o.tag in
-        let here : Memᴰ (move j q) (at_step p.place) =
-        subst (λ (y : Step). Memᴰ (move j q) (step_moves v.tag ways (get_or live (inner_type r) 0) (inner_set r) κ g y)) p.is
-        ((where_mem (is_taken x) j q j q).1 (t, refl, refl)) in
-        (gathered-mem at_step (start v r) (count v r) (move j q)).1
-        (record { place = p.place; least = p.least; most = p.most; is = here })
+        (moves_mem taken_moves _ (move j q)).1 (x, rw own at o.leads.step, (where_mem (is_taken x) j q j q).1 (t, refl, refl))
 
     -- inside an element its type's own steps come to what a call asks for
     pub steps_mean : ComingMeans (meaning v) r κ g (coming_by (inner_by_steps v live ways r κ g))

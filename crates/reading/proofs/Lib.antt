@@ -7,6 +7,7 @@ pub mod ComingLaws
 pub mod ComingMeans
 pub mod InsideMeans
 pub mod RootMeans
+pub mod RowMembers
 pub mod StepLaws
 pub mod Keeping
 pub mod Innermost

@@ -24,7 +24,7 @@ use Rattle.schema.proofs.FirstTables.{Fits}
 use Rattle.schema.proofs.WaysLaws.{nillable_of}
 use Rattle.reading.specs.declared.value.Reading.{Reading}
 use Rattle.std.specs.Prelude.{Some, None}
-use Rattle.reading.specs.declared.steps.Tables.{Tables}
+use Rattle.reading.specs.declared.tables.Tables.{Tables}
 use Rattle.reading.specs.declared.steps.Inner.{Inner}
 use Rattle.reading.specs.Levels.{inner_type, inner_set, Within}
 use Rattle.reading.specs.Questions.{gives, refuses, questions, TakenBy, Ends, Complete, CallMeans, Next}
@@ -32,7 +32,7 @@ use Rattle.reading.specs.Heads.{tag_of_head, nillable_of_head, accepting_of_head
 use Rattle.reading.specs.Coming.{Coming, Move, coming_by}
 use Rattle.reading.specs.Heads.{HeadsMean}
 use Rattle.reading.specs.Steps.{coming_at, open_by, open_step, open_by_rows, open_by_steps, inner, inner_of, complete, close_step, close_step_in}
-use Rattle.reading.specs.Steps.{finish_step, Steady, InnerFits, OwnFits}
+use Rattle.reading.specs.Steps.{finish_step, Steady, OwnFits}
 use Rattle.reading.proofs.LevelLaws.{tags_of, inner_below, inner_most, inner_tag, ends_meets}
 use Rattle.reading.proofs.ComingMeans.{ComingMeans}
 use Rattle.reading.proofs.InsideMeans.{rows_mean, inside_room, steps_mean}
@@ -100,8 +100,8 @@ stands_steady v {r} w = record { depth = w.reading.depth; inner = inner_most v r
 
 -- the tables of a schema inside the limits
 pub record TablesMean (v : Schema) (t : Tables) : Type 0 where
-  pub rows : RowsMean (meaning v) t.entries t.begins
-  pub heads : HeadsMean v t.heads
+  pub rows : RowsMean (meaning v) t.rows.entries.now t.rows.begins.now
+  pub heads : HeadsMean v t.heads.now
   pub tags : t.tags ≡ v.tags
 
 module _ {v : Schema} {r : Reading} (fits : Fits v) (within : Within (meaning v) r) where
@@ -141,8 +141,8 @@ module _ {v : Schema} {r : Reading} (fits : Fits v) (within : Within (meaning v)
     unfolding open_step
     open_step_means = tag_asked (Rest (meaning v) r (opening κ g) 3) g (λ m. open_by_means (coming_at heads moves r κ g) (coming_at_means m))
 
-  pub open_rows_means : {t : Tables} → TablesMean v t → (κ : Kind) (g : ℕ) → CallMeans (meaning v) r (opening κ g) (open_by_rows t r κ g)
-  open_rows_means m κ g = rw m.tags (open_step_means m.heads κ g _ (rows_mean within.schema m.rows r κ g))
+  pub open_rows_means : {t : Tables} → TablesMean v t → ((n : ℕ) → get_or r.sets n 0 < 2 ^ most_states) → (κ : Kind) (g : ℕ) → CallMeans (meaning v) r (opening κ g) (open_by_rows t r κ g)
+  open_rows_means {t} m below κ g = rw m.tags (open_step_means m.heads κ g _ (rows_mean within.schema t.rows m.rows r κ g (below _)))
 
   pub open_steps_means : (live ways : List ℕ) {heads : List ℕ} → LiveExactly (meaning v) live → WaysExactly (meaning v) ways → HeadsMean v heads
       → (κ : Kind) (g : ℕ) → CallMeans (meaning v) r (opening κ g) (open_by_steps v live ways heads r κ g)
@@ -150,9 +150,6 @@ module _ {v : Schema} {r : Reading} (fits : Fits v) (within : Within (meaning v)
       open_step_means headed κ g _ (λ inside. steps_mean fits within inside live ways table opened κ g)
 
   -- what the code of an opening asks for
-  pub stands_fit : {t : Tables} → TablesMean v t → (t.tags ≤ most_tags) × InnerFits t.begins r
-  stands_fit m = (rw m.tags tags_most, record { steady = stands_steady v within; rows = m.rows.inside })
-
   pub stands_own : (v.tags ≤ most_tags) × OwnFits v r
   stands_own = (tags_most, record { steady = stands_steady v within; room = λ d. inside_room fits within d })
 

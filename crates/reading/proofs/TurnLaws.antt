@@ -18,7 +18,7 @@ use Rattle.schema.specs.Value.{meaning}
 use Rattle.schema.specs.declared.value.Schema.{Schema}
 use Rattle.schema.proofs.FirstTables.{Fits}
 use Rattle.reading.specs.declared.value.Reading.{Reading}
-use Rattle.reading.specs.declared.steps.Tables.{Tables}
+use Rattle.reading.specs.declared.tables.Tables.{Tables}
 use Rattle.events.specs.declared.decoder.Event.{Event as FileEvent}
 use Rattle.events.specs.declared.decoder.Event.TheVariants.{Open, Close, Finish}
 use Rattle.reading.specs.Levels.{fresh, Within}
@@ -55,14 +55,15 @@ first_sound {S} within file =
 -- each event is answered as its call
 pub answer_means : {v : Schema} → Fits v → {t : Tables} → TablesMean v t → {r : Reading} → Within (meaning v) r → Below r.sets → (e : FileEvent)
     → CallMeans (meaning v) r (event_of e) (answer_by t r e)
-answer_means fits tables within below (Open κ g) = open_rows_means fits within tables (kind_of κ) g.0
+unfolding answer_by
+answer_means fits tables within below (Open κ g) = open_rows_means fits within tables below (kind_of κ) g.0
 answer_means fits tables within below (Close g) = rw tables.tags (close_in_means fits within below tables.heads g.0)
 answer_means fits tables within below Finish = finish_step_means within
 
 -- The event e stands at the walk's place in the file that its walker is over, and its turn comes to m.
-module _ {v : Schema} (fits : Fits v) {t : Tables} (tables : TablesMean v t) {file : List ℕ} {cs : List TakenCall} {w : Going}
-    (k : WalkSound (meaning v) file cs w) {f : List ℕ} (same : f ≡ file) {e : FileEvent} (here : Some e ≡ event_at f w.at) {m : Next}
-    (turn : m ≡ answer_by t w.reading e) where
+module _ {t : Tables} {w : Going} {e : FileEvent} {m : Next} (turn : m ≡ answer_by t w.reading e) {v : Schema} (fits : Fits v)
+    (tables : TablesMean v t) {file : List ℕ} {cs : List TakenCall} (k : WalkSound (meaning v) file cs w) {f : List ℕ} (same : f ≡ file)
+    (here : Some e ≡ event_at f w.at) where
   found : Some e ≡ event_at file w.at
   found = here ∙ ap (λ (l : List ℕ). event_at l w.at) same
 

@@ -7,11 +7,9 @@ use lib.ListN.{length}
 use Rattle.sdtd.specs.Limits.{most_types}
 use Rattle.sdtd.specs.Schema.{WithinLimits}
 use Rattle.schema.proofs.FirstTables.{Fits}
-use Rattle.reading.specs.declared.steps.Tables.{Tables}
-use Rattle.reading.proofs.StepLaws.{TablesMean}
 use Rattle.sdtd.specs.Answer.{Verdict, refused_at}
 use Rattle.schema.specs.Value.{meaning, SetsFit}
-use Rattle.schema.specs.Trimming.{LiveExactly, WaysExactly, RowsLent}
+use Rattle.schema.specs.Trimming.{LiveExactly, WaysExactly}
 use Rattle.schema.specs.declared.value.Schema.{Schema}
 use Rattle.schema.specs.declared.tables.LiveStates.{LiveStates}
 use Rattle.events.specs.Events.{event_at}
@@ -29,24 +27,23 @@ use Rattle.reading.specs.Turns.{outside_number, Walks}
 use Rattle.reading.proofs.StepSound.{Held, WholePasses, stopped_at, Going, TurnSound}
 use Rattle.reading.proofs.LayLaws.{LaidSound, stopped_means, full_means, outside_passes, outside_means}
 
--- What the walk's tables say of a schema inside the limits.
-pub record Started (v : Schema) (found : LiveStates) (t : Tables) : Type 0 where
+-- What the trimming of a schema inside the limits says.
+pub record Started (v : Schema) (found : LiveStates) (heads : List ℕ) : Type 0 where
   pub within : WithinLimits (meaning v)
   pub fits : Fits v
   pub live : LiveExactly (meaning v) found.live
   pub ways : WaysExactly (meaning v) found.ways
-  pub tables : TablesMean v t
+  pub headed : HeadsMean v heads
 
-pub started : {v : Schema} {found : LiveStates} {t : Tables} → length v.accepting ≡ most_types → SetsFit v
-    → WithinLimits (meaning v) × LiveExactly (meaning v) found.live × WaysExactly (meaning v) found.ways → RowsLent (meaning v) t.entries t.begins
-    → HeadsMean v t.heads → t.tags ≡ v.tags → Started v found t
-started accepting sets means lent heads tags =
+pub started : {v : Schema} {found : LiveStates} {heads : List ℕ} → length v.accepting ≡ most_types → SetsFit v
+    → WithinLimits (meaning v) × LiveExactly (meaning v) found.live × WaysExactly (meaning v) found.ways → HeadsMean v heads → Started v found heads
+started accepting sets means headed =
     record {
       within = means.0;
       fits = record { accepting_long = accepting; accepting_below = sets };
       live = means.1;
       ways = means.2;
-      tables = record { rows = lent.rows means.0; heads = heads; tags = tags };
+      headed = headed;
     }
 
 -- the walk has ended with this reading, and this is told
@@ -74,12 +71,12 @@ outside_walks v file was out told number place count =
           };
     }
 
-module _ {v : Schema} {found : LiveStates} {t : Tables} (s : Started v found t) {file was is : List ℕ} {bounded : Bool} {w : Going} {n : ℕ}
+module _ {v : Schema} {found : LiveStates} {heads : List ℕ} (s : Started v found heads) {file was is : List ℕ} {bounded : Bool} {w : Going} {n : ℕ}
     (k : LaidSound bounded (meaning v) file was w n is) where
   -- the walk has stopped, or no event is left
   pub stopped_walks : (vd : Verdict) (last : Reading) → WholePasses (meaning v) file (stopped_at k.calls vd last) → Held (meaning v) last
       → (told : EventFile) → told.number ≡ number_of vd → told.place ≡ place_of (length file) vd → told.count ≡ n
-      → Walks v file was is bounded (ended (trimmed found t.heads) last told)
+      → Walks v file was is bounded (ended (trimmed found heads) last told)
   stopped_walks vd last passes held told number place count =
       record {
         answers = λ b. stopped_means k b vd last passes told number place count;
@@ -98,16 +95,16 @@ module _ {v : Schema} {found : LiveStates} {t : Tables} (s : Started v found t) 
                     sets = s.fits.accepting_below;
                     live = s.live;
                     ways = s.ways;
-                    heads = s.tables.heads;
+                    heads = s.headed;
                   };
             };
       }
 
   -- no byte of the buffer is left for a type
   pub full_walks : {p : GivenType} {u : Going} → TurnSound (meaning v) file k.calls (p ∷ []) u → bounded ≡ true → length is ≤ n
-      → (last : Reading) (heads : List ℕ) (told : EventFile) → told.number ≡ 20 → told.place ≡ p.place → told.count ≡ n
+      → (last : Reading) (told : EventFile) → told.number ≡ 20 → told.place ≡ p.place → told.count ≡ n
       → Walks v file was is bounded (ended (trimmed found heads) last told)
-  full_walks turn b h last heads told number place count =
+  full_walks turn b h last told number place count =
       record {
         answers = λ _. full_means k turn b h told number place count;
         ended = λ e. absurd (true≢false (sym b ∙ e));

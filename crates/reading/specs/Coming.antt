@@ -1,13 +1,14 @@
 -- What the private steps of the calls compute: the type that comes next inside an element, and the check of the open levels.
-use Rattle.std.specs.Prelude.{◌≡◌, Bool, false, cond, ◌&&◌, List, [], ◌∷◌, ◌++◌, ℕ, zero, suc, ◌+◌, ◌-◌, ◌*◌, ◌/◌, ◌%◌, ◌≤◌, ◌<◌, T, eqb, ltb, leb, get_or, Option, Some, None}
+use Rattle.std.specs.Prelude.{◌≡◌, Bool, cond, ◌&&◌, List, [], ◌∷◌, ℕ, ◌+◌, ◌-◌, ◌*◌, ◌/◌, ◌%◌, ◌≤◌, ◌<◌, T, eqb, ltb, leb, get_or, Option, Some, None}
+use Rattle.std.specs.List.{flat_map}
 use Rattle.sdtd.specs.Limits.{most_tags, most_types, most_states, most_levels}
 use Rattle.sdtd.specs.Numbered.{type_no}
 use Rattle.sdtd.specs.Schema.{Step}
 use Rattle.sdtd.specs.Tree.{Kind, plain, nil}
-use Rattle.schema.specs.States.{member, insert, no_states}
+use Rattle.schema.specs.States.{member, members, insert, no_states}
 use Rattle.schema.specs.Ways.{opens_by}
-use Rattle.schema.specs.Rows.{type_room, to_in, by_in, tag_in, ways_in, row_place}
-use Rattle.schema.specs.Value.{step_at, offset}
+use Rattle.schema.specs.Rows.{type_room, to_in, by_in, tag_in, ways_in, row_of}
+use Rattle.schema.specs.Value.{steps_of, offset}
 use Rattle.schema.specs.declared.value.Schema.{Schema}
 use Rattle.reading.specs.declared.coming.Least.{Least}
 use Rattle.reading.specs.declared.value.Reading.{Reading}
@@ -56,11 +57,6 @@ coming_of c = cond (eqb c.kept no_states) None (of_type c.of c.kept)
 abbrev pub coming_by : List Move → Coming
 coming_by moves = coming_of (joins moves none_yet)
 
--- the moves at the n places from i on
-unfoldable pub gathered : (ℕ → List Move) → ℕ → ℕ → List Move
-gathered f i zero = []
-gathered f i (suc n) = f i ++ gathered f (suc i) n
-
 -- the move by j to q where it is one, else none
 abbrev pub move_where : Bool → ℕ → ℕ → List Move
 move_where b j q = cond b (move j q ∷ []) []
@@ -73,17 +69,13 @@ opens_in κ ways j = opens_by κ (get_or ways j 0)
 abbrev pub entry_moves : Kind → ℕ → ℕ → List Move
 entry_moves κ g e = move_where (eqb (tag_in e) g && opens_by κ (ways_in e)) (by_in e) (to_in e)
 
--- those of the entries from start up to end, and those of the row i
-abbrev pub moves_up_to : List ℕ → Kind → ℕ → ℕ → ℕ → List Move
-moves_up_to entries κ g start end = gathered (λ i. entry_moves κ g (get_or entries i 0)) start (end - start)
-
-abbrev pub row_moves : List ℕ → List ℕ → Kind → ℕ → ℕ → List Move
-row_moves entries begins κ g i = moves_up_to entries κ g (get_or begins i 0) (get_or begins (suc i) 0)
+-- those of the entries of a row
+abbrev pub row_moves : Kind → ℕ → List ℕ → List Move
+row_moves κ g = flat_map (entry_moves κ g)
 
 -- the moves under the tag g, opened so, from the states of the set, by the rows of the type a
 abbrev pub moves_by_rows : List ℕ → List ℕ → ℕ → ℕ → Kind → ℕ → List Move
-moves_by_rows entries begins a states κ g =
-    gathered (λ p. cond (member p states) (row_moves entries begins κ g (row_place a p)) []) 0 most_states
+moves_by_rows entries begins a states κ g = flat_map (λ p. row_moves κ g (row_of entries begins a p)) (members states)
 
 -- what one more in the second binary digit of an entry's ways adds, counted from the type's place
 abbrev pub kind_place : ℕ
@@ -120,12 +112,6 @@ pub record TypeUnder (κ : Kind) (g e t : ℕ) : Type 0 where
   pub under : T (eqb (tag_in e) g && opens_by κ (ways_in e)) → t ≡ by_in e
   pub other : ¬ T (eqb (tag_in e) g && opens_by κ (ways_in e)) → most_types < t
 
--- q is the lowest state of the set
-pub record Lowest (set q : ℕ) : Type 0 where
-  pub state : q < most_states
-  pub here : T (member q set)
-  pub least : (s : ℕ) → s < q → member s set ≡ false
-
 -- the step s is taken under the tag g: its type has the tag and bears a tree opened so, it leads from a state of the set, and into one of the
 -- live states `own`
 abbrev pub step_taken : List ℕ → List ℕ → ℕ → ℕ → Kind → ℕ → Step → Bool
@@ -139,8 +125,7 @@ step_moves tag ways own states κ g s = move_where (step_taken tag ways own stat
 -- the same moves, by the type's own steps
 abbrev pub moves_by_steps : Schema → List ℕ → List ℕ → ℕ → ℕ → Kind → ℕ → List Move
 moves_by_steps v live ways a states κ g =
-    gathered (λ i. step_moves v.tag ways (get_or live a 0) states κ g (step_at v.from v.by v.to i)) (offset v.steps a)
-    (get_or v.steps a 0)
+    flat_map (step_moves v.tag ways (get_or live a 0) states κ g) (steps_of v.from v.by v.to (offset v.steps a) (get_or v.steps a 0))
 
 -- a level's type is below the count, and its set below that type's states
 pub record LevelFits (types : ℕ) (states : List ℕ) (a set : ℕ) : Type 0 where

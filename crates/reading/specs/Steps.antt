@@ -4,13 +4,13 @@ use Rattle.std.specs.Prelude.{Bool, false, cond, ◌&&◌, ◌||◌, List, ℕ, 
 use Rattle.sdtd.specs.Limits.{most_levels, most_steps, most_types}
 use Rattle.sdtd.specs.Numbered.{tag_no}
 use Rattle.sdtd.specs.Tree.{Kind}
-use Rattle.schema.specs.Rows.{RowsInside}
+use Rattle.schema.specs.declared.row.Rows.{Rows}
 use Rattle.schema.specs.States.{meet, no_states}
 use Rattle.schema.specs.Value.{offset}
 use Rattle.schema.specs.declared.value.Schema.{Schema}
 use Rattle.reading.specs.declared.value.Reading.{Reading}
 use Rattle.reading.specs.declared.steps.Inner.{Inner}
-use Rattle.reading.specs.declared.steps.Tables.{Tables}
+use Rattle.reading.specs.declared.tables.Tables.{Tables}
 use Rattle.reading.specs.Levels.{inner_type, inner_set}
 use Rattle.reading.specs.Questions.{gives, opened, closed, after_finish, Next}
 use Rattle.reading.specs.Heads.{tag_of_head, nillable_of_head, accepting_of_head, opens_under}
@@ -25,8 +25,8 @@ unfoldable pub coming_at : List ℕ → List Move → Reading → Kind → ℕ �
 coming_at heads moves r κ g = cond (eqb r.depth 0) (coming_first heads r.rooted κ g) (coming_by moves)
 
 -- the moves of the innermost element, by the rows, and by its type's own steps
-abbrev pub inner_by_rows : List ℕ → List ℕ → Reading → Kind → ℕ → List Move
-inner_by_rows entries begins r κ g = moves_by_rows entries begins (inner_type r) (inner_set r) κ g
+abbrev pub inner_by_rows : Rows → Reading → Kind → ℕ → List Move
+inner_by_rows rows r κ g = moves_by_rows rows.entries.now rows.begins.now (inner_type r) (inner_set r) κ g
 
 abbrev pub inner_by_steps : Schema → List ℕ → List ℕ → Reading → Kind → ℕ → List Move
 inner_by_steps v live ways r κ g = moves_by_steps v live ways (inner_type r) (inner_set r) κ g
@@ -42,7 +42,7 @@ open_step tags r κ g c = cond r.finished (gives (refused 11) r) (cond (leb tags
 
 -- an opening of g, of this kind, by the rows
 abbrev pub open_by_rows : Tables → Reading → Kind → ℕ → Next
-open_by_rows t r κ g = open_step t.tags r κ g (coming_at t.heads (inner_by_rows t.entries t.begins r κ g) r κ g)
+open_by_rows t r κ g = open_step t.tags r κ g (coming_at t.heads.now (inner_by_rows t.rows r κ g) r κ g)
 
 -- an opening of g, of this kind, by the steps of the schema's value
 abbrev pub open_by_steps : Schema → List ℕ → List ℕ → List ℕ → Reading → Kind → ℕ → Next
@@ -94,11 +94,6 @@ finish_step r =
 pub record Steady (r : Reading) : Type 0 where
   pub depth : r.depth ≤ most_levels
   pub inner : 0 < r.depth → inner_type r < most_types
-
--- the same, and each row ends inside the entries
-pub record InnerFits (begins : List ℕ) (r : Reading) : Type 0 where
-  pub steady : Steady r
-  pub rows : RowsInside begins
 
 -- the same, and the innermost type's own steps lie inside the tables of steps
 pub record OwnFits (v : Schema) (r : Reading) : Type 0 where

@@ -14,7 +14,7 @@ use Rattle.events.specs.Events.{kind_of, events_of}
 use Rattle.reading.specs.declared.value.Reading.{Reading}
 use Rattle.reading.specs.declared.event_file.Trimmed.{Trimmed}
 use Rattle.reading.specs.declared.event_file.WalkEnd.{WalkEnd}
-use Rattle.reading.specs.declared.steps.Tables.{Tables}
+use Rattle.reading.specs.declared.tables.Tables.{Tables}
 use Rattle.reading.specs.Levels.{fresh, Within}
 use Rattle.reading.specs.Questions.{Next}
 use Rattle.reading.specs.Passage.{Passage, Passes}
@@ -29,9 +29,9 @@ answer_of (Ok None) = taken
 answer_of (Err why) = refused (question_number why)
 
 -- one event on the reading r, by the tables of the schema
-abbrev pub answer_by : Tables → Reading → FileEvent → Next
+unfoldable pub answer_by : Tables → Reading → FileEvent → Next
 answer_by t r (Open κ g) = open_by_rows t r (kind_of κ) g.0
-answer_by t r (Close g) = close_step_in t.heads t.tags r g.0
+answer_by t r (Close g) = close_step_in t.heads.now t.tags r g.0
 answer_by t r Finish = finish_step r
 
 -- what a walk comes to at the place `at` where no event stands: the file is taken whole if it ends there and is finished

@@ -58,7 +58,7 @@ impl Reading {
     }
 
     // What comes next, by the steps of the innermost type.
-    #[tactic(auto, unfolding(crate::specs::Steps::coming_at, crate::specs::Coming::coming_of, crate::specs::Coming::gathered))]
+    #[tactic(auto, unfolding(crate::specs::Steps::coming_at, crate::specs::Coming::coming_of))]
     fn coming_own<'a>(
         &self,
         schema: &'a Schema,

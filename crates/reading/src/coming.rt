@@ -1,15 +1,14 @@
 // Which type comes next under a tag, inside an element: the smallest that bears a tree opened so and leads from the states kept to a live state.
-ghost use Rattle.std.specs.Prelude.{◌≡◌, cond, ◌≢◌, ◌*◌, ◌/◌, ◌^◌, ◌≤◌, ◌<◌, ltb};
-ghost use Rattle.sdtd.specs.Limits.{most_tags, most_types, most_states, most_steps};
+ghost use Rattle.std.specs.Prelude.{◌≡◌, cond, ◌*◌, ◌≤◌, ◌<◌, ltb};
+ghost use Rattle.sdtd.specs.Limits.{most_tags, most_types, most_states};
 ghost use Rattle.sdtd.specs.Tree.{plain, nil};
 ghost use Rattle.events.specs.Events.{kind_of};
 ghost use Rattle.schema.specs.States.{no_states};
-ghost use Rattle.schema.specs.Rows.{most_rows, RowsInside};
-ghost use Rattle.reading.specs.Coming.{joins, entry_moves, moves_up_to, row_moves, moves_by_rows, coming_of, coming_by, TypeUnder, Lowest};
+ghost use Rattle.reading.specs.Coming.{joins, entry_moves, row_moves, moves_by_rows, coming_of, coming_by, TypeUnder};
 ghost use Rattle.reading.specs.Coming.{kind_place, rotated_by, rotation, kind_sought, tag_sought, IsSought, join as joined};
 
 use events::Kind;
-use schema::{BEGINS, Entry, STATES, STEPS, StateSet, TAGS, TYPE_PLACE, TYPE_ROOM, TYPES};
+use schema::{Entry, Rows, STATES, StateSet, TAGS, TYPE_PLACE, TYPE_ROOM, TYPES};
 use sdtd::{Tag, TypeNo};
 
 // An opening that is asked for: a tag, plainly or as nil.
@@ -80,35 +79,16 @@ impl Least {
         self.join(t, e.to());
     }
 
-    // The entries from start up to end that can be opened.
-    #[tactic(auto, unfolding(crate::specs::Coming::joins, crate::specs::Coming::gathered, crate::specs::Coming::join))]
-    fn join_entries(&mut self, entries: &[u32; STEPS], start: usize, end: usize, o: Sought)
-        requires { (start ≤ most_steps) × (end ≤ most_steps) × IsSought o.0 × (self.old.of ≤ most_types) }
-        ensures { self.new ≡ joins (moves_up_to entries.now (kind_sought o.0) (tag_sought o.0) start end) self.old }
+    // The entries of a row that can be opened.
+    #[tactic(auto, unfolding(crate::specs::Coming::joins, crate::specs::Coming::join))]
+    fn join_row(&mut self, row: &[u32], o: Sought)
+        requires { IsSought o.0 × (self.old.of ≤ most_types) }
+        ensures { self.new ≡ joins (row_moves (kind_sought o.0) (tag_sought o.0) row.now) self.old }
     {
-        let short = end <= start + SHORT;
-        for i in start..end {
-            self.join_entry(Entry(entries[i]), o, short);
+        let short = row.len() <= SHORT;
+        for e in row {
+            self.join_entry(Entry(*e), o, short);
         }
-    }
-
-    // The row i.
-    fn join_row<'a>(
-        &mut self,
-        entries: &'a [u32; STEPS],
-        begins: &'a [u16; BEGINS],
-        i: usize,
-        o: Sought,
-    )
-        requires { (i < most_rows) × RowsInside begins.now × IsSought o.0 × (self.old.of ≤ most_types) }
-        ensures { self.new ≡ joins (row_moves entries.now begins.now (kind_sought o.0) (tag_sought o.0) i) self.old }
-    {
-        self.join_entries(
-            entries,
-            usize::from(begins[i]),
-            usize::from(begins[i + 1]),
-            o,
-        );
     }
 
     // The smallest type of all, if one came.
@@ -173,43 +153,14 @@ fn type_under(e: Entry, o: Sought) -> u32
 // A row of so many entries or fewer is short.
 const SHORT: usize = 8;
 
-// The lowest state of a set that has one.
-fn lowest(set: u32) -> u32
-    requires { set ≢ no_states }
-    ensures { Lowest set result }
+// What comes next from the states of the set, by the rows of the type a.
+pub(crate) fn coming_rows(rows: &Rows<'_>, a: TypeNo, states: StateSet, o: Sought) -> Coming
+    requires { IsSought o.0 }
+    ensures { result ≡ coming_by (moves_by_rows rows.now.entries.now rows.now.begins.now a.0 states.0 (kind_sought o.0) (tag_sought o.0)) }
 {
-    u32::trailing_zeros(set)
-}
-
-// The states past q, counted from the one after it.
-fn past(set: u32, q: u32) -> u32
-    requires { q < most_states }
-    ensures { result ≡ set / 2 ^ q / 2 }
-{
-    (set >> q) / 2
-}
-
-// What comes next from the states of the set, by the rows of the type a. In `left` are those from p on, counted from p.
-pub(crate) fn coming_rows<'a>(
-    entries: &'a [u32; STEPS],
-    begins: &'a [u16; BEGINS],
-    a: TypeNo,
-    states: u32,
-    o: Sought,
-) -> Coming
-    requires { (a.0 < most_types) × RowsInside begins.now × IsSought o.0 }
-    ensures { result ≡ coming_by (moves_by_rows entries.now begins.now a.0 states (kind_sought o.0) (tag_sought o.0)) }
-{
-    let first = STATES as usize * a.0 as usize;
     let mut least = NONE_YET;
-    let mut left = states;
-    let mut p = 0;
-    while left != 0 {
-        let q = lowest(left);
-        p += q as usize;
-        least.join_row(entries, begins, first + p, o);
-        left = past(left, q);
-        p += 1;
+    for q in states.states() {
+        least.join_row(rows.row(a, q), o);
     }
     least.coming()
 }

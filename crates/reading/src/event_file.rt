@@ -1,19 +1,18 @@
 // The event file's answer: one event after another, from a fresh reading, until the first refusal.
-ghost use Rattle.std.specs.Prelude.{◌≡◌, ◌≤◌};
+ghost use Rattle.std.specs.Prelude.{◌≡◌};
 ghost use Rattle.schema.specs.Value.{meaning};
-ghost use Rattle.sdtd.specs.Limits.{most_tags};
 ghost use Rattle.reading.specs.Questions.{gives};
-ghost use Rattle.reading.specs.Steps.{InnerFits};
+ghost use Rattle.reading.specs.Steps.{Steady};
 ghost use Rattle.events.specs.Events.{event_at};
 ghost use Rattle.reading.specs.Turns.{answer_of, answer_by, end_number, outside_number, Walks};
 ghost use Rattle.reading.specs.EventFile.{EventsMean};
 
 use crate::coming::Opening;
 use crate::heads::{HEADS, heads};
-use crate::steps::Tables;
+use crate::tables::Tables;
 use crate::value::Reading;
 use events::{Event, Walker};
-use schema::{BEGINS, LiveStates, STEPS, Schema, live_rows};
+use schema::{BEGINS, LiveStates, Rows, STEPS, Schema, live_rows};
 use sdtd::{Refused, TypeNo};
 
 // The number of the first question answered no, 0 where the file is taken whole; the place of that event, or the file's length; how many
@@ -42,8 +41,9 @@ pub(crate) struct WalkEnd {
 }
 
 // One event of the file: an opening gives a type.
-fn turn(tables: &Tables, reading: &mut Reading, event: Event) -> Result<Option<TypeNo>, Refused>
-    requires { (tables.now.tags ≤ most_tags) × InnerFits tables.now.begins reading.old }
+#[tactic(auto, unfolding(crate::specs::Turns::answer_by))]
+fn turn(tables: &Tables<'_>, reading: &mut Reading, event: Event) -> Result<Option<TypeNo>, Refused>
+    requires { Steady reading.old }
     ensures { gives (answer_of result) reading.new ≡ answer_by tables.now reading.old event }
 {
     match event {
@@ -108,21 +108,25 @@ fn ended(
 pub(crate) fn walk_file(schema: &Schema, bounded: bool, events: &[u8], out: &mut [u8]) -> WalkEnd
     ensures { Walks schema.now events.now out.old out.new bounded result }
 {
-    let mut tables = Tables {
-        tags: schema.tags,
-        entries: [0; STEPS],
-        begins: [0; BEGINS],
-        heads: [0; HEADS],
-    };
+    let mut entries = [0; STEPS];
+    let mut begins = [0; BEGINS];
     let mut reading = Reading::fresh();
     let mut place = 0;
     let mut count = 0;
-    let Some(found) = live_rows(schema, &mut tables.entries, &mut tables.begins) else {
+    let Some(found) = live_rows(schema, &mut entries, &mut begins) else {
         return ended(None, reading, outside_number(events), place, count);
     };
     let heads = heads(schema, &found.ways);
-    tables.heads = heads;
     let trimmed = Some(Trimmed { found, heads });
+    let rows = Rows {
+        entries: &entries,
+        begins: &begins,
+    };
+    let tables = Tables {
+        tags: schema.tags,
+        rows,
+        heads: &heads,
+    };
     let mut walker = Walker::new(events, 0);
     while let Some(event) = walker.step() {
         match turn(&tables, &mut reading, event) {

@@ -10,6 +10,7 @@ mod levels;
 mod own_steps;
 mod steps;
 mod stop;
+mod tables;
 mod value;
 
 pub use calls::Next;

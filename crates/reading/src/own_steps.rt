@@ -1,11 +1,12 @@
 // What comes next inside an element by its type's own steps, where a schema is asked for one opening only.
 ghost use Rattle.std.specs.Prelude.{◌≡◌, ◌+◌, ◌≤◌, ◌<◌, T, get_or};
+ghost use Rattle.std.specs.List.{flat_map};
 ghost use Rattle.sdtd.specs.Limits.{most_types, most_states, most_steps};
 ghost use Rattle.events.specs.Events.{kind_of};
 ghost use Rattle.schema.specs.States.{member};
 ghost use Rattle.schema.specs.Steps.{meant};
-ghost use Rattle.schema.specs.Value.{offset, step_at};
-ghost use Rattle.reading.specs.Coming.{joins, gathered, step_taken, step_moves, moves_by_steps, coming_by};
+ghost use Rattle.schema.specs.Value.{offset, steps_of};
+ghost use Rattle.reading.specs.Coming.{joins, step_taken, step_moves, moves_by_steps, coming_by};
 
 use crate::coming::{Coming, Least, NONE_YET, Opening};
 use crate::heads::opens_in;
@@ -69,8 +70,8 @@ fn join_step<'a>(
 
 // What comes next by the steps of the span.
 fn coming_span(schema: &Schema, ways: &[u8; TYPES], asked: Asked, span: Span) -> Coming
-    ensures { result ≡ coming_by (gathered (λ i. step_moves schema.now.tag ways.now asked.own.0 asked.states.0 (kind_of asked.opening.kind)
-        asked.opening.tag.0 (step_at schema.now.from schema.now.by schema.now.to i)) span.start span.n) }
+    ensures { result ≡ coming_by (flat_map (step_moves schema.now.tag ways.now asked.own.0 asked.states.0 (kind_of asked.opening.kind) asked.opening.tag.0)
+        (steps_of schema.now.from schema.now.by schema.now.to span.start span.n)) }
 {
     let mut least = NONE_YET;
     for step in schema.steps_in(span) {

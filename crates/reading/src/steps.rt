@@ -1,29 +1,21 @@
 // One event at a time over the rows and heads of a schema, on a lent reading: what the calls of a reading and the event file share. Question 10 is
 // asked before.
 ghost use Rattle.std.specs.Prelude.{◌≡◌, ◌≤◌, ◌<◌};
-ghost use Rattle.sdtd.specs.Limits.{most_tags, most_levels};
+ghost use Rattle.sdtd.specs.Limits.{most_levels};
 ghost use Rattle.events.specs.Events.{kind_of};
 ghost use Rattle.reading.specs.Questions.{first_set, gives, opened, closed};
 ghost use Rattle.reading.specs.Calls.{typed_of, taken_of};
 ghost use Rattle.reading.specs.Coming.{kind_sought, tag_sought, IsSought};
 ghost use Rattle.reading.specs.Heads.{opens_under};
 ghost use Rattle.reading.specs.Steps.{coming_first, coming_at, inner_by_rows, open_by, open_by_rows};
-ghost use Rattle.reading.specs.Steps.{is_nilled, close_step, close_step_in, finish_step, Steady, InnerFits};
+ghost use Rattle.reading.specs.Steps.{is_nilled, close_step, close_step_in, finish_step, Steady};
 
 use crate::coming::{Coming, Opening, Sought, coming_rows, sought_nil, sought_of};
 use crate::heads::{HEADS, head_accepting, head_nillable, head_root, head_tag};
+use crate::tables::Tables;
 use crate::value::{LEVELS, Reading};
-use schema::{BEGINS, STEPS, StateSet, TAGS, TYPES};
+use schema::{StateSet, TAGS, TYPES};
 use sdtd::{Refused, Tag, TypeNo};
-
-// The rows and heads of a schema, and its count of tags.
-#[derive(Clone, Copy)]
-pub(crate) struct Tables {
-    pub tags: u8,
-    pub entries: [u32; STEPS],
-    pub begins: [u16; BEGINS],
-    pub heads: [u32; HEADS],
-}
 
 // The set of a new element.
 fn first_set(o: Sought) -> u32
@@ -99,23 +91,17 @@ impl Reading {
 
     // What comes next, by the rows.
     #[tactic(auto, unfolding(crate::specs::Steps::coming_at, crate::specs::Coming::coming_of, schema::specs::RowMaking::counted))]
-    fn coming(&self, tables: &Tables, o: Sought) -> Coming
-        requires { IsSought o.0 × InnerFits tables.now.begins self.now }
-        ensures { result ≡ coming_at tables.now.heads (inner_by_rows tables.now.entries tables.now.begins
-            self.now (kind_sought o.0) (tag_sought o.0)) self.now (kind_sought o.0) (tag_sought o.0) }
+    fn coming(&self, tables: &Tables<'_>, o: Sought) -> Coming
+        requires { IsSought o.0 × Steady self.now }
+        ensures { result ≡ coming_at tables.now.heads.now (inner_by_rows tables.now.rows self.now (kind_sought o.0) (tag_sought o.0))
+            self.now (kind_sought o.0) (tag_sought o.0) }
     {
         let depth = self.depth as usize;
         if depth == 0 {
-            return coming_first(&tables.heads, self.rooted, o);
+            return coming_first(tables.heads, self.rooted, o);
         }
         let inner = TypeNo(self.types[depth - 1]);
-        coming_rows(
-            &tables.entries,
-            &tables.begins,
-            inner,
-            self.sets[depth - 1],
-            o,
-        )
+        coming_rows(&tables.rows, inner, StateSet(self.sets[depth - 1]), o)
     }
 
     // An opening, by what comes next.
@@ -136,8 +122,8 @@ impl Reading {
 
     // An opening, by the rows.
     #[tactic(auto, unfolding(crate::specs::Steps::coming_at, crate::specs::Steps::open_step, crate::specs::Coming::coming_of))]
-    pub(crate) fn step_open(&mut self, tables: &Tables, o: Opening) -> Result<TypeNo, Refused>
-        requires { (tables.now.tags ≤ most_tags) × InnerFits tables.now.begins self.old }
+    pub(crate) fn step_open(&mut self, tables: &Tables<'_>, o: Opening) -> Result<TypeNo, Refused>
+        requires { Steady self.old }
         ensures { gives (typed_of result) self.new ≡ open_by_rows tables.now self.old (kind_of o.kind) o.tag.0 }
     {
         if self.finished {
@@ -183,9 +169,9 @@ impl Reading {
 
     // The same, by the heads.
     #[tactic(auto, unfolding(crate::specs::Steps::close_step_in, crate::specs::Steps::close_step))]
-    pub(crate) fn step_close_in(&mut self, tables: &Tables, g: Tag) -> Result<(), Refused>
+    pub(crate) fn step_close_in(&mut self, tables: &Tables<'_>, g: Tag) -> Result<(), Refused>
         requires { Steady self.old }
-        ensures { gives (taken_of result) self.new ≡ close_step_in tables.now.heads tables.now.tags self.old g.0 }
+        ensures { gives (taken_of result) self.new ≡ close_step_in tables.now.heads.now tables.now.tags self.old g.0 }
     {
         if self.depth == 0 {
             return self.step_close(NONE_OPEN, tables.tags, g);

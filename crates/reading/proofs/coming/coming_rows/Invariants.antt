@@ -1,25 +1,23 @@
--- `reading::coming::coming_rows` meets its contract. The loop's invariant: the states of the set from p on, over what came so far, give what all of them give.
+-- The loop's invariant: the rows of the states that are left, over what came so far, give what all of them give.
 use mathlib.Core.Path.{◌≡◌}
-use mathlib.Core.Bool.{cond}
-use mathlib.Core.List.{List, []}
-use Prim.Native.Nat.{ℕ, ◌+◌, ◌-◌, ◌/◌, ◌^◌, ◌≤◌, ◌<◌}
-use Rattle.sdtd.specs.Limits.{most_types, most_states}
-use Rattle.schema.specs.States.{member}
-use Rattle.schema.specs.Rows.{most_rows, RowsInside}
-use Rattle.reading.specs.Coming.{none_yet, Move, joins, gathered, kind_sought, tag_sought, IsSought, row_moves}
+use mathlib.Core.List.{List}
+use Prim.Native.Nat.{ℕ, ◌≤◌}
+use Rattle.std.specs.List.{flat_map}
+use Rattle.sdtd.specs.Limits.{most_types}
+use Rattle.schema.specs.Rows.{row_of}
+use Rattle.schema.specs.States.{members}
+use Rattle.schema.specs.StatesLeft.{states_left}
+use Rattle.schema.specs.declared.row.Rows.{Rows}
+use Rattle.reading.specs.Coming.{none_yet, Move, joins, kind_sought, tag_sought, row_moves}
 use Rattle.reading.specs.declared.coming.Sought.{Sought}
 use Rattle.reading.proofs.coming.coming_rows.Given as goal
 
--- the moves at the state p, whose row stands p after the first
-abbrev pub moves : List ℕ → List ℕ → ℕ → Sought → ℕ → ℕ → List Move
-moves entries begins states o first p = cond (member p states) (row_moves entries begins (kind_sought o.0) (tag_sought o.0) (first + p)) []
+-- the moves at the state p
+abbrev pub moves : Rows → ℕ → Sought → ℕ → List Move
+moves rows a o p = row_moves (kind_sought o.0) (tag_sought o.0) (row_of rows.entries.now rows.begins.now a p)
 
-abbrev pub invariant-loop-left : goal.invariant-loop-left
-invariant-loop-left l =
-    (l.p ≤ most_states) × (l.left ≡ l.states / 2 ^ l.p) × (l.states < 2 ^ most_states) × (l.first + most_states ≤ most_rows)
-    × RowsInside l.begins × IsSought l.o.0 × (l.least.of ≤ most_types)
-    × (joins (gathered (moves l.entries l.begins l.states l.o l.first) l.p (most_states - l.p)) l.least
-    ≡ joins (gathered (moves l.entries l.begins l.states l.o l.first) 0 most_states) none_yet)
-
-abbrev pub decreases-loop-left : goal.decreases-loop-left
-decreases-loop-left l = l.left
+abbrev pub invariant-loop-q : goal.invariant-loop-q
+invariant-loop-q l =
+    (l.least.of ≤ most_types)
+    × (joins (flat_map (moves l.rows l.a.0 l.o) (states_left l.q-iterator)) l.least
+    ≡ joins (flat_map (moves l.rows l.a.0 l.o) (members l.fn.states.0)) none_yet)

@@ -1,7 +1,7 @@
 -- The moves of the steps that are left, over what came so far, give what all of them give.
-use mathlib.Core.Path.{sym, ap, ◌∙◌}
-use Rattle.reading.specs.Coming.{coming_by, coming_of}
-use Rattle.reading.proofs.ComingLaws.{joins_most, moves_gathered, joins_first, joins_none_left}
+use mathlib.Core.Path.{ap, ◌∙◌}
+use Rattle.reading.specs.Coming.{coming_of}
+use Rattle.reading.proofs.ComingLaws.{joins_most, joins_first, joins_none_left}
 use Rattle.reading.proofs.own_steps.coming_span.Invariants.{moves}
 use Rattle.reading.proofs.own_steps.coming_span.Goals as goal
 
@@ -13,8 +13,5 @@ loop-step-preserved c =
 
 pub returns : goal.returns
 returns c =
-    let v = c.args.schema.now in
-    let f = moves v.tag c.args.ways.now c.args.asked in
-    let s = c.args.span in
-    c.coming.ensures ∙ ap coming_of (joins_none_left f _ c.in-None.ensures.steps.0 c.loop-step.invariant.1)
-    ∙ ap coming_by (sym (moves_gathered f v.from v.by v.to s.start s.n))
+    c.coming.ensures
+    ∙ ap coming_of (joins_none_left (moves c.args.schema.now.tag c.args.ways.now c.args.asked) _ c.in-None.ensures.steps.0 c.loop-step.invariant.1)
