@@ -7,11 +7,13 @@ use native.Mathlib.Nat.{add-zero}
 use native.Mathlib.Numerals.{add-one}
 use native.Mathlib.Omega.{arith}
 use lib.Dec.{ltb}
-use lib.ListN.{length, get_or, length-set}
+use lib.ListN.{length, get_or, set, length-set}
+use borrow.Author.Tests.{lt-ltb, le-ltb}
 use lib.Seq.{get_or-set_same}
 use Rattle.sdtd.specs.Limits.{most_states, most_steps}
 use Rattle.schema.specs.Rows.{most_rows}
-use Rattle.schema.specs.RowMaking.{RowTables, picked, add_row, row_by, add_rows}
+use Rattle.schema.specs.Putting.{put_all}
+use Rattle.schema.specs.RowMaking.{RowTables, row_tables, picked, add_row, row_by, add_rows}
 use Rattle.schema.proofs.PuttingLaws.{from_on, from_split, from_most}
 
 module _ (es : List ℕ) (states : ℕ) where
@@ -33,8 +35,8 @@ module _ (es : List ℕ) (states : ℕ) where
   rows_first first t h r = record { room = rw add-zero (omega (arith, r, from_most 0 es)); long = h; left = rw add-zero refl }
 
   module _ {first p : ℕ} {t whole : RowTables} (r : RowsLeft first p t whole) where
-    pub row_room : get_or t.begins (first + p) 0 + length (row_by es states p) ≤ most_steps
-    row_room = omega (arith, r.room, row_most p, from_split p es)
+    pub row_room : get_or t.begins (first + p) 0 + length (picked p es) ≤ most_steps
+    row_room = omega (arith, r.room, from_split p es)
 
     pub rows_next : p < most_states → first + p < most_rows → RowsLeft first (p + 1) (add_row (row_by es states p) (first + p) t) whole
     unfolding add_row add_rows
@@ -49,6 +51,20 @@ module _ (es : List ℕ) (states : ℕ) where
           long = rw length-set r.long;
           left = rw (next, add-one p) (rw (count, add-one p) at r.left);
         }
+
+    -- the row of a state that the type has, and of one that it has not
+    pub rows_held : p < states → p < most_states → first + p < most_rows → RowsLeft first (p + 1) (add_row (picked p es) (first + p) t) whole
+    rows_held h l f =
+        let own : row_by es states p ≡ picked p es = rw (lt-ltb p states h) refl in
+        rw own at (rows_next l f)
+
+    pub rows_empty : (end : ℕ) → states ≤ p → p < most_states → first + p < most_rows → get_or t.begins (first + p) 0 ≡ end
+        → RowsLeft first (p + 1) (row_tables t.entries (set t.begins (first + p + 1) end)) whole
+    unfolding add_row put_all
+    rows_empty end h l f e =
+        let own : row_by es states p ≡ [] = rw (le-ltb p states h) refl in
+        let next : suc (first + p) ≡ first + p + 1 = omega arith in
+        rw (own, next, e, add-zero) at (rows_next l f)
 
     -- past the last state no row is left
     pub rows_done : most_states ≤ p → t ≡ whole

@@ -43,6 +43,10 @@ pub record Settled {A : Type 0} (round : List A → List A) (first last : List A
 abbrev pub steps_in : List ℕ → (ℕ → ℕ → List Step) → ℕ → ℕ → List Step
 steps_in steps part types a = cond (ltb a types) (part (offset steps a) (get_or steps a 0)) (part 0 0)
 
+-- the table has the place of the first step of each of the types
+abbrev pub Starts : List ℕ → ℕ → List ℕ → Type 0
+Starts steps types table = (a : ℕ) → a < types → get_or table a 0 ≡ offset steps a
+
 -- the step goes from a state that children reach, by a tree-bearing type, to a live state
 abbrev pub reaches : List ℕ → ℕ → ℕ → Step → Bool
 reaches ways forward live s = member s.from forward && bears_in ways (s.by % most_types) && member s.to live

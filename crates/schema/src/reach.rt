@@ -3,7 +3,7 @@ ghost use Rattle.std.specs.Prelude.{◌≡◌, ◌%◌};
 ghost use Rattle.sdtd.specs.Limits.{most_types};
 ghost use Rattle.schema.specs.Value.{steps_of};
 ghost use Rattle.schema.specs.Steps.{meant, left};
-ghost use Rattle.schema.specs.Spread.{steps_in, reaches, join_type, join_marked, reach_steps, ReachedFrom};
+ghost use Rattle.schema.specs.Spread.{steps_in, Starts, reaches, join_type, join_marked, reach_steps, ReachedFrom};
 
 use crate::accepted::Accepted;
 use crate::span::Span;
@@ -14,8 +14,23 @@ use crate::value::TYPES;
 use crate::ways::bears_in;
 use sdtd::TypeNo;
 
-// Where the steps of a type stand; nothing for a number that is no type.
-fn span_of(accepted: &Accepted<'_>, a: u8) -> Span
+// The place of the first step of each of the types.
+fn starts(accepted: &Accepted<'_>) -> [usize; TYPES]
+    ensures { Starts accepted.now.schema.now.steps accepted.now.schema.now.types result }
+{
+    let schema = accepted.schema;
+    let mut starts = [0; TYPES];
+    let mut start = 0;
+    for a in 0..usize::from(schema.types) {
+        starts[a] = start;
+        start += usize::from(schema.steps[a]);
+    }
+    starts
+}
+
+// Where the steps of a type stand; nothing for a number that is no type. `Schema::span` would count the steps before them anew.
+fn span_of(accepted: &Accepted<'_>, starts: &[usize; TYPES], a: u8) -> Span
+    requires { Starts accepted.now.schema.now.steps accepted.now.schema.now.types starts.now }
     ensures { steps_of accepted.now.schema.now.from accepted.now.schema.now.by accepted.now.schema.now.to result.start result.n
         ≡ steps_in accepted.now.schema.now.steps (steps_of accepted.now.schema.now.from accepted.now.schema.now.by accepted.now.schema.now.to) accepted.now.schema.now.types a }
 {
@@ -23,7 +38,10 @@ fn span_of(accepted: &Accepted<'_>, a: u8) -> Span
     if schema.types <= a {
         return Span { start: 0, n: 0 };
     }
-    schema.span(TypeNo(a))
+    let i = usize::from(a);
+    let start = starts[i];
+    let n = usize::from(schema.steps[i]);
+    Span { start, n }
 }
 
 // Does the step go from a state in `forward`, by a tree-bearing type, to a state in `live`?
@@ -107,12 +125,13 @@ pub(crate) fn reached_types(
         count: 0,
     };
     types.join_marked(roots);
+    let starts = starts(accepted);
     let mut at = 0;
     // The queue grows while it is gone over, so that no range or slice of it can be fixed before.
     while at < types.count {
         let b = types.queue[at];
         let a = usize::from(b);
-        let steps = accepted.schema.steps_in(span_of(accepted, b));
+        let steps = accepted.schema.steps_in(span_of(accepted, &starts, b));
         types.join_reached(steps, &found.ways, forward[a], found.live[a]);
         at += 1;
     }

@@ -7,7 +7,7 @@ ghost use Rattle.schema.specs.Steps.{meant};
 ghost use Rattle.schema.specs.Trimming.{LiveExactly, WaysExactly};
 ghost use Rattle.schema.specs.Rows.{most_rows, RowsMean};
 ghost use Rattle.schema.specs.Putting.{put_all};
-ghost use Rattle.schema.specs.RowMaking.{counts_by, entry_by, picked, counted as counted_by, row_by, row_tables, no_rows, add_row, add_rows};
+ghost use Rattle.schema.specs.RowMaking.{counts_by, entry_by, picked, counted as counted_by, row_tables, no_rows, add_row, add_rows};
 
 use crate::entry::{Entry, entry_of};
 use crate::span::Span;
@@ -112,17 +112,7 @@ fn add_row(entries: &mut [u32; STEPS], begins: &mut [u16; BEGINS], i: usize, kep
     begins[i + 1] = past as u16;
 }
 
-// Those of the entries kept among which the row of the state p is: a type has none from a state of `states` or more.
-fn kept_from<'a>(kept: &'a [u32], states: u8, p: u8) -> &'a [u32]
-    ensures { picked p result.now ≡ row_by kept.now states p }
-{
-    if p < states {
-        return kept;
-    }
-    &kept[..0]
-}
-
-// The rows of the type a, from the entries kept.
+// The rows of the type a, from the entries kept. A type has none from a state of `states` or more: those rows end where they begin.
 fn type_rows(
     entries: &mut [u32; STEPS],
     begins: &mut [u16; BEGINS],
@@ -135,10 +125,14 @@ fn type_rows(
     ensures { row_tables entries.new begins.new
         ≡ add_rows kept.now states (most_states * a) 0 most_states (row_tables entries.old begins.old) }
 {
-    let first = STATES as usize * a;
-    for p in 0..STATES {
-        let own = kept_from(kept, states, p);
-        add_row(entries, begins, first + p as usize, own, p);
+    let first = usize::from(STATES) * a;
+    let held = states.min(STATES);
+    for p in 0..held {
+        add_row(entries, begins, first + usize::from(p), kept, p);
+    }
+    let end = begins[first + usize::from(held)];
+    for q in usize::from(held)..usize::from(STATES) {
+        begins[first + q + 1] = end;
     }
 }
 

@@ -110,6 +110,8 @@ fn same_sets(x: &[u32; TYPES], y: &[u32; TYPES]) -> bool
 }
 
 // The sets, round after round until one changes nothing; `ways` tells in which ways types bear a tree, by the sets.
+// Its two callers each lay it out for their own way.
+#[inline(always)]
 pub(crate) fn settle(
     accepted: &Accepted<'_>,
     way: Way,
