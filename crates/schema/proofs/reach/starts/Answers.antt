@@ -28,8 +28,7 @@ overflow_add-start c =
 pub loop-a-preserved : goal.loop-a-preserved
 loop-a-preserved c =
     let i = c.loop-a.invariant in
-    let v = c.args.accepted.now.schema.now in
-    (
+    let v = c.args.accepted.now.schema.now in (
       rw c.from-start.ensures (offset_more v.steps c.loop-a.a _ i.0),
       length-set c.loop-a.starts c.loop-a.a c.loop-a.start ∙ i.1,
       more v.steps c.loop-a.starts c.loop-a.a c.loop-a.start i.0 (omega arith) i.2,
