@@ -1,4 +1,5 @@
 // One step of the search: the pairs that follow a pair of the queue are marked as reached, and join the queue.
+// Which pairs are reached stands beside the queue, not in it: a search goes on with the queue of the one before, and with new marks.
 ghost use Rattle.std.specs.Prelude.{◌≡◌, ◌<◌};
 ghost use Rattle.sdtd.specs.Limits.{most_states};
 ghost use Rattle.competition.specs.Marks.{marks, mark_of, mark_both, mark_with, mark_rows};

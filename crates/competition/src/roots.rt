@@ -15,6 +15,7 @@ fn ways_of_roots(roots: &[bool; TYPES], ways: &[u8; TYPES]) -> [u8; TYPES]
     ensures { result ≡ ways_of_roots roots.now ways.now }
 {
     let mut opening = [0; TYPES];
+    // By index: two tables are read and a third is written, and three iterators zipped read no plainer.
     for a in 0..TYPES {
         opening[a] = if roots[a] { ways[a] } else { 0 };
     }
@@ -48,8 +49,10 @@ fn rival_after(opening: &[u8; TYPES], tag: &[u8; TYPES], j: TypeNo) -> Option<Ty
         return None;
     }
     let shared = Tag(tag[first]);
+    // By index: it is the type's number, and two tables are read at it.
     for k in first + 1..TYPES {
         if Tag(tag[k]) == shared && alike(ways, opening[k]) {
+            // A type is below 256; a `try_from` would have a case that never comes.
             return Some(TypeNo(k as u8));
         }
     }
@@ -61,6 +64,7 @@ pub(crate) fn rival_roots(opening: &[u8; TYPES], tag: &[u8; TYPES]) -> Option<Ri
     ensures { RivalRootsMean opening.now tag.now result }
 {
     for i in 0..TYPES {
+        // As there: the cast is of a type's number.
         let first = TypeNo(i as u8);
         if let Some(second) = rival_after(opening, tag, first) {
             return Some(Rivals { first, second });

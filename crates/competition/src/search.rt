@@ -49,6 +49,7 @@ fn search_type(numbers: &Numbers<'_>, rows: &Rows<'_>, a: TypeNo, queue: &mut Qu
         }
         let step = Step {
             numbers: *numbers,
+            // A place of the queue is below 528; a `try_from` would have a case that never comes.
             at: at as u16,
         };
         step.search_from(&mut reached, queue, left, right);
@@ -91,6 +92,7 @@ fn first_competing(
     ensures { CompetingMeans (row_of rows.now.entries.now rows.now.begins.now) used.now queue.new.found result }
 {
     for i in 0..TYPES {
+        // A type is below 256; a `try_from` would have a case that never comes.
         let of = TypeNo(i as u8);
         if let Some(pair) = search_at(numbers, rows, used, of, queue) {
             return Some(Competing { of, pair });

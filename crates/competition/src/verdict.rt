@@ -66,6 +66,7 @@ fn judge_types(schema: &Schema, n: usize, witness: &mut [u8]) -> Result<(), Judg
     }
     let used = used_in(trimming);
     if let Some(unused) = first_unused(&used, n) {
+        // A type is below 256; a `try_from` would have a case that never comes.
         return Err(Judged::Unused(TypeNo(unused as u8)));
     }
     let rows = Rows {
@@ -82,10 +83,7 @@ fn judge_types(schema: &Schema, n: usize, witness: &mut [u8]) -> Result<(), Judg
 pub fn judge(schema: &Schema, witness: &mut [u8]) -> Result<(), Refused>
     ensures { JudgeMeans (meaning schema.now) witness.old witness.new (verdict_at 0 result) }
 {
-    match judge_types(schema, 0, witness) {
-        Err(judged) => Err(judged.why()),
-        Ok(()) => Ok(()),
-    }
+    judge_types(schema, 0, witness).map_err(|judged| judged.why())
 }
 
 // The same, and after the roots: does a valid document use each type?

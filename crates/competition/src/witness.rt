@@ -63,6 +63,7 @@ pub(crate) fn write_head(witness: &mut [u8], head: WitnessHead)
     ensures { witness.new
         ≡ head.of.0 ∷ head.first.0 ∷ head.second.0 ∷ head.word % 256 ∷ head.word / 256 ∷ drop word_place witness.old }
 {
+    // A word has at most 527 types; a `try_from` would have a case that never comes.
     let [low, high] = (head.word as u16).to_le_bytes();
     let bytes = [head.of.0, head.first.0, head.second.0, low, high];
     witness[..WORD_PLACE].copy_from_slice(&bytes);
