@@ -1,13 +1,13 @@
 -- What the private steps of the calls compute: the type that comes next inside an element, and the check of the open levels.
-use Rattle.std.specs.Prelude.{◌≡◌, Bool, cond, ◌&&◌, List, [], ◌∷◌, ℕ, ◌+◌, ◌-◌, ◌*◌, ◌/◌, ◌%◌, ◌≤◌, ◌<◌, T, eqb, ltb, leb, get_or, Option, Some, None}
+use Rattle.std.specs.Prelude.{Bool, cond, ◌&&◌, List, [], ◌∷◌, ℕ, ◌%◌, ◌≤◌, ◌<◌, T, eqb, ltb, get_or, Option, Some, None}
 use Rattle.std.specs.List.{flat_map}
-use Rattle.sdtd.specs.Limits.{most_tags, most_types, most_states, most_levels}
+use Rattle.sdtd.specs.Limits.{most_types, most_levels}
 use Rattle.sdtd.specs.Numbered.{type_no}
 use Rattle.sdtd.specs.Schema.{Step}
-use Rattle.sdtd.specs.Tree.{Kind, plain, nil}
+use Rattle.sdtd.specs.Tree.{Kind}
 use Rattle.schema.specs.States.{member, members, insert, no_states}
 use Rattle.schema.specs.Ways.{opens_by}
-use Rattle.schema.specs.Rows.{type_room, to_in, by_in, tag_in, ways_in, row_of}
+use Rattle.schema.specs.Rows.{to_in, by_in, tag_in, ways_in, row_of}
 use Rattle.schema.specs.Value.{steps_of, offset}
 use Rattle.schema.specs.declared.value.Schema.{Schema}
 use Rattle.reading.specs.declared.coming.Least.{Least}
@@ -76,41 +76,6 @@ row_moves κ g = flat_map (entry_moves κ g)
 -- the moves under the tag g, opened so, from the states of the set, by the rows of the type a
 abbrev pub moves_by_rows : List ℕ → List ℕ → ℕ → ℕ → Kind → ℕ → List Move
 moves_by_rows entries begins a states κ g = flat_map (λ p. row_moves κ g (row_of entries begins a p)) (members states)
-
--- what one more in the second binary digit of an entry's ways adds, counted from the type's place
-abbrev pub kind_place : ℕ
-kind_place = 2 * most_tags * type_room
-
--- the type of the entry e, its tag and its ways with so much added: of the type and the tag what is inside their room, of the ways the second digit
-abbrev pub rotated_by : ℕ → ℕ → ℕ
-rotated_by more e =
-    (e / (most_states * most_states) + more) % most_types
-    + (e / (most_states * most_states) + more) / type_room % most_tags * type_room
-    + (e / (most_states * most_states) + more) / kind_place % 2 * kind_place
-
--- so much is added for an opening of the tag g
-abbrev pub rotation : Kind → ℕ → ℕ
-rotation plain g = type_room * (3 * most_tags - g)
-rotation nil g = type_room * (2 * most_tags - g)
-
--- the opening for which so much is added: its kind and its tag
-abbrev pub kind_sought : ℕ → Kind
-kind_sought n = cond (leb n (2 * most_tags * type_room)) nil plain
-
-abbrev pub tag_sought : ℕ → ℕ
-tag_sought n = (3 * most_tags - n / type_room) % most_tags
-
--- so much is added for an opening of a tag
-pub record IsSought (n : ℕ) : Type 0 where
-  pub kind : Kind
-  pub tag : ℕ
-  pub below : tag < most_tags
-  pub is : n ≡ rotation kind tag
-
--- t is the type of the entry e where that is under the tag g and bears a tree opened so, and else a number larger than that of no type yet
-pub record TypeUnder (κ : Kind) (g e t : ℕ) : Type 0 where
-  pub under : T (eqb (tag_in e) g && opens_by κ (ways_in e)) → t ≡ by_in e
-  pub other : ¬ T (eqb (tag_in e) g && opens_by κ (ways_in e)) → most_types < t
 
 -- the step s is taken under the tag g: its type has the tag and bears a tree opened so, it leads from a state of the set, and into one of the
 -- live states `own`

@@ -9,6 +9,7 @@ pub mod EventMeaning
 pub mod Stop
 pub mod Coming
 pub mod Heads
+pub mod Sought
 pub mod Steps
 pub mod Turns
 pub mod Asking

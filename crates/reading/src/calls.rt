@@ -10,9 +10,10 @@ ghost use Rattle.reading.specs.Questions.{CallMeans, gives};
 ghost use Rattle.reading.specs.Calls.{typed_of, taken_of};
 ghost use Rattle.reading.specs.Steps.{coming_at, inner_by_steps, open_by_steps, inner_of, Steady, OwnFits};
 
-use crate::coming::{Coming, Opening, sought_of};
+use crate::coming::Coming;
 use crate::heads::{HEADS, heads};
 use crate::own_steps::coming_steps;
+use crate::sought::{Opening, sought_of};
 use crate::steps::{Inner, NONE_OPEN, coming_first};
 use crate::value::{LEVELS, Reading};
 use events::Kind;

@@ -1,22 +1,13 @@
 // Which type comes next under a tag, inside an element: the smallest that bears a tree opened so and leads from the states kept to a live state.
-ghost use Rattle.std.specs.Prelude.{◌≡◌, cond, ◌*◌, ◌≤◌, ◌<◌, ltb};
-ghost use Rattle.sdtd.specs.Limits.{most_tags, most_types, most_states};
-ghost use Rattle.sdtd.specs.Tree.{plain, nil};
-ghost use Rattle.events.specs.Events.{kind_of};
+ghost use Rattle.std.specs.Prelude.{◌≡◌, cond, ◌≤◌, ◌<◌, ltb};
+ghost use Rattle.sdtd.specs.Limits.{most_types, most_states};
 ghost use Rattle.schema.specs.States.{no_states};
-ghost use Rattle.reading.specs.Coming.{joins, entry_moves, row_moves, moves_by_rows, coming_of, coming_by, TypeUnder};
-ghost use Rattle.reading.specs.Coming.{kind_place, rotated_by, rotation, kind_sought, tag_sought, IsSought, join as joined};
+ghost use Rattle.reading.specs.Coming.{joins, entry_moves, row_moves, moves_by_rows, coming_of, coming_by, join as joined};
+ghost use Rattle.reading.specs.Sought.{kind_sought, tag_sought};
 
-use events::Kind;
-use schema::{Entry, Rows, STATES, StateSet, TAGS, TYPE_PLACE, TYPE_ROOM, TYPES};
-use sdtd::{Tag, TypeNo};
-
-// An opening that is asked for: a tag, plainly or as nil.
-#[derive(Clone, Copy)]
-pub(crate) struct Opening {
-    pub kind: Kind,
-    pub tag: Tag,
-}
+use crate::sought::{Sought, type_under};
+use schema::{Entry, Rows, STATES, StateSet, TYPES};
+use sdtd::TypeNo;
 
 // What comes next for an opening, if anything does: a type, and the states that it leads to.
 pub(crate) type Coming = Option<(TypeNo, StateSet)>;
@@ -66,8 +57,8 @@ impl Least {
     // An entry, if it can be opened.
     #[tactic(auto, unfolding(crate::specs::Coming::joins, crate::specs::Coming::join, schema::specs::States::insert))]
     fn join_entry(&mut self, e: Entry, o: Sought, short: bool)
-        requires { IsSought o.0 × (self.old.of ≤ most_types) }
-        ensures { self.new ≡ joins (entry_moves (kind_sought o.0) (tag_sought o.0) e.0) self.old }
+        requires { self.old.of ≤ most_types }
+        ensures { self.new ≡ joins (entry_moves (kind_sought o.n) (tag_sought o.n) e.0) self.old }
     {
         let t = type_under(e, o);
         if !short {
@@ -82,8 +73,8 @@ impl Least {
     // The entries of a row that can be opened.
     #[tactic(auto, unfolding(crate::specs::Coming::joins, crate::specs::Coming::join))]
     fn join_row(&mut self, row: &[u32], o: Sought)
-        requires { IsSought o.0 × (self.old.of ≤ most_types) }
-        ensures { self.new ≡ joins (row_moves (kind_sought o.0) (tag_sought o.0) row.now) self.old }
+        requires { self.old.of ≤ most_types }
+        ensures { self.new ≡ joins (row_moves (kind_sought o.n) (tag_sought o.n) row.now) self.old }
     {
         let short = row.len() <= SHORT;
         for e in row {
@@ -104,59 +95,12 @@ impl Least {
     }
 }
 
-// What one more in the second binary digit of an entry's ways adds, counted from the type's place.
-const KIND_PLACE: u32 = 2 * TAGS as u32 * TYPE_ROOM;
-
-// An entry's type, tag and ways with so much added: of the type and the tag what is inside their room, of the ways the second digit. Compiled by
-// itself it is one sum and one mask, and stays so where it is called.
-fn rotated(e: Entry, more: u32) -> u32
-    requires { more ≤ 2 * kind_place }
-    ensures { result ≡ rotated_by more e.0 }
-{
-    let sum = e.0 / TYPE_PLACE + more;
-    sum % TYPES as u32
-        + sum / TYPE_ROOM % TAGS as u32 * TYPE_ROOM
-        + sum / KIND_PLACE % 2 * KIND_PLACE
-}
-
-// An opening as what is added to an entry to test it: less by TYPE_ROOM for each tag, and by TAGS times as much for a nil opening.
-// It stays one number, of the tag and the kind together: with two the walk over R took 1.15 to 1.25 of its time.
-#[derive(Clone, Copy)]
-pub(crate) struct Sought(pub u32);
-
-pub(crate) fn sought_of(o: Opening) -> Sought
-    requires { o.tag.0 < most_tags }
-    ensures { result.0 ≡ rotation (kind_of o.kind) o.tag.0 }
-{
-    match o.kind {
-        Kind::Nil => Sought(TYPE_ROOM * (2 * TAGS - o.tag.0) as u32),
-        Kind::Plain => Sought(TYPE_ROOM * (3 * TAGS - o.tag.0) as u32),
-    }
-}
-
-// Is it as nil?
-pub(crate) fn sought_nil(o: Sought) -> bool
-    ensures { cond result nil plain ≡ kind_sought o.0 }
-{
-    o.0 <= 2 * TAGS as u32 * TYPE_ROOM
-}
-
-// The type of an entry under the opening's tag that bears a tree opened so; of any other entry, a number larger than that of no type yet. Rotated,
-// an entry's tag is 0 exactly where it is the one asked for, and the second digit of its ways exactly where they have the kind.
-fn type_under(e: Entry, o: Sought) -> u32
-    requires { IsSought o.0 }
-    ensures { TypeUnder (kind_sought o.0) (tag_sought o.0) e.0 result }
-{
-    rotated(e, o.0)
-}
-
 // A row of so many entries or fewer is short.
 const SHORT: usize = 8;
 
 // What comes next from the states of the set, by the rows of the type a.
 pub(crate) fn coming_rows(rows: &Rows<'_>, a: TypeNo, states: StateSet, o: Sought) -> Coming
-    requires { IsSought o.0 }
-    ensures { result ≡ coming_by (moves_by_rows rows.now.entries.now rows.now.begins.now a.0 states.0 (kind_sought o.0) (tag_sought o.0)) }
+    ensures { result ≡ coming_by (moves_by_rows rows.now.entries.now rows.now.begins.now a.0 states.0 (kind_sought o.n) (tag_sought o.n)) }
 {
     let mut least = NONE_YET;
     for q in states.states() {

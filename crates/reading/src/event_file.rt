@@ -7,8 +7,8 @@ ghost use Rattle.events.specs.Events.{event_at};
 ghost use Rattle.reading.specs.Turns.{answer_of, answer_by, end_number, outside_number, Walks};
 ghost use Rattle.reading.specs.EventFile.{EventsMean};
 
-use crate::coming::Opening;
 use crate::heads::{HEADS, heads};
+use crate::sought::Opening;
 use crate::tables::Tables;
 use crate::value::Reading;
 use events::{Event, Walker};

@@ -5,10 +5,11 @@ ghost use Rattle.sdtd.specs.Schema.{WithinLimits};
 ghost use Rattle.schema.specs.Value.{meaning};
 ghost use Rattle.schema.specs.Trimming.{WaysExactly};
 ghost use Rattle.events.specs.Events.{kind_of};
-ghost use Rattle.reading.specs.Coming.{kind_sought, tag_sought, IsSought, opens_in};
+ghost use Rattle.reading.specs.Coming.{opens_in};
+ghost use Rattle.reading.specs.Sought.{kind_sought, tag_sought};
 ghost use Rattle.reading.specs.Heads.{head_tag, head_accepting, head_nillable, head_root, set_head, with_root, add_root, add_roots, RootsFit, HeadsMean};
 
-use crate::coming::{Opening, Sought, sought_of};
+use crate::sought::{Opening, Sought, sought_of};
 use events::Kind;
 use schema::{Schema, TAGS, TYPE_ROOM, TYPES, opens_as_nil, opens_plainly};
 use sdtd::{Tag, TypeNo};
@@ -42,10 +43,9 @@ pub(crate) fn head_nillable(a: usize) -> usize
 
 // Where the number of an opening's tag stands.
 pub(crate) fn head_root(o: Sought) -> usize
-    requires { IsSought o.0 }
-    ensures { (result ≡ head_root (kind_sought o.0) (tag_sought o.0)) × (result < 2 * most_types + 2 * most_tags) }
+    ensures { (result ≡ head_root (kind_sought o.n) (tag_sought o.n)) × (result < 2 * most_types + 2 * most_tags) }
 {
-    2 * TYPES + (3 * TAGS as u32 - o.0 / TYPE_ROOM) as usize
+    2 * TYPES + (3 * TAGS as u32 - o.n / TYPE_ROOM) as usize
 }
 
 // Does the table of ways say that the type a bears a tree opened so?

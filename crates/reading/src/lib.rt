@@ -8,6 +8,7 @@ mod heads;
 mod lent;
 mod levels;
 mod own_steps;
+mod sought;
 mod steps;
 mod stop;
 mod tables;

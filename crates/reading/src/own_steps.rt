@@ -8,8 +8,9 @@ ghost use Rattle.schema.specs.Steps.{meant};
 ghost use Rattle.schema.specs.Value.{offset, steps_of};
 ghost use Rattle.reading.specs.Coming.{joins, step_taken, step_moves, moves_by_steps, coming_by};
 
-use crate::coming::{Coming, Least, NONE_YET, Opening};
+use crate::coming::{Coming, Least, NONE_YET};
 use crate::heads::opens_in;
+use crate::sought::Opening;
 use schema::{LiveStates, Schema, Span, StateSet, Step, TYPES};
 use sdtd::{Tag, TypeNo};
 

@@ -5,13 +5,14 @@ ghost use Rattle.sdtd.specs.Limits.{most_levels};
 ghost use Rattle.events.specs.Events.{kind_of};
 ghost use Rattle.reading.specs.Questions.{first_set, gives, opened, closed};
 ghost use Rattle.reading.specs.Calls.{typed_of, taken_of};
-ghost use Rattle.reading.specs.Coming.{kind_sought, tag_sought, IsSought};
+ghost use Rattle.reading.specs.Sought.{kind_sought, tag_sought};
 ghost use Rattle.reading.specs.Heads.{opens_under};
 ghost use Rattle.reading.specs.Steps.{coming_first, coming_at, inner_by_rows, open_by, open_by_rows};
 ghost use Rattle.reading.specs.Steps.{is_nilled, close_step, close_step_in, finish_step, Steady};
 
-use crate::coming::{Coming, Opening, Sought, coming_rows, sought_nil, sought_of};
+use crate::coming::{Coming, coming_rows};
 use crate::heads::{HEADS, head_accepting, head_nillable, head_root, head_tag};
+use crate::sought::{Opening, Sought, sought_nil, sought_of};
 use crate::tables::Tables;
 use crate::value::{LEVELS, Reading};
 use schema::{StateSet, TAGS, TYPES};
@@ -19,7 +20,7 @@ use sdtd::{Refused, Tag, TypeNo};
 
 // The set of a new element.
 fn first_set(o: Sought) -> u32
-    ensures { result ≡ first_set (kind_sought o.0) }
+    ensures { result ≡ first_set (kind_sought o.n) }
 {
     if sought_nil(o) {
         StateSet::NONE.0
@@ -30,8 +31,7 @@ fn first_set(o: Sought) -> u32
 
 // What opens at the outermost level.
 fn opens_under(heads: &[u32; HEADS], o: Sought) -> Coming
-    requires { IsSought o.0 }
-    ensures { result ≡ opens_under heads.now (kind_sought o.0) (tag_sought o.0) }
+    ensures { result ≡ opens_under heads.now (kind_sought o.n) (tag_sought o.n) }
 {
     let n = heads[head_root(o)];
     if n == 0 {
@@ -42,8 +42,7 @@ fn opens_under(heads: &[u32; HEADS], o: Sought) -> Coming
 
 // What comes next where no element is open, and no root came or one did.
 pub(crate) fn coming_first(heads: &[u32; HEADS], rooted: bool, o: Sought) -> Coming
-    requires { IsSought o.0 }
-    ensures { result ≡ coming_first heads.now rooted (kind_sought o.0) (tag_sought o.0) }
+    ensures { result ≡ coming_first heads.now rooted (kind_sought o.n) (tag_sought o.n) }
 {
     if rooted {
         return None;
@@ -77,7 +76,7 @@ impl Reading {
     // One level more, for an element of the type j; the level outside it keeps the states that j leads to.
     fn descend(&mut self, o: Sought, j: TypeNo, kept: StateSet)
         requires { self.old.depth < most_levels }
-        ensures { self.new ≡ opened (kind_sought o.0) self.old j.0 kept.0 }
+        ensures { self.new ≡ opened (kind_sought o.n) self.old j.0 kept.0 }
     {
         let depth = self.depth as usize;
         self.types[depth] = j.0;
@@ -92,9 +91,9 @@ impl Reading {
     // What comes next, by the rows.
     #[tactic(auto, unfolding(crate::specs::Steps::coming_at, crate::specs::Coming::coming_of, schema::specs::RowMaking::counted))]
     fn coming(&self, tables: &Tables<'_>, o: Sought) -> Coming
-        requires { IsSought o.0 × Steady self.now }
-        ensures { result ≡ coming_at tables.now.heads.now (inner_by_rows tables.now.rows self.now (kind_sought o.0) (tag_sought o.0))
-            self.now (kind_sought o.0) (tag_sought o.0) }
+        requires { Steady self.now }
+        ensures { result ≡ coming_at tables.now.heads.now (inner_by_rows tables.now.rows self.now (kind_sought o.n) (tag_sought o.n))
+            self.now (kind_sought o.n) (tag_sought o.n) }
     {
         let depth = self.depth as usize;
         if depth == 0 {
@@ -106,7 +105,7 @@ impl Reading {
 
     // An opening, by what comes next.
     pub(crate) fn open_by(&mut self, o: Sought, next: Coming) -> Result<TypeNo, Refused>
-        ensures { gives (typed_of result) self.new ≡ open_by (kind_sought o.0) self.old next }
+        ensures { gives (typed_of result) self.new ≡ open_by (kind_sought o.n) self.old next }
     {
         match next {
             None => Err(Refused::CannotOpen),

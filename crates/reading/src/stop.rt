@@ -13,9 +13,9 @@ ghost use Rattle.reading.specs.Asking.{comes, Marks, MarksSteps, taken_by};
 ghost use Rattle.reading.specs.Turns.{EndTables};
 ghost use Rattle.reading.specs.Stop.{WouldTake, TellsTags, StopMeans};
 
-use crate::coming::{Opening, sought_of};
 use crate::event_file::{Trimmed, walk_file};
 use crate::heads::{HEADS, opens_in};
+use crate::sought::{Opening, sought_of};
 use crate::steps::coming_first;
 use crate::value::{LEVELS, Reading};
 use events::Kind;

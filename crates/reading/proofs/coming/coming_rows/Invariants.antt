@@ -8,13 +8,14 @@ use Rattle.schema.specs.Rows.{row_of}
 use Rattle.schema.specs.States.{members}
 use Rattle.schema.specs.StatesLeft.{states_left}
 use Rattle.schema.specs.declared.row.Rows.{Rows}
-use Rattle.reading.specs.Coming.{none_yet, Move, joins, kind_sought, tag_sought, row_moves}
-use Rattle.reading.specs.declared.coming.Sought.{Sought}
+use Rattle.reading.specs.Coming.{none_yet, Move, joins, row_moves}
+use Rattle.reading.specs.Sought.{kind_sought, tag_sought}
+use Rattle.reading.specs.declared.sought.Sought.{Sought}
 use Rattle.reading.proofs.coming.coming_rows.Given as goal
 
 -- the moves at the state p
 abbrev pub moves : Rows → ℕ → Sought → ℕ → List Move
-moves rows a o p = row_moves (kind_sought o.0) (tag_sought o.0) (row_of rows.entries.now rows.begins.now a p)
+moves rows a o p = row_moves (kind_sought o.n) (tag_sought o.n) (row_of rows.entries.now rows.begins.now a p)
 
 abbrev pub invariant-loop-q : goal.invariant-loop-q
 invariant-loop-q l =
