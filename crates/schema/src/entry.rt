@@ -21,6 +21,7 @@ const TAG: u32 = TYPE_PLACE * TYPE_ROOM;
 const WAYS_PLACE: u32 = TAG * TAGS as u32;
 
 // One number and no struct of its parts: `reading` tests tag and kind by one sum (docs/SPEED.md has the measures).
+// Its parts come out by casts, which lose nothing: each is a remainder below a count that fits a byte.
 #[derive(Clone, Copy)]
 pub struct Entry(pub u32);
 
@@ -28,13 +29,13 @@ impl Entry {
     pub fn from(self) -> u8
         ensures { result ≡ from_in self.0 }
     {
-        (self.0 % STATES as u32) as u8
+        (self.0 % u32::from(STATES)) as u8
     }
 
     pub fn to(self) -> u8
         ensures { result ≡ to_in self.0 }
     {
-        (self.0 / TO % STATES as u32) as u8
+        (self.0 / TO % u32::from(STATES)) as u8
     }
 
     pub fn by(self) -> TypeNo
@@ -46,14 +47,14 @@ impl Entry {
     pub fn tag(self) -> Tag
         ensures { result.0 ≡ tag_in self.0 }
     {
-        Tag((self.0 / TAG % TAGS as u32) as u8)
+        Tag((self.0 / TAG % u32::from(TAGS)) as u8)
     }
 
     // by which kinds of opening the type bears a tree: 0 neither, 1 plainly, 2 both, 3 as nil
     pub fn ways(self) -> u8
         ensures { result ≡ ways_in self.0 }
     {
-        (self.0 / WAYS_PLACE % WAYS as u32) as u8
+        (self.0 / WAYS_PLACE % u32::from(WAYS)) as u8
     }
 }
 
@@ -61,12 +62,12 @@ impl Entry {
 pub(crate) fn entry_of(from: u8, to: u8, by: TypeNo, tag: Tag, ways: u8) -> Entry
     ensures { result.0 ≡ entry from to by.0 tag.0 (ways % most_ways) }
 {
-    let opened = (ways % WAYS) as u32;
+    let opened = u32::from(ways % WAYS);
     Entry(
-        from as u32
-            + TO * to as u32
-            + TYPE_PLACE * by.0 as u32
-            + TAG * tag.0 as u32
+        u32::from(from)
+            + TO * u32::from(to)
+            + TYPE_PLACE * u32::from(by.0)
+            + TAG * u32::from(tag.0)
             + WAYS_PLACE * opened,
     )
 }

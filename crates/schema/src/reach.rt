@@ -57,7 +57,8 @@ fn reaches(step: Step, ways: &[u8; TYPES], forward: u32, live: u32) -> bool
     StateSet(live).has(step.to)
 }
 
-// Which types are reached; the first `count` entries of the queue are they, as they joined.
+// Which types are reached; the first `count` entries of the queue are they, as they joined. A type's number is below TYPES, so a cast to a byte
+// loses nothing.
 #[derive(Clone, Copy)]
 struct Queued {
     reached: [bool; TYPES],

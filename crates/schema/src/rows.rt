@@ -100,7 +100,7 @@ fn pick(entries: &mut [u32; STEPS], at: usize, kept: &[u32], p: u8) -> usize
     past
 }
 
-// The row i, of the state p, from the entries kept, put where the rows before it end.
+// The row i, of the state p, from the entries kept, put where the rows before it end. No place is past STEPS, so the cast loses nothing.
 #[tactic(auto, unfolding(crate::specs::RowMaking::add_row, crate::specs::RowMaking::picked, crate::specs::Putting::put_all))]
 fn add_row(entries: &mut [u32; STEPS], begins: &mut [u16; BEGINS], i: usize, kept: &[u32], p: u8)
     requires { (i < most_rows) × (get_or begins.old i 0 + length (picked p kept.now) ≤ most_steps) }

@@ -64,6 +64,7 @@ fn settle_set(schema: &Schema, span: Span, way: Way, ways: &[u8; TYPES], set: u3
     ensures { result ≡ settle_set ways.now (steps_by way schema.now span.start span.n) set }
 {
     let mut settled = set;
+    // A loop until the steps add nothing has no range to go over.
     loop {
         let grown = spread_set(schema.steps_in(span), way, ways, settled);
         if grown == settled {

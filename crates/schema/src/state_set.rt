@@ -23,14 +23,14 @@ impl StateSet {
         if STATES <= state {
             return false;
         }
-        self.0 >> (state as u32) & 1 == 1
+        self.0 >> u32::from(state) & 1 == 1
     }
 
     // The set with the state; unchanged for a state of STATES or more.
     pub fn with(self, state: u8) -> StateSet
         ensures { result.0 ≡ insert state self.0 }
     {
-        StateSet(self.0 | ((state < STATES) as u32) << ((state % STATES) as u32))
+        StateSet(self.0 | u32::from(state < STATES) << u32::from(state % STATES))
     }
 
     // Have the two sets a state in common?
@@ -47,7 +47,7 @@ impl StateSet {
         if STATES <= count {
             return true;
         }
-        (self.0 as u64) < 1u64 << (count as u32)
+        u64::from(self.0) < 1u64 << u32::from(count)
     }
 
     // The states of the set, rising.
@@ -71,7 +71,7 @@ impl Iterator for States {
 
     ghost remaining = { item_count states_left };
 
-    // the lowest of them
+    // the lowest of them; the cast loses nothing, since a place of a set's bit is below 32
     fn next(&mut self) -> Option<u8> {
         if self.rest == 0 {
             return None;

@@ -63,7 +63,7 @@ fn forward_states(accepted: &Accepted<'_>, mut ways: [u8; TYPES]) -> [u32; TYPES
     settle(accepted, Way::Forth, &mut ways, [StateSet::START.0; TYPES])
 }
 
-// The live states of each type as a set, and by which kinds of opening it bears a tree.
+// The live states of each type as a set, and by which kinds of opening it bears a tree, as the byte that C reads in `Trimming`.
 #[derive(Clone, Copy)]
 pub struct LiveStates {
     pub live: [u32; TYPES],

@@ -1,4 +1,4 @@
-// By which kinds of opening a type bears a tree, as one number: 0 neither, 1 plainly, 2 both, 3 as nil.
+// By which kinds of opening a type bears a tree, as one number: 0 neither, 1 plainly, 2 both, 3 as nil. A byte and no enum: C reads it in `Trimming`.
 ghost use Rattle.std.specs.Prelude.{◌≡◌, ◌||◌, ◌%◌, ◌≤◌};
 ghost use Rattle.sdtd.specs.Limits.{most_types};
 ghost use Rattle.sdtd.specs.Tree.{plain, nil};

@@ -23,4 +23,4 @@ returns c =
     let x = c.args.self.0 in
     let n = c.args.count in
     let below = states_below n x (omega arith) (omega arith) in
-    rw (shifted n (omega arith)) (λ t. below.0 (ltb→lt x (2 ^ n) t), λ h. lt→ltb x (2 ^ n) (below.1 h))
+    rw (c.from.ensures, c.from-2.ensures, shifted n (omega arith)) (λ t. below.0 (ltb→lt x (2 ^ n) t), λ h. lt→ltb x (2 ^ n) (below.1 h))

@@ -25,4 +25,4 @@ shifted s x =
     ]
 
 pub returns : goal.returns
-returns c = shifted c.args.state c.args.self.0
+returns c = rw (c.from.ensures, c.from-2.ensures) (shifted c.args.state c.args.self.0)
