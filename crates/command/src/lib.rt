@@ -65,25 +65,28 @@ impl Command {
     }
 }
 
-// The command at a place of the file, if one begins there and its operands stand inside the file.
+// The command at a place of the file, if one begins there and its operands stand inside the file. The code is asked before the operands, and
+// the function stands inline, as its callers match on the command at once: else it takes twice the instructions.
+#[inline(always)]
 #[tactic(auto, unfolding(crate::specs::Command::command_of, crate::specs::Command::added_command))]
 pub fn command_at(file: &[u8], at: usize) -> Option<Command>
     ensures { result ≡ command_at file.now at }
 {
-    match file.get(at..)? {
-        [0x10, count, ..] => Some(Command::Tags(*count)),
-        [0x11, tag, states, ..] => Some(Command::TypeBlock(Tag(*tag), *states)),
-        [0x12, state, ..] => Some(Command::Final(*state)),
-        [0x13, from, by, to, ..] => Some(Command::Step(*from, TypeNo(*by), *to)),
-        [0x14, root, ..] => Some(Command::Root(TypeNo(*root))),
-        [0x15, ..] => Some(Command::Nil),
-        [0x1f, ..] => Some(Command::Done),
-        [0x30, ..] => Some(Command::Expression(Part::OpenBracket)),
-        [0x31, ..] => Some(Command::Expression(Part::CloseBracket)),
-        [0x32, used, ..] => Some(Command::Expression(Part::Use(TypeNo(*used)))),
-        [0x33, ..] => Some(Command::Expression(Part::Or)),
-        [0x34, ..] => Some(Command::Expression(Part::Repeat)),
-        [0x3f, ..] => Some(Command::Expression(Part::End)),
+    let (code, operands) = file.get(at..)?.split_first()?;
+    match (*code, operands) {
+        (0x10, [count, ..]) => Some(Command::Tags(*count)),
+        (0x11, [tag, states, ..]) => Some(Command::TypeBlock(Tag(*tag), *states)),
+        (0x12, [state, ..]) => Some(Command::Final(*state)),
+        (0x13, [from, by, to, ..]) => Some(Command::Step(*from, TypeNo(*by), *to)),
+        (0x14, [root, ..]) => Some(Command::Root(TypeNo(*root))),
+        (0x15, _) => Some(Command::Nil),
+        (0x1f, _) => Some(Command::Done),
+        (0x30, _) => Some(Command::Expression(Part::OpenBracket)),
+        (0x31, _) => Some(Command::Expression(Part::CloseBracket)),
+        (0x32, [used, ..]) => Some(Command::Expression(Part::Use(TypeNo(*used)))),
+        (0x33, _) => Some(Command::Expression(Part::Or)),
+        (0x34, _) => Some(Command::Expression(Part::Repeat)),
+        (0x3f, _) => Some(Command::Expression(Part::End)),
         _ => None,
     }
 }
