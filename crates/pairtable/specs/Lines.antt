@@ -1,5 +1,5 @@
 -- "A small program prints the table as it stands in the code, one decimal number a line".
-use Rattle.std.specs.Prelude.{◌≡◌, List, [], ◌∷◌, ◌++◌, ℕ}
+use Rattle.std.specs.Prelude.{◌≡◌, List, [], ◌∷◌, ◌++◌, ℕ, ◌≤◌, length, take}
 use Rattle.std.specs.Fmt.{decimal}
 use Rattle.std.specs.List.{flat_map}
 use Rattle.pairs.specs.Table.{PairTable}
@@ -17,3 +17,8 @@ pub record IsTableText (text : List ℕ) : Type 0 where
   pub numbers : List ℕ
   pub table : PairTable numbers
   pub lines : text ≡ lines_of numbers
+
+-- the first r bytes are the lines of the numbers, all of them
+pub record TextOf (numbers bytes : List ℕ) (r : ℕ) : Type 0 where
+  pub inside : r ≤ length bytes
+  pub lines : take r bytes ≡ lines_of numbers

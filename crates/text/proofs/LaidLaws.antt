@@ -7,7 +7,8 @@ use native.Mathlib.Decide.{dec_le}
 use native.Mathlib.Omega.{arith}
 use lib.ListN.{length, set, take, drop, take-append-drop, drop_of_length-le}
 use Rattle.std.proofs.lemmas.List.{drop-drop}
-use lib.Seq.{sets, sets-eq, length-sets, set_out, take_all, length-take-le}
+use lib.Seq.{sets, sets-eq, length-sets, set_out, take_all, length-take-le, take_at}
+use Rattle.text.specs.Laid.{Laid}
 
 -- past the end nothing is put
 pub laid_past : (was : List ℕ) (at : ℕ) (text : List ℕ) → length was ≤ at → sets was at text ≡ was
@@ -25,6 +26,13 @@ fits : (was text : List ℕ) → length text ≤ length was → sets was 0 text 
 fits was text h =
     let same : 0 + length text ≡ length text = omega arith in
     sets-eq text was 0 (omega arith) ∙ ap (λ (n : ℕ). text ++ drop n was) same
+
+-- A text that fits is laid whole, and the next place counts its bytes.
+pub laid_whole : {was text is : List ℕ} {r : ℕ} → Laid was 0 text is r → length text ≤ length was → (r ≤ length is) × (take r is ≡ text)
+laid_whole {was} {text} {is} {r} x h =
+    let same : r ≡ length text = omega (arith, x.place) in
+    let long : length is ≡ length was = ap length x.bytes ∙ length-sets was 0 text in
+    (omega arith, rw (x.bytes, fits was text h) (take_at text (drop (length text) was) r (sym same)))
 
 -- from the buffer's start on
 pub sets_start : (was text : List ℕ) → sets was 0 text ≡ take (length was) text ++ drop (length text) was

@@ -1,0 +1,2 @@
+-- The lines of the table, whole.
+pub mod LineLengths
