@@ -1,4 +1,5 @@
 // Entry points of the benchmark: the calls on schemas, readings and event files, on what C and Rust can hand over and take back.
+// Schemas and readings come by value and answers go back as numbers, since the benchmark's callers in C and Rust declare them so.
 #![tactic(auto)]
 
 ghost use Rattle.std.specs.Prelude.{◌≡◌, ◌↔◌, T};

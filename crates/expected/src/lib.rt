@@ -21,6 +21,7 @@ pub const OPENINGS: usize = 2 * TAG_NUMBERS;
 // The number and place of the refusal, as a walk with no types' buffer finds them; 0 and the file's length where it is taken whole. The types of the
 // open elements, `depth` of them, from the root down. The openings that would have been taken, `count` of them: of each the tag, and whether it is as
 // nil; rising by tag, plain before nil. Whether a closing, and whether a finish would have been. Entries past the counts are 0.
+// Numbers, tables and counts beside one another: C reads this layout.
 #[repr(C)]
 #[derive(Clone, Copy)]
 pub struct Expected {
@@ -36,6 +37,7 @@ pub struct Expected {
 }
 
 // Nothing is open and nothing would be taken, beside a refusal's number and place.
+// The refusal is handed in as its number, as the layout has it.
 pub fn nothing_expected(number: u8, place: usize) -> Expected
     ensures { result ≡ laid_out place (nothing (refused_at number place)) }
 {

@@ -10,6 +10,7 @@ use reading::TAG_NUMBERS;
 use sdtd::Tag;
 
 // A list of `count` openings: of each the tag, and whether it is as nil. Entries past the count are 0.
+// Two tables and a count, as `Expected` has them for C.
 #[derive(Clone, Copy)]
 pub(crate) struct Listing {
     pub count: usize,
@@ -41,7 +42,9 @@ pub(crate) fn list_openings(opens: &[bool; TAG_NUMBERS], nils: &[bool; TAG_NUMBE
         tags: [0; OPENINGS],
         nils: [false; OPENINGS],
     };
+    // By index: it is the tag, and two tables are read at it.
     for g in 0..TAG_NUMBERS {
+        // A tag is below 256; a `try_from` would have a case that never comes.
         let tag = Tag(g as u8);
         list.add(opens[g], Kind::Plain, tag);
         list.add(nils[g], Kind::Nil, tag);

@@ -7,6 +7,7 @@ use schema::{STATES, StateSet, TYPES};
 use sdtd::{Refusal, Refused, TypeNo};
 
 // the entries of a table by states
+// The casts of these constants stand since a constant calls no `usize::from` and no `try_from`.
 pub const STATE_NUMBERS: usize = STATES as usize;
 
 // "22 for more than 31 uses of 32"

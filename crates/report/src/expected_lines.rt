@@ -49,6 +49,7 @@ fn put_open(page: &mut Page<'_>, nil: bool, tag: u8)
 }
 
 // A line for each opening: its tag, and whether it is as nil.
+// By index: two tables are read at it. A flag says whether an opening is as nil, as the layout of `Expected` for C has it.
 #[tactic(auto, using(crate::proofs::ExpectedLines::open_next, crate::proofs::ExpectedLines::open_end))]
 fn put_open_lines(page: &mut Page<'_>, tags: &[u8], nils: &[bool])
     requires { length tags.now ≡ length nils.now }

@@ -8,6 +8,7 @@ use sdtd::{Tag, TypeNo};
 use text::Page;
 
 // `N at P` after the words.
+// The refusal is handed in as its number, as the layouts of `EventFile` and `Expected` for C have it.
 #[tactic(auto, using(text::proofs::PageLaws::laid_append), unfolding(crate::specs::Text::refusal_line))]
 pub(crate) fn put_refusal(page: &mut Page<'_>, words: &[u8], number: u8, place: usize)
     ensures { Lays page.old (refusal_line words.now number place) page.new }

@@ -26,6 +26,7 @@ fn new_numbers(kept: &[bool; TYPES]) -> [u8; NUMBERS]
 {
     let mut numbers = [0u8; NUMBERS];
     let mut n = 0u8;
+    // By index: at each place a flag is read and a number is written, of tables of different length.
     for a in 0..TYPES {
         numbers[a] = n;
         n += u8::from(kept[a]);

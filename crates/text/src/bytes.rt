@@ -1,5 +1,6 @@
 // A byte, bytes and a number put into a buffer at a place, as far as they fit: a page of one text. Where it does not fit, the place after it is
 // the buffer's end.
+// The place is handed in and given back: who lays one text keeps no page.
 ghost use Rattle.std.specs.Prelude.{[], ◌∷◌, decimal};
 ghost use Rattle.text.specs.Laid.{Laid};
 

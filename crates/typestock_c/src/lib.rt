@@ -1,5 +1,6 @@
 // The engine for callers in other languages: the calls of `schema_file`, `schema_writer`, `typing` and `events`, with their answers as numbers.
 // c/typestock.h declares them for C, and rust/typestock wraps them for Rust.
+// Numbers stand beside values, and flags beside what they are of, since C reads these layouts.
 #![tactic(auto)]
 
 ghost use Rattle.std.specs.Prelude.{◌≡◌};
