@@ -50,7 +50,7 @@ impl Reading {
         if self.depth == 0 {
             return NONE_OPEN;
         }
-        let a = self.types[self.depth as usize - 1] as usize;
+        let a = usize::from(self.types[usize::from(self.depth) - 1]);
         Inner {
             tag: Tag(schema.tag[a]),
             nillable: schema.nillable[a],
@@ -71,7 +71,7 @@ impl Reading {
         ensures { result ≡ coming_at heads.now (inner_by_steps schema.now found.now.live found.now.ways self.now
             (kind_of o.kind) o.tag.0) self.now (kind_of o.kind) o.tag.0 }
     {
-        let depth = self.depth as usize;
+        let depth = usize::from(self.depth);
         if depth == 0 {
             return coming_first(heads, self.rooted, sought_of(o));
         }
@@ -79,7 +79,7 @@ impl Reading {
         coming_steps(schema, found, inner, self.sets[depth - 1], o)
     }
 
-    // An opening, by the steps of the innermost type.
+    // An opening, by the steps of the innermost type. Apart from `step_open`, which has a walk's rows: both end in `open_by`.
     #[tactic(auto, unfolding(crate::specs::Steps::coming_at, crate::specs::Steps::open_step, crate::specs::Coming::coming_of))]
     fn step_open_own<'a>(
         &mut self,

@@ -19,7 +19,7 @@ fn kept_before(t: u32, was: u32, kept: u32) -> u32
     if t < was { StateSet::NONE.0 } else { kept }
 }
 
-// The smaller of the two types.
+// The smaller of the two types, by the same comparison as above.
 fn smaller(t: u32, was: u32) -> u32
     ensures { result ≡ cond (ltb t was) t was }
 {
@@ -91,6 +91,7 @@ impl Least {
         if self.kept == StateSet::NONE.0 {
             return None;
         }
+        // `as`: a type that came is below TYPES
         Some((TypeNo(self.of as u8), StateSet(self.kept)))
     }
 }

@@ -20,6 +20,7 @@ use sdtd::{Refused, TypeNo};
 #[repr(C)]
 #[derive(Clone, Copy)]
 pub struct EventFile {
+    // a number, not a `Result`: C reads this layout
     pub number: u8,
     pub place: usize,
     pub count: usize,
@@ -62,7 +63,8 @@ fn turn(tables: &Tables<'_>, reading: &mut Reading, event: Event) -> Result<Opti
     }
 }
 
-// The number at the place where no event stands: the file is taken whole if it ends here and is finished.
+// The number at the place where no event stands: the file is taken whole if it ends here and is finished. A number, here and below, as that is all
+// that `EventFile` has room for.
 fn end_number(finished: bool, end: usize, at: usize) -> u8
     ensures { result ≡ end_number finished end at }
 {

@@ -45,6 +45,7 @@ pub(crate) fn head_nillable(a: usize) -> usize
 pub(crate) fn head_root(o: Sought) -> usize
     ensures { (result ≡ head_root (kind_sought o.n) (tag_sought o.n)) × (result < 2 * most_types + 2 * most_tags) }
 {
+    // `as`: no `From` leads from u32 to usize
     2 * TYPES + (3 * TAGS as u32 - o.n / TYPE_ROOM) as usize
 }
 
@@ -65,9 +66,9 @@ fn lay_head(heads: &mut [u32; HEADS], a: usize, tag: Tag, nillable: bool, accept
     requires { a < most_types }
     ensures { heads.new ≡ set_head heads.old a tag.0 nillable accepting }
 {
-    heads[head_tag(a)] = tag.0 as u32;
+    heads[head_tag(a)] = u32::from(tag.0);
     heads[head_accepting(a)] = accepting;
-    heads[head_nillable(a)] = nillable as u32;
+    heads[head_nillable(a)] = u32::from(nillable);
 }
 
 // What stands under a tag once its root type a is seen, where n stood: one more than the smaller type; n is 0 where there was none.
@@ -75,7 +76,7 @@ fn lay_head(heads: &mut [u32; HEADS], a: usize, tag: Tag, nillable: bool, accept
 fn with_root(n: u32, a: TypeNo) -> u32
     ensures { result ≡ with_root n a.0 }
 {
-    let other = a.0 as u32 + 1;
+    let other = u32::from(a.0) + 1;
     if n == 0 {
         return other;
     }
@@ -117,6 +118,7 @@ pub(crate) fn heads(schema: &Schema, ways: &[u8; TYPES]) -> [u32; HEADS]
     ensures { HeadsMean schema.now result }
 {
     let mut all = [0u32; HEADS];
+    // by index: three tables are read at each place
     for i in 0..usize::from(schema.types) {
         lay_head(
             &mut all,
@@ -126,6 +128,7 @@ pub(crate) fn heads(schema: &Schema, ways: &[u8; TYPES]) -> [u32; HEADS]
             schema.accepting[i],
         );
     }
+    // two calls: a loop over the kinds would be no shorter
     lay_roots(&mut all, schema, ways, Kind::Plain);
     lay_roots(&mut all, schema, ways, Kind::Nil);
     all

@@ -25,6 +25,7 @@ impl Reading {
         if LEVELS < depth {
             return false;
         }
+        // by index: two tables are read at each level
         for n in 0..depth {
             let a = TypeNo(self.types[n]);
             let set = StateSet(self.sets[n]);

@@ -37,6 +37,7 @@ fn opens_under(heads: &[u32; HEADS], o: Sought) -> Coming
     if n == 0 {
         return None;
     }
+    // Here and below `as` cuts a remainder that fits: a `try_from` could not fail.
     Some((TypeNo(((n - 1) % TYPES as u32) as u8), StateSet::NONE))
 }
 
@@ -78,7 +79,7 @@ impl Reading {
         requires { self.old.depth < most_levels }
         ensures { self.new ≡ opened (kind_sought o.n) self.old j.0 kept.0 }
     {
-        let depth = self.depth as usize;
+        let depth = usize::from(self.depth);
         self.types[depth] = j.0;
         if 0 < depth {
             self.sets[depth - 1] = kept.0;
@@ -95,7 +96,7 @@ impl Reading {
         ensures { result ≡ coming_at tables.now.heads.now (inner_by_rows tables.now.rows self.now (kind_sought o.n) (tag_sought o.n))
             self.now (kind_sought o.n) (tag_sought o.n) }
     {
-        let depth = self.depth as usize;
+        let depth = usize::from(self.depth);
         if depth == 0 {
             return coming_first(tables.heads, self.rooted, o);
         }
@@ -110,7 +111,7 @@ impl Reading {
         match next {
             None => Err(Refused::CannotOpen),
             Some((j, kept)) => {
-                if LEVELS <= self.depth as usize {
+                if LEVELS <= usize::from(self.depth) {
                     return Err(Refused::TooDeep);
                 }
                 self.descend(o, j, kept);
@@ -155,7 +156,7 @@ impl Reading {
         if own.tag != g {
             return Err(Refused::OtherTag);
         }
-        let set = self.sets[self.depth as usize - 1];
+        let set = self.sets[usize::from(self.depth) - 1];
         // Most elements end in an accepting state: whether the type is nillable is looked at only where this one does not.
         if !StateSet(set).meets(StateSet(own.accepting)) {
             if !is_nilled(own, set) {
@@ -175,7 +176,7 @@ impl Reading {
         if self.depth == 0 {
             return self.step_close(NONE_OPEN, tables.tags, g);
         }
-        let a = self.types[self.depth as usize - 1] as usize;
+        let a = usize::from(self.types[usize::from(self.depth) - 1]);
         let own = Inner {
             tag: Tag((tables.heads[head_tag(a)] % TAGS as u32) as u8),
             nillable: 0 < tables.heads[head_nillable(a)],

@@ -29,6 +29,7 @@ pub const TAG_NUMBERS: usize = TAGS as usize;
 // opening of each tag, plainly and as nil, a closing, a finish.
 #[derive(Clone, Copy)]
 pub struct Stop {
+    // a number, as in EventFile
     pub number: u8,
     pub place: usize,
     pub reading: Reading,
@@ -38,7 +39,7 @@ pub struct Stop {
     pub finishes: bool,
 }
 
-// The tags of which an opening would be taken, plainly and as nil.
+// The tags of which an opening would be taken, plainly and as nil: a table for each kind, as in `Stop`, so what fills them names each kind.
 #[derive(Clone, Copy)]
 struct Openings {
     pub opens: [bool; TAG_NUMBERS],
@@ -61,7 +62,7 @@ struct Between {
 fn mark_tag(flags: &mut [bool; TAG_NUMBERS], g: Tag, marked: bool)
     ensures { Marks (λ k. eqb g.0 k && marked) flags.old flags.new }
 {
-    let i = g.0 as usize;
+    let i = usize::from(g.0);
     if !marked {
         return;
     }
