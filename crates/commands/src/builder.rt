@@ -12,7 +12,7 @@ use command::Command;
 use schema::{ROOTS, STEPS, Schema, StateSet, Step, Steps, TYPES, root_types};
 use sdtd::{Refused, Tag, TypeNo};
 
-// the most types and the most roots, as bytes; the most steps, as a type's count of them
+// the most types and the most roots, as bytes; the most steps, as a type's count of them (a constant calls no `From`, so these are casts)
 pub(crate) const TYPE_NUMBERS: u8 = TYPES as u8;
 
 pub(crate) const MOST_ROOTS: u8 = ROOTS as u8;

@@ -15,6 +15,7 @@ pub fn read_commands(file: &[u8]) -> Result<Schema, Refusal>
 {
     let mut built = Builder::new(file.len());
     let mut at = 0;
+    // A command is as long as it is, so that no iterator over the file gives the place after an expression.
     while built.phase != Phase::AfterDone {
         if built.phase == Phase::InExpression {
             let read = read_content(file, at)?;

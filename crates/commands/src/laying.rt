@@ -11,7 +11,7 @@ use expression::Automaton;
 use schema::{STATES, STEPS, StateSet, TYPES};
 use sdtd::{Refusal, Refused, TypeNo};
 
-// the states that an automaton can have
+// the states that an automaton can have (a constant calls no `From`)
 const ROOM: usize = STATES as usize;
 
 // Puts the uses in the set into the sets of their types, which are empty before; gives the set of these types.
@@ -43,6 +43,7 @@ impl Builder {
         let last = self.last_type();
         self.schema.states[last] = read.uses + 1;
         self.schema.accepting[last] = read.accepting.0;
+        // There are at most STEPS, so the cast cuts nothing.
         self.schema.steps[last] = (self.steps - before) as u16;
         self.phase = Phase::AfterExpression;
         self.add_names(read);
@@ -82,7 +83,8 @@ impl Builder {
         ensures { LaidAs (laid_from types.now p set) self.old self.new
             × (length sets.new ≡ most_types) × ((k : ℕ) → get_or sets.new k 0 ≡ 0) }
     {
-        // A set of types has no iterator: one for this loop alone would be no shorter. At each turn `rest` loses its smallest type.
+        // A set of types has no iterator: one for this loop alone would be no shorter. At each turn `rest` loses its smallest type, which is below 64:
+        // a cast of it cuts nothing.
         let mut rest = group(set, types, sets);
         while rest != 0 {
             let j = u64::trailing_zeros(rest) as u8;

@@ -16,7 +16,7 @@ use sdtd::{Tag, TypeNo};
 
 // Two numbers for each type: its tag and its accepting states. Then for plain openings a number for each tag, 0 where no root opens under it, else
 // one more than the type that does; and for nil openings the same. Then for each type 1 if it is nillable, apart from the others: only a closing
-// that finds no accepting state looks at it.
+// that finds no accepting state looks at it. One table, so that the event loop holds one address. (A constant calls no `From`, so it casts.)
 pub(crate) const HEADS: usize = 3 * TYPES + 2 * TAGS as usize;
 
 // Where the numbers of the type a stand.

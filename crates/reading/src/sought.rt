@@ -16,7 +16,7 @@ pub(crate) struct Opening {
     pub tag: Tag,
 }
 
-// What one more in the second binary digit of an entry's ways adds, counted from the type's place.
+// What one more in the second binary digit of an entry's ways adds, counted from the type's place. The casts of this file are of constants.
 const KIND_PLACE: u32 = 2 * TAGS as u32 * TYPE_ROOM;
 
 // An entry's type, tag and ways with so much added: of the type and the tag what is inside their room, of the ways the second digit. Compiled by
