@@ -1,5 +1,5 @@
 // The call: a file that passed is written without the types that no valid document uses.
-ghost use Rattle.std.specs.Prelude.{◌≡◌, ◌↔◌, [], ◌∷◌, T, All};
+ghost use Rattle.std.specs.Prelude.{◌≡◌, ◌↔◌, [], ◌∷◌, ◌++◌, ◌≤◌, T, All, length, drop};
 ghost use Rattle.sdtd.specs.Answer.{Ordered};
 ghost use Rattle.sdtd.specs.Output.{writes, written_of};
 ghost use Rattle.schema.specs.Value.{meaning};
@@ -20,6 +20,19 @@ fn all_kept(kept: &[bool]) -> bool
     kept.iter().all(|is_kept| *is_kept)
 }
 
+// Copies the file to the buffer's start. Byte by byte: a slice's own copy would be a call of `memmove`, and C's header says that the library calls
+// `memcpy` and `memset` alone.
+fn copy_file(out: &mut [u8], file: &[u8])
+    requires { length file.now ≤ length out.old }
+    ensures { out.new ≡ file.now ++ drop (length file.now) out.old }
+{
+    let mut i = 0;
+    while i < file.len() {
+        out[i] = file[i];
+        i += 1;
+    }
+}
+
 // Writes the file as it is, where it fits.
 fn write_same(file: &[u8], out: &mut [u8]) -> Result<usize, Refused>
     ensures { Ordered (room_asked out.old file.now ∷ []) (λ x. x ≡ writes out.old file.now)
@@ -28,7 +41,7 @@ fn write_same(file: &[u8], out: &mut [u8]) -> Result<usize, Refused>
     if out.len() < file.len() {
         return Err(Refused::NoRoom);
     }
-    out[..file.len()].copy_from_slice(file);
+    copy_file(out, file);
     Ok(file.len())
 }
 
