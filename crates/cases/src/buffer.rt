@@ -7,6 +7,7 @@ use std::fmt::Write;
 
 // The buffer's byte before the call, above every type.
 fn pattern(at: usize) -> u8 {
+    // below 255, so the cast cuts nothing
     (128 + at % 127) as u8
 }
 

@@ -86,6 +86,7 @@ impl Held {
         let Some(field) = field else { return };
         let schema = &mut self.schema;
         let reading = &mut self.reading;
+        // the remainders fit
         let byte = (value % 0x100) as u8;
         let half = (value % 0x1_0000) as u16;
         match field {

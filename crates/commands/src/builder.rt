@@ -35,7 +35,7 @@ pub(crate) struct Builder {
 
 impl Builder {
     // Before the first command of a file of this length.
-    pub fn new(length: usize) -> Builder
+    pub(crate) fn new(length: usize) -> Builder
         ensures { result ≡ nothing_built length }
     {
         Builder {
@@ -48,7 +48,7 @@ impl Builder {
     }
 
     // The place of the block that the file is in.
-    pub fn last_type(&self) -> usize
+    pub(crate) fn last_type(&self) -> usize
         ensures { result ≡ last_type self.now.schema.types }
     {
         usize::from((self.schema.types % TYPE_NUMBERS + LAST_TYPE) % TYPE_NUMBERS)
@@ -106,7 +106,7 @@ impl Builder {
     }
 
     // Questions 3 to 6 of the command, outside an expression.
-    pub fn ask(&self, command: Command) -> Result<(), Refused>
+    pub(crate) fn ask(&self, command: Command) -> Result<(), Refused>
         ensures { number_told result ≡ failed_by self.now command }
     {
         self.seen(command).ask(command)
@@ -114,7 +114,7 @@ impl Builder {
 
     // Adds the command, which passed its questions, and stands at this place.
     #[tactic(auto, unfolding(crate::specs::Building::built))]
-    pub fn add(&mut self, command: Command, at: usize)
+    pub(crate) fn add(&mut self, command: Command, at: usize)
         ensures { self.new ≡ built self.old at command }
     {
         let last = self.last_type();
@@ -168,7 +168,7 @@ impl Builder {
     }
 
     // The type is named at this place.
-    pub fn name(&mut self, a: TypeNo, at: usize)
+    pub(crate) fn name(&mut self, a: TypeNo, at: usize)
         ensures { self.new ≡ named self.old a.0 at }
     {
         let named = usize::from(a.0 % TYPE_NUMBERS);
@@ -178,7 +178,7 @@ impl Builder {
     }
 
     // The first place at which a type that was not given is named, if there is one: `end` lies behind every place.
-    pub fn unknown(&self, end: usize) -> Option<usize>
+    pub(crate) fn unknown(&self, end: usize) -> Option<usize>
         requires { self.now.bound ≤ most_types }
         ensures { result ≡ unknown self.now end }
     {

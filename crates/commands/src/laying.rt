@@ -24,6 +24,7 @@ fn group(set: u32, types: &[u8; ROOM], sets: &mut [u32; TYPES]) -> u64
         let j = usize::from(types[usize::from(q)] % TYPE_NUMBERS);
         let grown = StateSet(sets[j]).with(q);
         sets[j] = grown.0;
+        // j is below 64, and a shift takes a u32
         named |= 1u64 << (j as u32);
     }
     named
@@ -31,7 +32,7 @@ fn group(set: u32, types: &[u8; ROOM], sets: &mut [u32; TYPES]) -> u64
 
 impl Builder {
     // Adds the automaton of an expression, if its steps fit.
-    pub fn add_expression(&mut self, read: &Automaton) -> Result<(), Refusal>
+    pub(crate) fn add_expression(&mut self, read: &Automaton) -> Result<(), Refusal>
         requires { (read.now.uses < most_states) × (self.old.steps ≤ most_steps) × (self.old.bound ≤ most_types) }
         ensures { Added self.old self.new read.now result }
     {

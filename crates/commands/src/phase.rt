@@ -16,7 +16,7 @@ pub(crate) enum Phase {
 
 impl Phase {
     // The phase after a TYPE: with state count 0 an expression follows.
-    pub fn of_block(states: u8) -> Phase
+    pub(crate) fn of_block(states: u8) -> Phase
         ensures { result ≡ cond (eqb states 0) InExpression InBlock }
     {
         if states == 0 {

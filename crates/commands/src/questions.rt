@@ -25,7 +25,7 @@ pub(crate) struct Seen {
 
 impl Seen {
     // The questions 3 to 6, in order.
-    pub fn ask(self, command: Command) -> Result<(), Refused>
+    pub(crate) fn ask(self, command: Command) -> Result<(), Refused>
         ensures { number_told result ≡ failed self command }
     {
         if !self.in_order(command) {
