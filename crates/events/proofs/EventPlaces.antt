@@ -7,8 +7,10 @@ use lib.Dec.{eqb}
 use lib.ListN.{length, drop}
 use Rattle.std.specs.Prelude.{Option, Some, None}
 use Rattle.std.proofs.lemmas.List.{drop-drop, length-drop}
+use Rattle.std.specs.Iterator.Runs.{YieldsInOrder}
+use Rattle.std.proofs.iter.runs.Sources.{from_front, as_is}
 use Rattle.sdtd.proofs.Basics.{cond_both}
-use Rattle.events.specs.Events.{Events, ends, stray, event, events_of, event_of, file_event, size, file_events, first_event, event_at}
+use Rattle.events.specs.Events.{Events, ends, stray, event, events_of, event_of, file_event, size, file_events, first_event, event_at, events_left, Steps}
 use Rattle.events.specs.declared.decoder.Event.{Event as FileEvent}
 use Rattle.events.specs.declared.decoder.Event.TheVariants.{Open, Close, Finish}
 use Rattle.events.specs.declared.decoder.Kind.TheVariants.{Plain, Nil}
@@ -80,3 +82,8 @@ left_first file at {e} found =
 
 pub ends_some : (file : List ℕ) (at : ℕ) {e : FileEvent} → Some e ≡ event_at file at → at + size e ≤ length file
 ends_some file at {e} found = subst (Ends file at) (sym found) (event_ends file at)
+
+-- calls of `next` give the events that are left, one after another
+pub steps_in_order : YieldsInOrder Steps events_left
+steps_in_order p s =
+    as_is p (events_left p.from) (from_front Steps (λ x. x) events_left (λ w v h. ap length h.yields.0) (λ w x v h. h.yields) p s)

@@ -1,8 +1,9 @@
 -- Bytes of an event file as events: document 01, "The event file", with the event 23 of document 02, Req 05.
-use Rattle.std.specs.Prelude.{◌≡◌, cond, List, [], ◌∷◌, ℕ, ◌+◌, ◌-◌, eqb, length, drop, Option, Some, None}
+use Rattle.std.specs.Prelude.{◌≡◌, cond, List, [], ◌∷◌, ℕ, ◌+◌, ◌-◌, eqb, length, get_or, drop, Option, Some, None}
 use Rattle.std.specs.Iterator.{Count, at_most, YieldsFirst}
 use Rattle.sdtd.specs.Tree.{Kind, plain, nil}
 use Rattle.sdtd.specs.Document.{Event, opening, closing, finish}
+use Rattle.sdtd.specs.declared.Tag.{Tag}
 use Rattle.sdtd.specs.Numbered.{tag_no}
 use Rattle.events.specs.declared.decoder.Kind.{Kind as FileKind}
 use Rattle.events.specs.declared.decoder.Kind.TheVariants.{Plain, Nil}
@@ -51,6 +52,10 @@ file_event (opening plain g) = Open Plain (tag_no g)
 file_event (opening nil g) = Open Nil (tag_no g)
 file_event (closing g) = Close (tag_no g)
 file_event finish = Finish
+
+-- the byte past the place i as a tag: an event with a tag has it there
+abbrev pub operand : List ℕ → ℕ → Tag
+operand file i = tag_no (get_or file (i + 1) 0)
 
 -- how many bytes an event has
 abbrev pub size_of : Event → ℕ

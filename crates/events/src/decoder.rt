@@ -1,6 +1,6 @@
 // Events of the event file.
 ghost use Rattle.std.specs.Prelude.{◌≡◌};
-ghost use Rattle.events.specs.Events.{event_at, size};
+ghost use Rattle.events.specs.Events.{operand, event_at, size};
 
 use sdtd::Tag;
 
@@ -29,6 +29,13 @@ impl Event {
             Event::Finish => 1,
         }
     }
+}
+
+// The byte past a place of the file, as a tag; 0 where the file ends before it. An event with a tag has it there.
+pub fn tag_at(events: &[u8], at: usize) -> Tag
+    ensures { result ≡ operand events.now at }
+{
+    Tag(events.get(at.saturating_add(1)).copied().unwrap_or(0))
 }
 
 // The event at a place of the file, if there is one. A finish is told apart first, so that the match over the other codes has three.

@@ -1,7 +1,6 @@
 // A walker over the lent bytes of an event file: it stands at a place, and gives one event after another.
 ghost use Rattle.std.specs.Prelude.{◌≡◌};
-ghost use Rattle.std.specs.Iterator.{YieldsFirst};
-ghost use Rattle.events.specs.Events.{events_left, bytes_left, Steps};
+ghost use Rattle.events.specs.Events.{bytes_left, Steps};
 
 use crate::decoder::{Event, event_at};
 
@@ -33,7 +32,7 @@ impl<'a> Walker<'a> {
 impl<'a> Iterator for Walker<'a> {
     type Item = Event;
 
-    ghost next_gives = { YieldsFirst events_left };
+    ghost next_gives = { Steps };
 
     ghost remaining = { bytes_left };
 
