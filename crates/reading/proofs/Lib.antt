@@ -18,6 +18,7 @@ pub mod StateSets
 pub mod Decisions
 pub mod AnswerExists
 pub mod WithinKept
+pub mod DepthLaws
 pub mod Passages
 pub mod EventWalk
 pub mod RoomWalk

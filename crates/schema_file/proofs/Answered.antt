@@ -8,7 +8,7 @@ use Prim.Native.Nat.{ℕ, ◌≤◌, ◌<◌}
 use native.Mathlib.Omega.{arith}
 use lib.ListN.{length, get_or}
 use Rattle.std.specs.Prelude.{Result, Ok, Err, MatchResult}
-use Rattle.sdtd.specs.Limits.{least_witness}
+use Rattle.sdtd.specs.Limits.{most_types, least_witness}
 use Rattle.sdtd.specs.Schema.{Schema as Meaning, WithinLimits}
 use Rattle.sdtd.specs.Trim.{SomeRootBears}
 use Rattle.sdtd.specs.Reduced.{EveryTypeUsed}
@@ -16,7 +16,7 @@ use Rattle.sdtd.specs.Competition.{Competition}
 use Rattle.sdtd.specs.Answer.{Ordered, Verdict, fine, refused_at, verdict_of}
 use Rattle.sdtd.specs.declared.Refusal.{Refusal}
 use Rattle.sdtd.proofs.UsedAsked.{FirstUnused, every_type_ordered}
-use Rattle.sdtd.proofs.Verdicts.{other_number, refused_not_fine}
+use Rattle.sdtd.proofs.Verdicts.{same_number, same_place, other_number, refused_not_fine}
 use Rattle.schema.specs.Value.{meaning}
 use Rattle.competition.specs.Questions.{competition_asked}
 use Rattle.competition.specs.Search.{Written, questions_of, ReducedMeans, judged_of}
@@ -145,6 +145,16 @@ judged_cases {R} {S} {was} {is} {r} m long within f8 f24 f9 f0 = by_answer m.ans
     by_answer (inr (l, inr (w, inr (b, o)))) =
         ⊎_elim (λ u. f24 b u) (λ p. ⊎_elim (λ c. f9 b p.0 c.1) (λ n. f0 b p.0 n.0 n.1) p.1)
         ((every_type_ordered (λ k. refused_at 24 k) S (competition_asked (refused_at 9 0) S ∷ []) (λ a. a ≡ fine) r).0 o)
+
+-- the place of a 24 is a type
+pub judged_type : {S : Meaning} {was is : List ℕ} {n p : ℕ} → ReducedMeans S was is (refused_at n p) → least_witness ≤ length was → WithinLimits S
+    → n ≡ 24 → p < most_types
+judged_type {n = n} {p = p} m long within z =
+    judged_cases m long within
+    (λ d e. absurd (omega (arith, same_number e)))
+    (λ b u. omega (arith, same_place u.answer, u.below, within.types_most))
+    (λ b u e. absurd (omega (arith, same_number e)))
+    (λ b u d e. refused_not_fine refl e)
 
 -- The verdict on the value that the commands gave is the file's.
 module _ {file : List ℕ} {v : Schema} (s : Passed file v) (was : List ℕ) (long : least_witness ≤ length was) where
