@@ -1,8 +1,9 @@
 // The buffer that a call is lent: filled with a pattern before the call, and afterwards what the call made of it.
+use crate::printer::Printer;
 use crate::show::show_numbers;
 use competition::WORD_PLACE;
 use sdtd::Refused;
-use std::alloc::{AllocError, Global};
+use std::fmt;
 use std::fmt::Write;
 
 // The buffer's byte before the call, above every type.
@@ -17,15 +18,8 @@ pub(crate) fn fill(lent: &mut [u8]) {
     }
 }
 
-// A buffer of so many bytes, filled.
-pub(crate) fn lend(alloc: Global, room: usize) -> Result<Vec<u8>, AllocError> {
-    let mut lent = Vec::from_elem(alloc, 0, room)?;
-    fill(&mut lent);
-    Ok(lent)
-}
-
 // Whether the bytes from `start` on are as they were.
-pub(crate) fn show_kept(out: &mut String, lent: &[u8], start: usize) -> Result<(), AllocError> {
+pub(crate) fn show_kept(out: &mut Printer, lent: &[u8], start: usize) -> fmt::Result {
     for (at, byte) in lent.iter().enumerate().skip(start) {
         if *byte != pattern(at) {
             return write!(out, " | changed at {at}");
@@ -35,7 +29,7 @@ pub(crate) fn show_kept(out: &mut String, lent: &[u8], start: usize) -> Result<(
 }
 
 // Whether the bytes past the witness are as they were; and the witness, with the length of its word as one number.
-fn show_competition(out: &mut String, lent: &[u8]) -> Result<(), AllocError> {
+fn show_competition(out: &mut Printer, lent: &[u8]) -> fmt::Result {
     let [parent, first, second, low, high, word @ ..] = lent else {
         return Ok(());
     };
@@ -47,10 +41,10 @@ fn show_competition(out: &mut String, lent: &[u8]) -> Result<(), AllocError> {
 
 // The witness buffer beside an answer: on a competition its first bytes are the witness.
 pub(crate) fn show_witness(
-    out: &mut String,
+    out: &mut Printer,
     refused: Option<Refused>,
     lent: &[u8],
-) -> Result<(), AllocError> {
+) -> fmt::Result {
     match refused {
         Some(Refused::Competition) => show_competition(out, lent),
         _ => show_kept(out, lent, 0),

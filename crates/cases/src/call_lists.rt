@@ -6,13 +6,13 @@ use crate::case::Case;
 use crate::changes::{blank, show_changes};
 use crate::items::{Call, Item, Items};
 use crate::made_up::Held;
+use crate::printer::Printer;
 use crate::schema_files::read_schema;
 use crate::show::show_verdict;
-use anyhow::Result;
 use reading::{Next, Reading, close_lent, finish_lent, open_lent, open_nil_lent};
 use schema::Schema;
 use sdtd::{Refused, Tag, TypeNo};
-use std::alloc::AllocError;
+use std::fmt;
 use std::fmt::Write;
 
 // The answer of a call by value; the reading that it handed back is the reading now.
@@ -39,7 +39,7 @@ impl Held {
     }
 }
 
-fn show_event(out: &mut String, answer: Result<Option<TypeNo>, Refused>) -> Result<(), AllocError> {
+fn show_event(out: &mut Printer, answer: Result<Option<TypeNo>, Refused>) -> fmt::Result {
     match answer {
         Ok(Some(TypeNo(j))) => write!(out, " t{j}"),
         Ok(None) => write!(out, " ok"),
@@ -50,7 +50,7 @@ fn show_event(out: &mut String, answer: Result<Option<TypeNo>, Refused>) -> Resu
     }
 }
 
-pub(crate) fn run(out: &mut String, case: &Case<'_>) -> Result<()> {
+pub(crate) fn run(out: &mut Printer, case: &Case<'_>) -> fmt::Result {
     let read = read_schema(case.first);
     let mut held = Held::new(read.unwrap_or(Schema::NONE));
     show_verdict(out, read.err())?;
@@ -66,6 +66,5 @@ pub(crate) fn run(out: &mut String, case: &Case<'_>) -> Result<()> {
         }
         show_changes(out, &before, &held.reading)?;
     }
-    writeln!(out)?;
-    Ok(())
+    writeln!(out)
 }

@@ -1,9 +1,9 @@
 // The cases of the input, one after another.
 //
 // A case is its kind, a letter; three lengths of two bytes each, low byte first, of the buffer to lend and of two strings of bytes; then the two
-// strings.
-ghost use Rattle.std.specs.Prelude.{length};
-ghost use Rattle.std.specs.Iterator.{at_most};
+// strings. A kind of 00 ends the cases.
+use input::read_full;
+use std::io::Stdin;
 
 #[derive(Clone, Copy)]
 pub(crate) enum Kind {
@@ -39,45 +39,56 @@ impl TryFrom<u8> for Kind {
     }
 }
 
-// A case, and what follows it.
+// The longest string of a case and the longest buffer.
+pub(crate) const LONGEST: usize = 0xffff;
+
+// The bytes before the strings.
+const HEAD: usize = 7;
+
+const END: u8 = 0;
+
 #[derive(Clone, Copy)]
 pub(crate) struct Case<'a> {
     pub kind: Kind,
-    pub room: usize,
+    pub room: u16,
     pub first: &'a [u8],
     pub second: &'a [u8],
-    pub rest: &'a [u8],
 }
 
-// The cases up to the first bytes that are none.
+// Why there is no further case: the kind 00, or an input that ends before a case does or has no such kind.
 #[derive(Clone, Copy)]
-pub(crate) struct Cases<'a> {
-    pub rest: &'a [u8],
+pub(crate) enum Stop {
+    End,
+    NoCase,
 }
 
-impl<'a> Iterator for Cases<'a> {
-    type Item = Case<'a>;
-
-    ghost remaining = { λ cases. at_most (length cases.rest.now) };
-
-    fn next(&mut self) -> Option<Case<'a>> {
-        let (head, strings) = self.rest.split_first_chunk::<7>()?;
-        let [letter, r0, r1, n0, n1, m0, m1] = *head;
-        let kind = Kind::try_from(letter).ok()?;
-        let room = usize::from(u16::from_le_bytes([r0, r1]));
-        let n = usize::from(u16::from_le_bytes([n0, n1]));
-        let m = usize::from(u16::from_le_bytes([m0, m1]));
-        let first = strings.get(..n)?;
-        let others = strings.get(n..)?;
-        let second = others.get(..m)?;
-        let rest = others.get(m..)?;
-        self.rest = rest;
-        Some(Case {
-            kind,
-            room,
-            first,
-            second,
-            rest,
-        })
+// Reads the next case into what is lent for its strings. The strings of an unknown kind are read too.
+pub(crate) fn next_case<'a>(
+    stdin: &mut Stdin,
+    first: &'a mut [u8; LONGEST],
+    second: &'a mut [u8; LONGEST],
+) -> Result<Case<'a>, Stop> {
+    let mut head = [0; HEAD];
+    if read_full(stdin, &mut head) < HEAD {
+        return Err(Stop::NoCase);
     }
+    let [letter, r0, r1, n0, n1, m0, m1] = head;
+    if letter == END {
+        return Err(Stop::End);
+    }
+    let room = u16::from_le_bytes([r0, r1]);
+    let first = &mut first[..usize::from(u16::from_le_bytes([n0, n1]))];
+    let second = &mut second[..usize::from(u16::from_le_bytes([m0, m1]))];
+    let n = read_full(stdin, first);
+    let m = read_full(stdin, second);
+    if n < first.len() || m < second.len() {
+        return Err(Stop::NoCase);
+    }
+    let kind = Kind::try_from(letter).map_err(|()| Stop::NoCase)?;
+    Ok(Case {
+        kind,
+        room,
+        first,
+        second,
+    })
 }

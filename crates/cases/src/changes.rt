@@ -1,7 +1,8 @@
 // What a call or an entry put changed in a reading.
+use crate::printer::Printer;
 use reading::{LEVELS, Reading};
-use std::alloc::AllocError;
 use std::fmt::Write;
+use std::{fmt, mem};
 
 // A reading of zeros, made here.
 pub(crate) fn blank() -> Reading {
@@ -14,16 +15,28 @@ pub(crate) fn blank() -> Reading {
     }
 }
 
-// The levels' types and sets that changed, each after a comma.
-fn show_levels(out: &mut String, before: &Reading, after: &Reading) -> Result<(), AllocError> {
+// What stands before the next change: a bracket before the first, a comma before each other.
+fn mark(shown: &mut bool) -> char {
+    if mem::replace(shown, true) { ',' } else { '(' }
+}
+
+// The levels' types and sets that changed.
+fn show_levels(
+    out: &mut Printer,
+    shown: &mut bool,
+    before: &Reading,
+    after: &Reading,
+) -> fmt::Result {
     for n in 0..LEVELS {
         let type_no = after.types[n];
         if type_no != before.types[n] {
-            write!(out, ",t{n}={type_no}")?;
+            let mark = mark(shown);
+            write!(out, "{mark}t{n}={type_no}")?;
         }
         let set = after.sets[n];
         if set != before.sets[n] {
-            write!(out, ",s{n}={set}")?;
+            let mark = mark(shown);
+            write!(out, "{mark}s{n}={set}")?;
         }
     }
     Ok(())
@@ -31,27 +44,20 @@ fn show_levels(out: &mut String, before: &Reading, after: &Reading) -> Result<()
 
 // What the reading after holds and the one before did not: d the depth, r and f for rooted and finished, tN and sN the type and the
 // set of the level of index N, open or not.
-pub(crate) fn show_changes(
-    out: &mut String,
-    before: &Reading,
-    after: &Reading,
-) -> Result<(), AllocError> {
-    let mut changes = String::new(*out.allocator());
+pub(crate) fn show_changes(out: &mut Printer, before: &Reading, after: &Reading) -> fmt::Result {
+    let mut shown = false;
     if after.depth != before.depth {
-        let depth = after.depth;
-        write!(changes, ",d{depth}")?;
+        let (mark, depth) = (mark(&mut shown), after.depth);
+        write!(out, "{mark}d{depth}")?;
     }
     if after.rooted != before.rooted {
-        let rooted = u8::from(after.rooted);
-        write!(changes, ",r{rooted}")?;
+        let (mark, rooted) = (mark(&mut shown), u8::from(after.rooted));
+        write!(out, "{mark}r{rooted}")?;
     }
     if after.finished != before.finished {
-        let finished = u8::from(after.finished);
-        write!(changes, ",f{finished}")?;
+        let (mark, finished) = (mark(&mut shown), u8::from(after.finished));
+        write!(out, "{mark}f{finished}")?;
     }
-    show_levels(&mut changes, before, after)?;
-    match changes.strip_prefix(',') {
-        Some(changes) => write!(out, "({changes})"),
-        None => Ok(()),
-    }
+    show_levels(out, &mut shown, before, after)?;
+    if shown { write!(out, ")") } else { Ok(()) }
 }

@@ -4,16 +4,16 @@
 // they would have been taken; and 0 where every entry past the counts is 0.
 use crate::case::Case;
 use crate::made_up::made_up;
+use crate::printer::Printer;
 use crate::schema_files::read_schema;
 use crate::show::{show_numbers, show_verdict};
-use anyhow::Result;
 use expected::{Expected, expect_next};
 use schema::Schema;
-use std::alloc::AllocError;
+use std::fmt;
 use std::fmt::Write;
 
 // The types of the open elements; false where an entry past them is not 0.
-fn show_types(out: &mut String, e: &Expected) -> Result<bool, AllocError> {
+fn show_types(out: &mut Printer, e: &Expected) -> Result<bool, fmt::Error> {
     for type_no in e.types.iter().take(e.depth) {
         write!(out, " {type_no}")?;
     }
@@ -21,7 +21,7 @@ fn show_types(out: &mut String, e: &Expected) -> Result<bool, AllocError> {
 }
 
 // The openings that are listed; false where an entry past them is not 0.
-fn show_openings(out: &mut String, e: &Expected) -> Result<bool, AllocError> {
+fn show_openings(out: &mut Printer, e: &Expected) -> Result<bool, fmt::Error> {
     for (tag, nil) in e.tags.iter().zip(&e.nils).take(e.count) {
         let kind = if *nil { "n" } else { "o" };
         write!(out, " {kind}{tag}")?;
@@ -30,7 +30,7 @@ fn show_openings(out: &mut String, e: &Expected) -> Result<bool, AllocError> {
     Ok(tags && e.nils.iter().skip(e.count).all(|nil| !*nil))
 }
 
-fn show_expected(out: &mut String, e: &Expected) -> Result<(), AllocError> {
+fn show_expected(out: &mut Printer, e: &Expected) -> fmt::Result {
     let (number, place) = (e.number, e.place);
     write!(out, " | {number} at {place} |")?;
     let types = show_types(out, e)?;
@@ -42,11 +42,12 @@ fn show_expected(out: &mut String, e: &Expected) -> Result<(), AllocError> {
     writeln!(out, " |{close}{finish} | {rest}")
 }
 
-pub(crate) fn run(out: &mut String, case: &Case<'_>) -> Result<()> {
+pub(crate) fn run(out: &mut Printer, case: &Case<'_>) -> fmt::Result {
     let read = read_schema(case.first);
-    let (puts, events) = case.second.split_at(case.room.min(case.second.len()));
+    let (puts, events) = case
+        .second
+        .split_at(usize::from(case.room).min(case.second.len()));
     let schema = made_up(read.unwrap_or(Schema::NONE), puts);
     show_verdict(out, read.err())?;
-    show_expected(out, &expect_next(&schema, events))?;
-    Ok(())
+    show_expected(out, &expect_next(&schema, events))
 }

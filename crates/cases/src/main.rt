@@ -1,6 +1,6 @@
 // Runs the engine's calls on the cases of standard input and writes what they answer.
 //
-// What a case is stands at `case`, and what the strings of a kind are and what it writes at its module. A kind of 00 ends the cases.
+// What a case is stands at `case`, and what the strings of a kind are and what it writes at its module.
 #![tactic(auto)]
 
 mod buffer;
@@ -12,54 +12,59 @@ mod expected_files;
 mod items;
 mod jobs;
 mod made_up;
+mod printer;
 mod schema_files;
 mod schema_values;
 mod show;
 mod states;
 mod written_files;
 
-use crate::case::{Case, Cases, Kind};
-use anyhow::Result;
-use std::alloc::Global;
-use std::io::{Print, Read};
+use crate::buffer::fill;
+use crate::case::{Case, Kind, LONGEST, Stop, next_case};
+use crate::printer::Printer;
+use std::fmt;
+use std::fmt::Write;
+use std::io::Stdin;
 
-// What the call of this kind answers.
-fn answer(alloc: Global, case: &Case<'_>) -> Result<String> {
-    let mut out = String::new(alloc);
+// Writes what the call of this kind answers.
+fn answer(out: &mut Printer, case: &Case<'_>, lent: &mut [u8]) -> fmt::Result {
+    fill(lent);
     match case.kind {
-        Kind::SchemaFile => schema_files::run(&mut out, case)?,
-        Kind::WrittenFile => written_files::run(&mut out, case)?,
-        Kind::SchemaValue => schema_values::run(&mut out, case)?,
-        Kind::Calls => call_lists::run(&mut out, case)?,
-        Kind::EventFile => event_files::run(&mut out, case)?,
-        Kind::Job => jobs::run(&mut out, case)?,
-        Kind::ExpectedFile => expected_files::run(&mut out, case)?,
-        Kind::ExpectedJob => jobs::run_expected(&mut out, case)?,
-        Kind::Pair => states::run_pair(&mut out, case)?,
-        Kind::Set => states::run_set(&mut out, case)?,
+        Kind::SchemaFile => schema_files::run(out, case, lent),
+        Kind::WrittenFile => written_files::run(out, case, lent),
+        Kind::SchemaValue => schema_values::run(out, case, lent),
+        Kind::Calls => call_lists::run(out, case),
+        Kind::EventFile => event_files::run(out, case, lent),
+        Kind::Job => jobs::run(out, case),
+        Kind::ExpectedFile => expected_files::run(out, case),
+        Kind::ExpectedJob => jobs::run_expected(out, case),
+        Kind::Pair => states::run_pair(out, case),
+        Kind::Set => states::run_set(out, case),
     }
-    Ok(out)
 }
 
 // The most cases: what follows so many is not looked at.
-const CASES: usize = 0x2_0000;
+const CASES: u32 = 0x2_0000;
 
-fn main(rt: HostRuntime) -> Result<()> {
-    let mut input = Vec::new(rt.alloc());
-    rt.reader().read_to_end(&mut input)?;
-    let mut rest = input.as_slice();
-    let mut left = CASES;
-    for case in (Cases { rest }).take(CASES) {
-        rt.print(answer(rt.alloc(), &case)?.as_str())?;
-        rest = case.rest;
-        left = left.saturating_sub(1);
-    }
-    if left == 0 {
-        return Ok(());
-    }
-    match rest {
-        [0, _, _, _, _, _, _, ..] => rt.print("end\n")?,
-        _ => rt.print("no case\n")?,
+// Answers each case before it reads the next, and writes what ends them.
+fn run(stdin: &mut Stdin, out: &mut Printer) -> fmt::Result {
+    let mut first = [0; LONGEST];
+    let mut second = [0; LONGEST];
+    let mut lent = [0; LONGEST];
+    for _ in 0..CASES {
+        match next_case(stdin, &mut first, &mut second) {
+            Ok(case) => answer(out, &case, &mut lent[..usize::from(case.room)])?,
+            Err(Stop::End) => return writeln!(out, "end"),
+            Err(Stop::NoCase) => return writeln!(out, "no case"),
+        }
+        out.flush();
     }
     Ok(())
+}
+
+fn main(rt: HostRuntime) {
+    let mut out = Printer::new(rt.stdout());
+    // a printer never fails
+    let _ = run(&mut rt.stdin(), &mut out);
+    out.flush();
 }

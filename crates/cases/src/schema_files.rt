@@ -1,15 +1,15 @@
 // Kind S: the first string is a schema file, and the buffer takes the witness. The line has the answer; the schema value beside it, with its
 // counts, its roots, for each type its tag, states, accepting states and number of steps and `nil` if it is nillable, and each step, and `rest 0`
 // where every other entry is 0; and the buffer.
-use crate::buffer::{lend, show_witness};
+use crate::buffer::show_witness;
 use crate::case::Case;
+use crate::printer::Printer;
 use crate::show::show_verdict;
-use anyhow::Result;
 use competition::LEAST_WITNESS;
 use schema::{Schema, TYPES};
 use schema_file::read;
 use sdtd::Refusal;
-use std::alloc::AllocError;
+use std::fmt;
 use std::fmt::Write;
 
 // The schema file's answer, with a witness buffer of its own.
@@ -18,7 +18,7 @@ pub(crate) fn read_schema(file: &[u8]) -> Result<Schema, Refusal> {
 }
 
 // The roots, or the first entry where there is none; false where an entry past them is not 0, or there are types and no root or roots and no type.
-fn show_roots(out: &mut String, schema: &Schema) -> Result<bool, AllocError> {
+fn show_roots(out: &mut Printer, schema: &Schema) -> Result<bool, fmt::Error> {
     let roots = usize::from(schema.roots);
     for a in schema.root.iter().take(roots.max(1)) {
         write!(out, " {a}")?;
@@ -28,7 +28,7 @@ fn show_roots(out: &mut String, schema: &Schema) -> Result<bool, AllocError> {
 }
 
 // The entries of each type; false where one past the types is not 0.
-fn show_types(out: &mut String, schema: &Schema) -> Result<bool, AllocError> {
+fn show_types(out: &mut Printer, schema: &Schema) -> Result<bool, fmt::Error> {
     let mut rest = true;
     for a in 0..TYPES {
         let (tag, states, accepting) = (schema.tag[a], schema.states[a], schema.accepting[a]);
@@ -44,7 +44,7 @@ fn show_types(out: &mut String, schema: &Schema) -> Result<bool, AllocError> {
 }
 
 // The entries of each step; false where one past the steps is not 0.
-fn show_steps(out: &mut String, schema: &Schema) -> Result<bool, AllocError> {
+fn show_steps(out: &mut Printer, schema: &Schema) -> Result<bool, fmt::Error> {
     let count = schema
         .steps
         .iter()
@@ -61,7 +61,7 @@ fn show_steps(out: &mut String, schema: &Schema) -> Result<bool, AllocError> {
     Ok(rest)
 }
 
-fn show_schema(out: &mut String, schema: &Schema) -> Result<(), AllocError> {
+fn show_schema(out: &mut Printer, schema: &Schema) -> fmt::Result {
     let (tags, types) = (schema.tags, schema.types);
     write!(out, " | tags {tags} types {types} root")?;
     let roots = show_roots(out, schema)?;
@@ -75,13 +75,11 @@ fn show_schema(out: &mut String, schema: &Schema) -> Result<(), AllocError> {
     write!(out, "; rest {rest}")
 }
 
-pub(crate) fn run(out: &mut String, case: &Case<'_>) -> Result<()> {
-    let mut lent = lend(*out.allocator(), case.room)?;
-    let read = read(case.first, &mut lent);
+pub(crate) fn run(out: &mut Printer, case: &Case<'_>, lent: &mut [u8]) -> fmt::Result {
+    let read = read(case.first, lent);
     let refusal = read.err();
     show_verdict(out, refusal)?;
     show_schema(out, &read.unwrap_or(Schema::NONE))?;
-    show_witness(out, refusal.map(|refusal| refusal.why), &lent)?;
-    writeln!(out)?;
-    Ok(())
+    show_witness(out, refusal.map(|refusal| refusal.why), lent)?;
+    writeln!(out)
 }
