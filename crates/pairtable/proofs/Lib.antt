@@ -1,2 +1,3 @@
--- The lines of the table, whole.
+-- The lines of the table, one after another, and whole.
+pub mod LineLaws
 pub mod LineLengths

@@ -1,36 +1,60 @@
 // Prints the table of pair numbers as it stands in the code: one decimal number a line, "rising by first state, then second".
 #![tactic(auto)]
 
-ghost use Rattle.std.specs.Prelude.{◌≡◌, IfOk};
-ghost use Rattle.std.specs.String.{string_bytes};
+ghost use Rattle.std.specs.Prelude.{take};
 ghost use Rattle.pairs.specs.Table.{PairTable};
-ghost use Rattle.pairtable.specs.Lines.{lines_of, IsTableText};
+ghost use Rattle.text.specs.Laid.{Laid};
+ghost use Rattle.text.specs.Page.{Lays};
+ghost use Rattle.pairtable.specs.Lines.{line_of, lines_of, IsTableText, TextOf};
 
-use pairs::PAIR_NUMBERS;
-use std::alloc::{AllocError, Global};
-use std::fmt::Write;
+use pairs::{ORDERED_PAIRS, PAIR_NUMBERS};
 use std::io;
+use std::io::Print;
+use text::Page;
 
-// The lines of the numbers.
-fn lines(alloc: Global, numbers: &[u16]) -> Result<String, AllocError>
-    ensures { IfOk result (λ text. string_bytes text ≡ lines_of numbers.now) }
+// Of each number at most three digits, since it is below 528, and a line end.
+const OUTPUT: usize = 4 * ORDERED_PAIRS;
+
+// Lays the number's line.
+#[tactic(auto, using(text::proofs::PageLaws::laid_append))]
+fn lay_line(page: &mut Page<'_>, n: u16)
+    ensures { Lays page.old (line_of n) page.new }
 {
-    let mut text = String::new(alloc);
-    for n in numbers {
-        writeln!(text, "{n}")?;
-    }
-    Ok(text)
+    page.number(usize::from(n));
+    page.end_line();
 }
 
-// The lines of the table.
-fn table_text(alloc: Global, numbers: &[u16]) -> Result<String, AllocError>
-    requires { PairTable numbers.now }
-    ensures { IfOk result (λ text. IsTableText (string_bytes text)) }
+// Lays a line for each number.
+#[tactic(auto, using(crate::proofs::LineLaws::lines_next, crate::proofs::LineLaws::lines_end))]
+fn lay_lines(page: &mut Page<'_>, numbers: &[u16])
+    ensures { Lays page.old (lines_of numbers.now) page.new }
 {
-    lines(alloc, numbers)
+    for n in numbers {
+        lay_line(page, *n);
+    }
+}
+
+// Puts a line for each number, and gives the place after the last.
+#[tactic(auto, unfolding(text::specs::Page::laid))]
+fn put_lines(out: &mut [u8], numbers: &[u16]) -> usize
+    ensures { Laid out.old 0 (lines_of numbers.now) out.new result }
+{
+    let mut page = Page::new(out, 0);
+    lay_lines(&mut page, numbers);
+    page.held()
+}
+
+// Puts the lines of the table, and gives their length.
+fn table_text(out: &mut [u8; OUTPUT], numbers: &[u16]) -> usize
+    requires { PairTable numbers.now }
+    ensures lines { TextOf numbers.now out.new result }
+    ensures whole { IsTableText (take result out.new) }
+{
+    put_lines(out, numbers)
 }
 
 fn main(rt: HostRuntime) -> io::Result<()> {
-    let text = table_text(rt.alloc(), &PAIR_NUMBERS)?;
-    print!(rt; "{text}")
+    let mut out = [0; OUTPUT];
+    let n = table_text(&mut out, &PAIR_NUMBERS);
+    rt.write_all(&out[..n])
 }

@@ -2,5 +2,5 @@
 use Rattle.pairs.proofs.TableRule.{passes}
 use Rattle.pairtable.proofs.main.Goals as goal
 
-pub table_text-requires : goal.table_text-requires
-table_text-requires c = passes _ tt tt
+pub table_text-n-requires : goal.table_text-n-requires
+table_text-n-requires c = passes _ tt tt
