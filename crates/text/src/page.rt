@@ -14,7 +14,8 @@ pub struct Page<'a> {
     at: usize,
 }
 
-// Puts the bytes of a text from a place on, as far as they fit.
+// Puts the bytes of a text from a place on, as far as they fit. Laid in where it is called, so that a text of known length is stored and not copied.
+#[inline(always)]
 fn put_in(out: &mut [u8], at: usize, text: &[u8])
     ensures { out.new ≡ sets out.old at text.now }
 {
@@ -44,11 +45,17 @@ impl<'a> Page<'a> {
         self.at = self.at.saturating_add(text.len());
     }
 
-    // Lays a number's decimal digits.
+    // Lays a number's decimal digits. One digit, which most numbers have, is a byte: the library's digits are made elsewhere and copied.
+    #[tactic(auto, using(std::proofs::lemmas::Fmt::decimal_digit))]
     pub fn number(&mut self, n: usize)
         ensures { Lays self.old (decimal n) self.new }
     {
-        self.bytes(Buffer::new().format(n).as_bytes());
+        if n < 10 {
+            // below 10, so the cast cuts nothing
+            self.bytes(&[b'0' + n as u8]);
+        } else {
+            self.bytes(Buffer::new().format(n).as_bytes());
+        }
     }
 
     // Lays words, and a number after them.
