@@ -45,6 +45,7 @@ fn put_lines(out: &mut [u8], numbers: &[u16]) -> usize
 }
 
 // Puts the lines of the table, and gives their length.
+#[tactic(auto, using(crate::proofs::LineLengths::table_text))]
 fn table_text(out: &mut [u8; OUTPUT], numbers: &[u16]) -> usize
     requires { PairTable numbers.now }
     ensures lines { TextOf numbers.now out.new result }
